@@ -1,0 +1,11 @@
+pub mod Refusal
+pub mod Limits
+pub mod Stretch
+pub mod Threading
+pub mod Evidence
+pub mod Score
+pub mod Search
+pub mod Building
+pub mod Listing
+pub mod Origins
+pub mod Calls

@@ -1,0 +1,9 @@
+pub mod Lists
+pub mod ListLaws
+pub mod Numbers
+pub mod Insertion
+pub mod Records
+pub mod Rows
+pub mod FloatOrder
+pub mod FloatFacts
+pub mod FloatSums

@@ -1,0 +1,169 @@
+-- Laws of lists and of the functions of Lists: what holds of every element, membership, keeping, finding.
+use mathlib.Core.Path.{_≡_, refl, sym, ap, subst, _∙_}
+use Prim.Native.Nat.{ℕ}
+use native.Mathlib.Omega.{arith}
+use mathlib.Core.Bool.{Bool, true, false, _&&_, _||_, cond}
+use mathlib.Core.List.{List, [], _∷_, _++_, map}
+use mathlib.Core.Option.{Option, none, some}
+use lib.Dec.{T}
+use Rattle.laws.specs.Lists.{keep, find, findLast, sole}
+
+-- ---- Booleans
+
+pub clash : {A : Type 0} → true ≡ false → A
+clash e = absurd (subst T e tt)
+
+pub and-left : (a b : Bool) → (a && b) ≡ true → a ≡ true
+and-left true b e = refl
+and-left false b e = e
+
+pub and-right : (a b : Bool) → (a && b) ≡ true → b ≡ true
+and-right true b e = e
+and-right false b e = clash (sym e)
+
+pub or-none : (a b : Bool) → (a || b) ≡ false → (a ≡ false) × (b ≡ false)
+or-none true b e = clash e
+or-none false b e = (refl, e)
+
+-- ---- every element
+
+pub data All {A : Type 0} (P : A → Type 0) : List A → Type 0 where
+  nil : All P []
+  cons : {x : A} {xs : List A} → P x → All P xs → All P (x ∷ xs)
+
+-- the place of an element
+pub data Mem {A : Type 0} (a : A) : List A → Type 0 where
+  here : {x : A} {xs : List A} → a ≡ x → Mem a (x ∷ xs)
+  there : {x : A} {xs : List A} → Mem a xs → Mem a (x ∷ xs)
+
+module _ {A : Type 0} where
+  pub all-head : {P : A → Type 0} {x : A} {xs : List A} → All P (x ∷ xs) → P x
+  all-head (cons p ps) = p
+
+  pub all-tail : {P : A → Type 0} {x : A} {xs : List A} → All P (x ∷ xs) → All P xs
+  all-tail (cons p ps) = ps
+
+  pub all-append : {P : A → Type 0} {xs ys : List A} → All P xs → All P ys → All P (xs ++ ys)
+  all-append nil b = b
+  all-append (cons p a) b = cons p (all-append a b)
+
+  pub all-mono : {P Q : A → Type 0} {xs : List A} → ((x : A) → P x → Q x) → All P xs → All Q xs
+  all-mono h nil = nil
+  all-mono h (cons {x = x} p a) = cons (h x p) (all-mono h a)
+
+  pub all-zip : {P Q : A → Type 0} {xs : List A} → All P xs → All Q xs → All (λ x. P x × Q x) xs
+  all-zip nil b = nil
+  all-zip (cons p a) b = cons (p, all-head b) (all-zip a (all-tail b))
+
+  pub all-keep : {P : A → Type 0} (t : A → Bool) {xs : List A} → All P xs → All P (keep t xs)
+  all-keep t nil = nil
+  all-keep {P} t (cons {x = x} {xs = xs} p a) = go (t x) refl (all-keep t a)
+    where
+      go : (b : Bool) → t x ≡ b → All P (keep t xs) → All P (keep t (x ∷ xs))
+      go true e ih = rw e (cons p ih)
+      go false e ih = rw e ih
+
+  -- what is kept passes the test
+  pub all-passed : (t : A → Bool) (xs : List A) → All (λ x. t x ≡ true) (keep t xs)
+  all-passed t [] = nil
+  all-passed t (x ∷ xs) = go (t x) refl (all-passed t xs)
+    where
+      go : (b : Bool) → t x ≡ b → All (λ y. t y ≡ true) (keep t xs) → All (λ y. t y ≡ true) (keep t (x ∷ xs))
+      go true e ih = rw e (cons e ih)
+      go false e ih = rw e ih
+
+  pub all-mem : {P : A → Type 0} {xs : List A} {a : A} → All P xs → Mem a xs → P a
+  all-mem nil m = elim m [ ]
+  all-mem {P} {a = a} (cons {x = x} p ps) m = go m (λ k. all-mem ps k)
+    where
+      go : {xs : List A} → Mem a (x ∷ xs) → (Mem a xs → P a) → P a
+      go (here e) f = subst P (sym e) p
+      go (there k) f = f k
+
+  pub mem-left : {a : A} {xs : List A} (ys : List A) → Mem a xs → Mem a (xs ++ ys)
+  mem-left ys (here e) = here e
+  mem-left ys (there m) = there (mem-left ys m)
+
+  pub mem-right : {a : A} (xs : List A) {ys : List A} → Mem a ys → Mem a (xs ++ ys)
+  mem-right [] m = m
+  mem-right (x ∷ xs) m = there (mem-right xs m)
+
+  -- an element that passes is kept
+  pub mem-keep : (t : A → Bool) (a : A) {xs : List A} → Mem a xs → t a ≡ true → Mem a (keep t xs)
+  mem-keep t a (here {x = x} {xs = xs} w) e = let f : t x ≡ true = ap t (sym w) ∙ e in rw f (here w)
+  mem-keep t a (there {x = x} {xs = xs} m) e = go (t x) refl (mem-keep t a m e)
+    where
+      go : (b : Bool) → t x ≡ b → Mem a (keep t xs) → Mem a (keep t (x ∷ xs))
+      go true f ih = rw f (there ih)
+      go false f ih = rw f ih
+
+  -- every list holds its own elements
+  pub all-self : (xs : List A) → All (λ x. Mem x xs) xs
+  all-self [] = nil
+  all-self (x ∷ xs) = cons (here refl) (all-mono (λ y m. there m) (all-self xs))
+
+  pub all-from : {P : A → Type 0} (xs : List A) → ((x : A) → Mem x xs → P x) → All P xs
+  all-from xs h = all-mono h (all-self xs)
+
+  -- ---- finding
+
+  pub all-find : {P : A → Type 0} (t : A → Bool) {xs : List A} {a : A} → All P xs → find t xs ≡ some a → P a × (t a ≡ true)
+  all-find t {a = a} nil e = let z : _≡_ {A = ℕ} 0 1 = cc in absurd (omega arith)
+  all-find {P} t {a = a} (cons {x = x} {xs = xs} p ps) e = go (t x) refl (λ k. all-find t ps k)
+    where
+      go : (b : Bool) → t x ≡ b → (find t xs ≡ some a → P a × (t a ≡ true)) → P a × (t a ≡ true)
+      go true f ih = let g : some x ≡ some a = rw (f, find) at e in let same : x ≡ a = cc in (subst P same p, rw (← same) f)
+      go false f ih = ih (rw (f, find) at e)
+
+  pub all-findLast : {P : A → Type 0} (t : A → Bool) {xs : List A} {a : A} → All P xs → findLast t xs ≡ some a → P a × (t a ≡ true)
+  all-findLast t nil e = let z : _≡_ {A = ℕ} 0 1 = cc in absurd (omega arith)
+  all-findLast {P} t {a = a} (cons {x = x} {xs = xs} p ps) e = go (findLast t xs) refl (λ k. all-findLast t ps k)
+    where
+      last : (b : Bool) → t x ≡ b → cond b (some x) none ≡ some a → P a × (t a ≡ true)
+      last true f g = let same : x ≡ a = cc in (subst P same p, rw (← same) f)
+      last false f g = let z : _≡_ {A = ℕ} 0 1 = cc in absurd (omega arith)
+
+      go : (o : Option A) → findLast t xs ≡ o → (findLast t xs ≡ some a → P a × (t a ≡ true)) → P a × (t a ≡ true)
+      go none f ih = last (t x) refl (rw (f, findLast) at e)
+      go (some y) f ih = ih (f ∙ (rw (f, findLast) at e))
+
+  pub all-sole : {P : A → Type 0} {xs : List A} {a : A} → All P xs → sole xs ≡ some a → P a
+  all-sole nil e = let z : _≡_ {A = ℕ} 0 1 = cc in absurd (omega arith)
+  all-sole {P} {a = a} (cons {x = x} p nil) e = let same : x ≡ a = cc in subst P same p
+  all-sole (cons p (cons q qs)) e = let z : _≡_ {A = ℕ} 0 1 = cc in absurd (omega arith)
+
+module _ {A B : Type 0} where
+  pub all-map : {P : A → Type 0} {Q : B → Type 0} (f : A → B) {xs : List A} → ((x : A) → P x → Q (f x)) → All P xs → All Q (map f xs)
+  all-map f h nil = nil
+  all-map f h (cons {x = x} p a) = cons (h x p) (all-map f h a)
+
+  pub mem-map : {a : A} {xs : List A} (f : A → B) → Mem a xs → Mem (f a) (map f xs)
+  mem-map f (here e) = here (ap f e)
+  mem-map f (there m) = there (mem-map f m)
+
+  -- to keep by what f gives, before or after f
+  pub keep-map : (t : B → Bool) (f : A → B) (xs : List A) → keep t (map f xs) ≡ map f (keep (λ x. t (f x)) xs)
+  keep-map t f [] = refl
+  keep-map t f (x ∷ xs) = go (t (f x)) refl (keep-map t f xs)
+    where
+      go : (b : Bool) → t (f x) ≡ b → keep t (map f xs) ≡ map f (keep (λ y. t (f y)) xs) → keep t (map f (x ∷ xs)) ≡ map f (keep (λ y. t (f y)) (x ∷ xs))
+      go true e ih = rw e (ap (λ (l : List B). f x ∷ l) ih)
+      go false e ih = rw e ih
+
+module _ {A : Type 0} where
+  -- all pass: all are kept; none passes: none is kept
+  pub keep-all : (t : A → Bool) {xs : List A} → All (λ x. t x ≡ true) xs → keep t xs ≡ xs
+  keep-all t nil = refl
+  keep-all t (cons {x = x} e ps) = rw e (ap (λ (l : List A). x ∷ l) (keep-all t ps))
+
+  pub keep-none : (t : A → Bool) {xs : List A} → All (λ x. t x ≡ false) xs → keep t xs ≡ []
+  keep-none t nil = refl
+  keep-none t (cons e ps) = rw e (keep-none t ps)
+
+  pub keep-append : (t : A → Bool) (xs ys : List A) → keep t (xs ++ ys) ≡ keep t xs ++ keep t ys
+  keep-append t [] ys = refl
+  keep-append t (x ∷ xs) ys = go (t x) refl (keep-append t xs ys)
+    where
+      go : (b : Bool) → t x ≡ b → keep t (xs ++ ys) ≡ keep t xs ++ keep t ys → keep t (x ∷ (xs ++ ys)) ≡ keep t (x ∷ xs) ++ keep t ys
+      go true e ih = rw e (ap (λ (l : List A). x ∷ l) ih)
+      go false e ih = rw e ih

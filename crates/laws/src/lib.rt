@@ -1,0 +1,1 @@
+// Laws about lists, numbers and floats, for the crates above: specs/ only, no code.
