@@ -19,7 +19,7 @@ module _ {A : Type 0} where
   sorted before (x ∷ xs) = insert before x (sorted before xs)
 
 -- What is asked of an order: it goes one way only, and `not before` goes on through the elements that are `Fine`.
-pub record Ordering {A : Type 0} (before : A → A → Bool) (Fine : A → Type 0) : Type 0 where
+pub record StrictOrder {A : Type 0} (before : A → A → Bool) (Fine : A → Type 0) : Type 0 where
   pub flip : (x y : A) → before x y ≡ true → before y x ≡ false
   pub through : (x y z : A) → Fine x → Fine y → Fine z → before x y ≡ false → before y z ≡ false → before x z ≡ false
 
@@ -86,7 +86,7 @@ module _ {A : Type 0} (before : A → A → Bool) where
   Sorted [] = Unit {0}
   Sorted (x ∷ xs) = All (λ y. before y x ≡ false) xs × Sorted xs
 
-  module _ {Fine : A → Type 0} (O : Ordering before Fine) where
+  module _ {Fine : A → Type 0} (O : StrictOrder before Fine) where
     insert-sorted : (a : A) (xs : List A) → Fine a → All Fine xs → Sorted xs → Sorted (insert before a xs)
     unfolding insert
     insert-sorted a [] fa fs s = (nil, tt)

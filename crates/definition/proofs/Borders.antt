@@ -1,0 +1,92 @@
+-- Beside the paper's cases: refusals at their borders, and the places where 01 leaves a choice (docs/DECISIONS.md, by the number of the reading).
+use mathlib.Core.Path.{_≡_, refl}
+use Prim.Native.Nat.{ℕ}
+use mathlib.Core.List.{List, [], _∷_, map}
+use mathlib.Core.Bool.{true, false}
+use lib.IntN.{pos, negsuc}
+use lib.Ieee.{fin, nan}
+use Rattle.definition.specs.Limits.{Input, floatZero}
+use Rattle.definition.proofs.Examples.{A, C, G, T, seqR, seqA, one, minusOne, column, room, allowance, sample, ask, asking, recovering, within, over, listing, longest, origin, no, paths, numbers, reply, Case, asks, path}
+
+abbrev acgta : List ℕ
+acgta = A ∷ C ∷ G ∷ T ∷ A ∷ []
+
+abbrev case1 : Input
+case1 = ask (sample 3 acgta []) 3
+
+abbrev case5 : Input
+case5 = ask (sample 3 seqR (seqA ∷ [])) 2
+
+abbrev case6 : Input
+case6 = ask (sample 3 seqR (seqA ∷ seqR ∷ [])) 5
+
+-- AAA with the read AA, k 2: the vertex AA forks into itself and the symbolic vertex, and the repeat rule drops the first
+abbrev ring : Input
+ring = ask (sample 2 (A ∷ A ∷ A ∷ []) ((A ∷ A ∷ []) ∷ [])) 1
+
+pub table : List Case
+table =
+    -- Reading 1: 3 kmers and the symbolic vertex, 2 edges and the symbolic edge; 8 is met one below
+    asks (listing (within (room 4 3 1) (allowance 3 1 128) case1)) (paths (path floatZero 1 2 acgta ∷ []) 2)
+    ∷ asks (listing (within (room 3 3 1) (allowance 3 1 128) case1)) (no 8)
+    ∷ asks (listing (within (room 4 2 1) (allowance 3 1 128) case1)) (no 8)
+    -- the five tree nodes of case 5; 9 is met one below, and 8 comes before 9
+    ∷ asks (listing (within (room 9 9 5) (allowance 5 2 128) case5)) (paths (path floatZero 1 4 seqA ∷ []) 4)
+    ∷ asks (listing (within (room 9 9 4) (allowance 5 2 128) case5)) (no 9)
+    ∷ asks (listing (within (room 8 9 4) (allowance 5 2 128) case5)) (no 8)
+    -- Reading 2: 10 is met where a penalty is computed. TTTG, column of two places: no extension uses the total, the list is empty
+    ∷ asks (listing (over (floatZero ∷ floatZero ∷ []) (ask (sample 2 (T ∷ T ∷ T ∷ G ∷ []) []) 3))) (paths [] 1)
+    -- the total 4 of case 6 has no place in a column of four places
+    ∷ asks (listing (over (floatZero ∷ floatZero ∷ one ∷ fin false 3 (negsuc 0) ∷ []) case6)) (no 10)
+    -- an extension that the repeat rule then drops meets 10 too
+    ∷ asks (listing (over (floatZero ∷ floatZero ∷ []) ring)) (no 10)
+    ∷ asks (listing ring) (paths (path floatZero 1 0 (A ∷ A ∷ []) ∷ []) 1)
+    -- Reading 3: such an extension meets 11 too; so does the symbolic edge of case 1, whose path has 3 edges with it
+    ∷ asks (listing (within (room 128 256 256) (allowance 1 8 128) (ask (sample 2 (A ∷ C ∷ C ∷ C ∷ C ∷ []) []) 3))) (no 11)
+    ∷ asks (listing (within (room 4 3 1) (allowance 2 1 128) case1)) (no 11)
+    -- Reading 4: 11 is met when a tree joins, though the next edge would drop it
+    ∷ asks (listing (within (room 128 256 256) (allowance 128 1 128) (ask (sample 2 (T ∷ C ∷ G ∷ []) ((T ∷ C ∷ C ∷ G ∷ []) ∷ [])) 8))) (no 11)
+    ∷ asks (listing (within (room 9 9 5) (allowance 5 1 128) case5)) (no 11)
+    -- Reading 6: the path that makes the last closing is still extended, and its push counts
+    ∷ asks (listing (asking 1 case1)) (paths (path floatZero 1 2 acgta ∷ []) 2)
+    ∷ asks (listing (asking 1 (within (room 128 256 256) (allowance 128 8 1) case1))) (no 12)
+    -- 12 exactly beyond the maximum: case 6 has 7 pushes
+    ∷ asks (listing (within (room 128 256 256) (allowance 128 8 7) case6)) (paths (path minusOne 2 4 seqA ∷ path minusOne 1 4 seqR ∷ []) 7)
+    ∷ asks (listing (within (room 128 256 256) (allowance 128 8 6) case6)) (no 12)
+    -- fewer paths asked: the first closing alone, not the first row
+    ∷ asks (listing (asking 1 case6)) (paths (path minusOne 1 4 seqR ∷ []) 6)
+    -- Reading 7: with no path asked 8 and 9 still apply, and 12 does not
+    ∷ asks (listing (asking 0 (within (room 3 3 1) (allowance 3 1 128) case1))) (no 8)
+    ∷ asks (listing (asking 0 (within (room 9 9 4) (allowance 5 2 128) case5))) (no 9)
+    ∷ asks (listing (asking 0 (within (room 128 256 256) (allowance 128 8 1) case6))) (paths [] 0)
+    -- Reading 8: place 0 may be anything, and place 1 may be -0
+    ∷ asks (listing (over (nan ∷ fin true 0 (pos 0) ∷ []) case1)) (paths (path floatZero 1 2 acgta ∷ []) 2)
+    ∷ asks (listing (over (floatZero ∷ []) case1)) (no 6)
+    ∷ asks (listing (over (floatZero ∷ floatZero ∷ nan ∷ []) case1)) (no 6)
+    ∷ asks (listing (over (column (fin true 1 (pos 0))) case1)) (no 6)
+    -- limits at their borders
+    ∷ asks (listing (asking 129 case1)) (no 5)
+    ∷ asks (listing (within (room 1 3 1) (allowance 3 1 128) case1)) (no 5)
+    ∷ asks (listing (within (room 4 3 1) (allowance 3 65 128) case1)) (no 5)
+    ∷ asks (listing (ask (sample 3 (A ∷ C ∷ 88 ∷ T ∷ []) []) 3)) (no 3)
+    -- Reading 10: the symbolic edge's origin answers 13; so does a read that is not there, and a place whose k + 1 bytes do not fit
+    ∷ asks (origin 0 4 case5) (no 13)
+    ∷ asks (origin 2 0 case5) (no 13)
+    ∷ asks (origin 1 4 case5) (no 13)
+    ∷ asks (origin 1 3 case5) (numbers (G ∷ T ∷ G ∷ G ∷ []))
+    ∷ asks (origin 0 0 case5) (numbers (C ∷ A ∷ A ∷ C ∷ []))
+    -- Reading 11: an empty read counts in the read numbers
+    ∷ asks (origin 2 0 (ask (sample 3 seqR ([] ∷ seqA ∷ [])) 2)) (numbers (C ∷ A ∷ A ∷ G ∷ []))
+    -- Reading 12: a tree without a branch ends a chain but never joins
+    ∷ asks (listing (ask (sample 3 (C ∷ A ∷ A ∷ C ∷ T ∷ G ∷ G ∷ A ∷ []) (seqA ∷ [])) 2)) (paths (path floatZero 1 5 (C ∷ A ∷ A ∷ G ∷ T ∷ G ∷ G ∷ A ∷ []) ∷ []) 4)
+    -- Reading 13: source and sink may be one vertex
+    ∷ asks (listing (ask (sample 3 (A ∷ A ∷ A ∷ A ∷ []) []) 3)) (paths (path floatZero 1 0 (A ∷ A ∷ A ∷ []) ∷ []) 1)
+    -- Reading 19, "Numbers that slid": ACA with the reads AA and ACCA, threshold 1
+    ∷ asks (listing (ask (sample 2 (A ∷ C ∷ A ∷ []) ((A ∷ A ∷ []) ∷ (A ∷ C ∷ C ∷ A ∷ []) ∷ [])) 1)) (paths (path floatZero 1 2 (A ∷ C ∷ C ∷ A ∷ []) ∷ []) 4)
+    -- the waiting list of case 6 is never longer than 2
+    ∷ asks (longest case6) (numbers (2 ∷ []))
+    ∷ []
+
+pub borders : map (λ (c : Case). reply (c .question)) table ≡ map (λ (c : Case). c .expected) table
+unfolding table reply
+borders = refl
