@@ -4,7 +4,7 @@ use Prim.Native.Nat.{ℕ}
 use mathlib.Core.List.{List, [], _∷_, map}
 use mathlib.Core.Bool.{true, false}
 use lib.IntN.{pos, negsuc}
-use lib.Ieee.{fin, nan}
+use lib.Ieee.{Float, fin, nan}
 use Rattle.definition.specs.Limits.{Input, floatZero}
 use Rattle.definition.proofs.Examples.{A, C, G, T, seqR, seqA, one, minusOne, column, room, allowance, sample, ask, asking, recovering, within, over, listing, longest, origin, no, paths, numbers, reply, Case, asks, path}
 
@@ -23,6 +23,15 @@ case6 = ask (sample 3 seqR (seqA ∷ seqR ∷ [])) 5
 -- AAA with the read AA, k 2: the vertex AA forks into itself and the symbolic vertex, and the repeat rule drops the first
 abbrev ring : Input
 ring = ask (sample 2 (A ∷ A ∷ A ∷ []) ((A ∷ A ∷ []) ∷ [])) 1
+
+-- the reference GCAACTGG with two reads of the other branch and one of its own; the column goes on 0, 0, 1, 1.5, 2, 2.25, 2.5
+abbrev split : Input
+split =
+    over (floatZero ∷ floatZero ∷ one ∷ fin false 3 (negsuc 0) ∷ fin false 1 (pos 1) ∷ fin false 9 (negsuc 1) ∷ fin false 5 (negsuc 0) ∷ [])
+    (ask (sample 3 (G ∷ seqR) ((G ∷ seqA) ∷ (G ∷ seqA) ∷ (G ∷ seqR) ∷ [])) 4)
+
+abbrev minusHalf : Float
+minusHalf = fin true 1 (negsuc 0)
 
 pub table : List Case
 table =
@@ -83,6 +92,9 @@ table =
     ∷ asks (listing (ask (sample 3 (A ∷ A ∷ A ∷ A ∷ []) []) 3)) (paths (path floatZero 1 0 (A ∷ A ∷ A ∷ []) ∷ []) 1)
     -- Reading 19, "Numbers that slid": ACA with the reads AA and ACCA, threshold 1
     ∷ asks (listing (ask (sample 2 (A ∷ C ∷ A ∷ []) ((A ∷ A ∷ []) ∷ (A ∷ C ∷ C ∷ A ∷ []) ∷ [])) 1)) (paths (path floatZero 1 2 (A ∷ C ∷ C ∷ A ∷ []) ∷ []) 4)
+    -- A recovered path keeps the whole score of the path it was split from, -0.5, and closes after it: of CAA's branches AAG has count 4 and AAC 2
+    ∷ asks (listing (recovering split)) (paths (path minusHalf 1 5 (G ∷ seqA) ∷ path minusHalf 2 5 (G ∷ seqR) ∷ []) 7)
+    ∷ asks (listing split) (paths (path minusHalf 1 5 (G ∷ seqA) ∷ []) 4)
     -- the waiting list of case 6 is never longer than 2
     ∷ asks (longest case6) (numbers (2 ∷ []))
     ∷ []

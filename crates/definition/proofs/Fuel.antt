@@ -1,20 +1,27 @@
--- (D) Fuel: the chain of single edges and the pivotal edges have steps enough; more give the same. (The search's turns: Turns and Accepted.)
+-- No answer of the definition rests on fuel: the chain of single edges and the pivotal edges have steps enough, and so has the search turns.
 use mathlib.Core.Path.{_≡_, refl, sym, ap, _∙_}
-use Prim.Native.Nat.{ℕ, zero, suc, _+_, _≤_, compare, Ordering, Ordering·lt, Ordering·eq, Ordering·gt}
+use Prim.Native.Nat.{ℕ, zero, suc, _+_, _≤_}
 use native.Mathlib.Omega.{arith}
 use native.Mathlib.Nat.{zero-add, suc-add}
 use mathlib.Core.Bool.{Bool, true, false, not, _&&_, _||_, cond}
 use mathlib.Core.List.{List, [], _∷_, _++_, map}
 use mathlib.Core.Option.{Option, none, some}
+use lib.Ieee.{Float}
 use lib.Dec.{eqb}
 use lib.ListN.{length, length-append}
 use Rattle.laws.specs.Lists.{keep, dropFirst, tally}
-use Rattle.laws.specs.Numbers.{then}
 use Rattle.laws.specs.ListLaws.{clash, or-none, All, nil, cons, Mem, here, there, all-head, all-tail, all-append, all-mono, all-zip, all-self, mem-map, mem-keep}
 use Rattle.laws.specs.Insertion.{length-insert}
-use Rattle.definition.specs.Threading.{Ends, eqEnds, compareEnds, Edge, leaving}
-use Rattle.definition.specs.Search.{SearchInput, among, onward, chainFrom, chain, Queued, earlier, enqueue, enqueueAll, endsOf, pivotalOf, pivotalFrom, pivotalEdges}
+use Rattle.definition.specs.Threading.{Ends, eqEnds, Edge, leaving}
+use Rattle.definition.specs.Search.{SearchInput, among, onward, chainFrom, chain, Queued, earlier, enqueue, enqueueAll, endsOf, pivotalOf, pivotalFrom, pivotalEdges, State, more, search}
+use Rattle.definition.specs.Score.{columnScoring}
+use Rattle.definition.specs.Limits.{Input}
+use Rattle.definition.specs.Building.{Built}
+use Rattle.definition.specs.Listing.{searchInput}
 use Rattle.definition.proofs.Walks.{eqEnds-true, eqEnds-self, Has, onward-on}
+use Rattle.definition.proofs.Turns.{search-enough}
+use Rattle.definition.proofs.Column.{column-keeps}
+use Rattle.definition.proofs.Checks.{Checked, some-pushes}
 
 -- ---- different edges of a table are no more than the table has
 
@@ -246,3 +253,11 @@ pivotal-enough f (suc m) =
     let b = tally-within (λ (e : Edge). not (among (e .ends) [])) (f .edges) in
     rw suc-add
     (pivotal-one-more (f .edges) (m + (length first + length (f .edges))) (enqueueAll 0 first []) [] (omega (arith, a, b)) ∙ pivotal-enough f m)
+
+-- ---- the search
+
+-- The search of an input that passed its checks has turns enough: it never stops with more to do.
+pub turns-enough : (i : Input) (b : Built) (s : State Float) → Checked i
+    → search (columnScoring (i .column)) (searchInput i b) (i .asked) (i .searchMaxima .pushes) (i .recovery) ≡ more s → ⊥
+turns-enough i b s c t =
+    search-enough (column-keeps (i .column) (c .column-fits)) (searchInput i b) (i .searchMaxima .pushes) (i .asked) (i .recovery) s (some-pushes i c) t

@@ -13,8 +13,10 @@ pub mod Found
 pub mod Origins
 pub mod Bounds
 pub mod Allowance
+pub mod Checks
 pub mod Demand
 pub mod Visits
 pub mod Examples
 pub mod Cases
 pub mod Borders
+pub mod Maximal

@@ -1,27 +1,29 @@
 -- (C) Paths spell their origins: a row's bases begin and end as the reference does, and each edge's k + 1 bases are the bytes at its origin.
 use mathlib.Core.Path.{_≡_, refl, sym, ap, _∙_}
 use mathlib.Core.Logic.{_⊎_, inl, inr}
-use Prim.Native.Nat.{ℕ, zero, suc, _+_, _-_, _≤_, _<_}
+use Prim.Native.Nat.{ℕ, zero, suc, _+_, _-_, _≤_, _<_, min}
 use native.Mathlib.Omega.{arith}
 use mathlib.Core.Bool.{Bool, true, false, _&&_}
 use mathlib.Core.List.{List, [], _∷_, _++_, map, append-nil, append-assoc}
 use mathlib.Core.Option.{Option, none, some}
 use lib.Dec.{leb}
-use lib.ListN.{length, take, drop, getD, length-append, length-map}
+use lib.ListN.{length, take, drop, getD, length-append, length-map, length-take, length-drop}
 use lib.Seq.{drop-drop, length-take-le, take-at, take-take}
-use borrow.Author.Tests.{le-leb}
+use borrow.Author.Tests.{le-leb, leb-true}
 use Rattle.laws.specs.Lists.{find, lastOr}
-use Rattle.laws.specs.ListLaws.{clash, All, nil, cons, Mem, here, there, all-head, all-tail, all-mono, all-map, all-mem, all-find}
+use Rattle.laws.specs.ListLaws.{clash, and-left, and-right, All, nil, cons, Mem, here, there, all-head, all-tail, all-mono, all-map, all-mem, all-find}
 use Rattle.definition.specs.Refusal.{ok}
 use Rattle.definition.specs.Score.{Scoring}
-use Rattle.definition.specs.Limits.{Sample, GraphMaxima, Input}
+use Rattle.definition.specs.Limits.{Sample, GraphMaxima, Input, isBase}
 use Rattle.definition.specs.Stretch.{Stretch, usable, kmers, stretches}
 use Rattle.definition.specs.Threading.{Ends, eqEnds, Origin, Edge, Graph, lastBase, merge, threaded, sinkOf, symbolicOf, withSymbolic}
 use Rattle.definition.specs.Evidence.{nodes, evidence}
 use Rattle.definition.specs.Search.{Closed, endFrom}
 use Rattle.definition.specs.Building.{Built, builtOf, built}
 use Rattle.definition.specs.Listing.{searchInput, Row, pathBases, originAt, rowOf}
-use Rattle.definition.specs.Origins.{sequenceIn, bytesIn, bytesAt}
+use Rattle.definition.specs.Origins.{readAt, sequenceIn, bytesIn, bytesAt}
+use Rattle.definition.specs.Promises.{UsableAt, InOneStretch, InReference}
+use Rattle.definition.proofs.Maximal.{Maximal}
 use Rattle.definition.proofs.Order.{Keeps}
 use Rattle.definition.proofs.Walks.{eqEnds-true, eqEnds-self, refused-ok, Has, Linked, GoodClosed}
 use Rattle.definition.proofs.Kmers.{kmers-last, number-in, number-is}
@@ -43,34 +45,96 @@ part-of : (m off at : ℕ) (read bytes : List ℕ) → take (length bytes) (drop
 part-of m off at read bytes e h =
     ap (take m) (sym (drop-drop off at read)) ∙ sym (part-part m (length bytes) off (drop at read) h) ∙ ap (λ (l : List ℕ). take m (drop off l)) e
 
--- An origin lies in the reference, or inside one usable stretch of the read that it names.
-pub record InStretch (i : Sample) (o : Origin) : Type 0 where
-  pub run : Stretch
-  pub is-one : Mem run (stretches i)
-  pub names : o .sequence ≡ run .sequence
-  pub after : run .place ≤ o .place
-  pub before : o .place + suc (i .k) ≤ run .place + length (run .bytes)
-
+-- "in the reference or inside one usable stretch of the read named"
 abbrev pub Lies : Sample → Origin → Type 0
-Lies i o = (o .sequence ≡ 0) ⊎ InStretch i o
+Lies i o = InReference i o ⊎ InOneStretch i o
+
+-- each byte has a quality
+abbrev Even : Sample → Type 0
+Even i = length (i .qualities) ≡ length (i .bases)
 
 bytes-found : (i : Sample) (o : Origin) (bs : List ℕ) → sequenceIn (i .reference) (i .ends) (i .bases) (o .sequence) ≡ some bs → o .place + suc (i .k) ≤ length bs
     → bytesAt i o ≡ ok (take (suc (i .k)) (drop (o .place) bs))
 unfolding bytesIn
 bytes-found i o bs e h = rw (e, bytesIn, le-leb (o .place + suc (i .k)) (length bs) h)
 
+-- a read has as many qualities as bytes
+read-even : (n start : ℕ) (ends bs qs : List ℕ) {read quality : List ℕ} → length qs ≡ length bs → readAt n start ends bs ≡ some read → readAt n start ends qs ≡ some quality
+    → length quality ≡ length read
+unfolding readAt
+read-even n start [] bs qs l e f = let z : _≡_ {A = ℕ} 0 1 = cc in absurd (omega arith)
+read-even zero start (x ∷ xs) bs qs {read} {quality} l e f =
+    let r : take (x - start) bs ≡ read = cc in
+    let q : take (x - start) qs ≡ quality = cc in
+    ap length (sym q) ∙ length-take (x - start) qs ∙ ap (λ (n : ℕ). min (x - start) n) l ∙ sym (length-take (x - start) bs) ∙ ap length r
+read-even (suc n) start (x ∷ xs) bs qs l e f = read-even n x xs (drop (x - start) bs) (drop (x - start) qs) (length-drop (x - start) qs ∙ ap (λ (m : ℕ). m - (x - start)) l ∙ sym (length-drop (x - start) bs)) e f
+
+-- what the rule for a usable byte says
+usable-at : (i : Sample) (read quality : List ℕ) (p : ℕ) → usable (i .quality) (getD read p 0) (getD quality p 0) ≡ true → UsableAt i read quality p
+unfolding usable
+usable-at i read quality p e =
+    let b : isBase (getD read p 0) ≡ true = and-left (isBase (getD read p 0)) (leb (i .quality) (getD quality p 0)) e in
+    (b, leb-true (i .quality) (getD quality p 0) (and-right (isBase (getD read p 0)) (leb (i .quality) (getD quality p 0)) e))
+
+unusable-at : (i : Sample) (read quality : List ℕ) (p : ℕ) → usable (i .quality) (getD read p 0) (getD quality p 0) ≡ false → UsableAt i read quality p → ⊥
+unfolding usable
+unusable-at i read quality p e u = clash ((rw (u .0, le-leb (i .quality) (getD quality p 0) (u .1)) at e))
+
+-- a place inside a stretch lies inside one usable stretch of the read named
+in-stretch : (i : Sample) (o : Origin) (r : Stretch) → Even i → InRead (usable (i .quality)) 1 0 (i .ends) (i .bases) (i .qualities) r → o .sequence ≡ r .sequence
+    → r .place ≤ o .place → o .place + suc (i .k) ≤ r .place + length (r .bytes) → InOneStretch i o
+in-stretch i o r even a s low high =
+    let w = a .inside in
+    let q : r .place ≡ 0 + w .off = w .place in
+    let n : 1 + a .number ≡ suc (a .number) = omega arith in
+    record {
+      number = a .number;
+      named = s ∙ a .sequence ∙ n;
+      read = a .read;
+      qualities = a .quality;
+      is-read = a .is;
+      is-qualities = a .qualities;
+      first = r .place;
+      past = r .place + length (r .bytes);
+      in-read = (let f : w .off + length (r .bytes) ≤ length (a .read) = w .fits in omega arith);
+      usable = each;
+      starts = starts (m .starts);
+      stops = stops (m .stops (r .place + length (r .bytes)) (omega arith));
+      from = low;
+      upto = high;
+    }
+  where
+    m : Maximal (usable (i .quality)) 0 (a .read) (a .quality) r
+    m = a .maximal (read-even (a .number) 0 (i .ends) (i .bases) (i .qualities) even (a .is) (a .qualities))
+
+    each : (p : ℕ) → r .place ≤ p → p < r .place + length (r .bytes) → UsableAt i (a .read) (a .quality) p
+    each p l h =
+        let q : r .place ≡ 0 + a .inside .off = a .inside .place in
+        let e : a .inside .off + (p - a .inside .off) ≡ p = omega arith in
+        usable-at i (a .read) (a .quality) p (rw e at (a .inside .passes (p - a .inside .off) (omega arith)))
+
+    starts : (r .place ≡ 0) ⊎ ((p : ℕ) × (r .place ≡ 0 + suc p) × (usable (i .quality) (getD (a .read) p 0) (getD (a .quality) p 0) ≡ false))
+        → (r .place ≡ 0) ⊎ ((p : ℕ) × (r .place ≡ suc p) × (UsableAt i (a .read) (a .quality) p → ⊥))
+    starts (inl e) = inl e
+    starts (inr (p, e, f)) = inr (p, omega arith, unusable-at i (a .read) (a .quality) p f)
+
+    stops : (r .place + length (r .bytes) ≡ length (a .read)) ⊎ (usable (i .quality) (getD (a .read) (r .place + length (r .bytes)) 0) (getD (a .quality) (r .place + length (r .bytes)) 0) ≡ false)
+        → (r .place + length (r .bytes) ≡ length (a .read)) ⊎ (UsableAt i (a .read) (a .quality) (r .place + length (r .bytes)) → ⊥)
+    stops (inl e) = inl e
+    stops (inr f) = inr (unusable-at i (a .read) (a .quality) (r .place + length (r .bytes)) f)
+
 -- the bytes at the origin of a spelling edge are those of its run
-run-bytes : (i : Sample) (o : Origin) (r : Stretch) (off : ℕ) → RunOf i r → off + suc (i .k) ≤ length (r .bytes) → o .sequence ≡ r .sequence → o .place ≡ r .place + off
+run-bytes : (i : Sample) (o : Origin) (r : Stretch) (off : ℕ) → Even i → RunOf i r → off + suc (i .k) ≤ length (r .bytes) → o .sequence ≡ r .sequence → o .place ≡ r .place + off
     → (bytesAt i o ≡ ok (take (suc (i .k)) (drop off (r .bytes)))) × Lies i o
 unfolding sequenceIn
-run-bytes i o r off (inl e) h s p =
+run-bytes i o r off even (inl e) h s p =
     let s0 : o .sequence ≡ 0 = s ∙ ap (λ (x : Stretch). x .sequence) e in
     let p0 : r .place ≡ 0 = ap (λ (x : Stretch). x .place) e in
     let q : o .place ≡ off = omega arith in
     let b : r .bytes ≡ i .reference = ap (λ (x : Stretch). x .bytes) e in
     let h′ : off + suc (i .k) ≤ length (i .reference) = rw b at h in
-    (rw (b, ← q) (bytes-found i o (i .reference) (rw s0) (omega arith)), inl s0)
-run-bytes i o r off (inr m) h s p =
+    (rw (b, ← q) (bytes-found i o (i .reference) (rw s0) (omega arith)), inl (record { named = s0; upto = omega arith }))
+run-bytes i o r off even (inr m) h s p =
     let a : InRead (usable (i .quality)) 1 0 (i .ends) (i .bases) (i .qualities) r = all-mem (stretches-inside i) m in
     let w = a .inside in
     let n : o .sequence ≡ suc (a .number) = (let z : 1 + a .number ≡ suc (a .number) = omega arith in s ∙ a .sequence ∙ z) in
@@ -80,12 +144,12 @@ run-bytes i o r off (inr m) h s p =
       bytes-found i o (a .read) (rw n (a .is)) (omega arith)
           ∙ ap (λ (x : ℕ). ok (take (suc (i .k)) (drop x (a .read)))) q
           ∙ ap ok (part-of (suc (i .k)) off (w .off) (a .read) (r .bytes) (w .bytes) h),
-      inr (record { run = r; is-one = m; names = s; after = omega arith; before = omega arith }),
+      inr (in-stretch i o r even a s (omega arith) (omega arith)),
     )
 
 -- ---- a path of spelling edges
 
-module _ (i : Sample) (ks : List (List ℕ)) (es : List Edge) (1≤k : 1 ≤ i .k) where
+module _ (i : Sample) (ks : List (List ℕ)) (es : List Edge) (1≤k : 1 ≤ i .k) (even : Even i) where
   -- linked edges from v, each of which spells
   abbrev Spelt : ℕ → List Ends → Type 0
   Spelt v [] = Unit {0}
@@ -121,7 +185,7 @@ module _ (i : Sample) (ks : List (List ℕ)) (es : List Edge) (1≤k : 1 ≤ i .
       → (bytesAt i o ≡ ok (take (suc (i .k)) (basesFrom v (d ∷ ds)))) × Lies i o
   first-bytes v d ds o s e =
       let w = open-edge d o s in
-      let q = run-bytes i o (s .run) (s .off) (s .source) (s .fits) (s .sequence) (s .place) in
+      let q = run-bytes i o (s .run) (s .off) even (s .source) (s .fits) (s .sequence) (s .place) in
       let a : take (suc (i .k)) (drop (s .off) (s .run .bytes)) ≡ w .first ∷ getD ks (d .to) [] = ap (take (suc (i .k))) (w .whole) ∙ ap (λ (l : List ℕ). w .first ∷ l) (sym (w .right)) in
       let b : take (i .k) (basesFrom (d .to) ds) ≡ getD ks (d .to) [] = take-at (getD ks (d .to) []) _ (i .k) (to-length d o s) in
       let c : take (suc (i .k)) (basesFrom v (d ∷ ds)) ≡ w .first ∷ getD ks (d .to) [] =
@@ -202,15 +266,14 @@ edge-spells i g d s m h = go (find (λ (x : Edge). eqEnds d (x .ends)) (withSymb
     go none u = absurd (find-has (withSymbolic i g) d m u)
     go (some x) u = let q = all-find _ (table-known i g s) u in rw (u, originAt) (known x (q .0) (q .1))
 
-spelt-path : (i : Sample) (g : Graph) (p : 1 ≤ i .k) (v : ℕ) (ds : List Ends) → Sound i g → Linked (withSymbolic i g) v ds → All (λ d. d .to < length (g .kmers)) ds
-    → Spelt i (g .kmers) (withSymbolic i g) p v ds
-spelt-path i g p v [] s l a = tt
-spelt-path i g p v (d ∷ ds) s l a = (edge-spells i g d s (l .0) (all-head a), l .1, spelt-path i g p (d .to) ds s (l .2) (all-tail a))
+spelt-path : (i : Sample) (g : Graph) (p : 1 ≤ i .k) (even : Even i) (v : ℕ) (ds : List Ends) → Sound i g → Linked (withSymbolic i g) v ds → All (λ d. d .to < length (g .kmers)) ds
+    → Spelt i (g .kmers) (withSymbolic i g) p even v ds
+spelt-path i g p even v [] s l a = tt
+spelt-path i g p even v (d ∷ ds) s l a = (edge-spells i g d s (l .0) (all-head a), l .1, spelt-path i g p even (d .to) ds s (l .2) (all-tail a))
 
 -- ---- rows
 
--- What a row says, for an input: its bases begin with the reference's first k and end with its last k; each edge spells the k + 1 bytes at its origin,
--- and that origin lies in the reference or inside one usable stretch of the read named.
+-- what Promises.Spelled says of a row, before the origin call's own checks
 pub record SpelledRow {S : Type 0} (i : Sample) (r : Row S) : Type 0 where
   pub bases-length : length (r .bases) ≡ i .k + r .edges
   pub origins-length : length (r .origins) ≡ r .edges
@@ -220,22 +283,22 @@ pub record SpelledRow {S : Type 0} (i : Sample) (r : Row S) : Type 0 where
   pub lies : (o₀ : Origin) (j : ℕ) → j < r .edges → Lies i (getD (r .origins) j o₀)
 
 row-spelled : {S : Type 0} (Fine : S → Type 0) (x : Input) (g : Graph) (b : Built) (c : Closed S) → 1 ≤ x .sample .k → x .sample .k ≤ length (x .sample .reference)
-    → Sound (x .sample) g → b .graph ≡ g → b .edges ≡ withSymbolic (x .sample) g → GoodClosed Fine (searchInput x b) c → SpelledRow (x .sample) (rowOf b c)
+    → Even (x .sample) → Sound (x .sample) g → b .graph ≡ g → b .edges ≡ withSymbolic (x .sample) g → GoodClosed Fine (searchInput x b) c → SpelledRow (x .sample) (rowOf b c)
 unfolding rowOf pathBases searchInput
-row-spelled Fine x g b c p h s eg ee gc =
+row-spelled Fine x g b c p h even s eg ee gc =
     let i = x .sample in
     let l : Linked (withSymbolic i g) 0 (c .edges) = rw ee at (gc .linked) in
     let z : endFrom 0 (c .edges) ≡ sinkOf i g = rw eg at (gc .atSink) in
     let n : length (getD (g .kmers) 0 []) ≡ i .k = ap length (s .source-is) ∙ length-take-le (i .k) (i .reference) h in
-    let q : Spelt i (g .kmers) (withSymbolic i g) p 0 (c .edges) = spelt-path i g p 0 (c .edges) s l (enters-in i g 0 (c .edges) s l (rw z (sink-in i g s))) in
+    let q : Spelt i (g .kmers) (withSymbolic i g) p even 0 (c .edges) = spelt-path i g p even 0 (c .edges) s l (enters-in i g 0 (c .edges) s l (rw z (sink-in i g s))) in
     rw (eg, ee)
     (record {
       bases-length = rw (length-append, n, length-map);
       origins-length = length-map (c .edges) (originAt (withSymbolic i g));
       begins = take-at (getD (g .kmers) 0 []) _ (i .k) n ∙ s .source-is;
-      finishes = path-end i (g .kmers) (withSymbolic i g) p 0 (c .edges) q ∙ (rw (z, sink-is i g s) (kmers-last (i .k) [] (i .reference) p h));
-      spells = λ o₀ j w. edge-bytes i (g .kmers) (withSymbolic i g) p o₀ 0 (c .edges) j q w .0;
-      lies = λ o₀ j w. edge-bytes i (g .kmers) (withSymbolic i g) p o₀ 0 (c .edges) j q w .1;
+      finishes = path-end i (g .kmers) (withSymbolic i g) p even 0 (c .edges) q ∙ (rw (z, sink-is i g s) (kmers-last (i .k) [] (i .reference) p h));
+      spells = λ o₀ j w. edge-bytes i (g .kmers) (withSymbolic i g) p even o₀ 0 (c .edges) j q w .0;
+      lies = λ o₀ j w. edge-bytes i (g .kmers) (withSymbolic i g) p even o₀ 0 (c .edges) j q w .1;
     })
 
 -- what was built is the threaded graph with the symbolic edge, and its trees
@@ -258,10 +321,10 @@ built-is i m b e = go (leb (suc (length (g .kmers))) (m .vertices) && leb (lengt
 
 -- Every row of a list spells its origins.
 pub spelled-listing : {S : Type 0} {𝓢 : Scoring S} {Fine : S → Type 0} → Keeps 𝓢 Fine → (i : Input) (rows : List (Row S)) (p q : ℕ) → 1 ≤ i .sample .k
-    → i .sample .k ≤ length (i .sample .reference) → Listing 𝓢 i rows p q → All (SpelledRow (i .sample)) rows
-spelled-listing K i rows p q one long (inl h) = rw (h .1) nil
-spelled-listing {𝓢 = 𝓢} {Fine = Fine} K i rows p q one long (inr h) =
+    → i .sample .k ≤ length (i .sample .reference) → Even (i .sample) → Listing 𝓢 i rows p q → All (SpelledRow (i .sample)) rows
+spelled-listing K i rows p q one long even (inl h) = rw (h .1) nil
+spelled-listing {𝓢 = 𝓢} {Fine = Fine} K i rows p q one long even (inr h) =
     let is = built-is (i .sample) (i .graphMaxima) (h .graph) (h .is-built) in
     rw (h .are)
     (all-listed 𝓢
-    (all-map (rowOf (h .graph)) (λ x gx. row-spelled Fine i (threaded (i .sample)) (h .graph) x one long (threaded-sound (i .sample) one long) (is .0) (is .1) gx) (found-good K h .0 .closed)))
+    (all-map (rowOf (h .graph)) (λ x gx. row-spelled Fine i (threaded (i .sample)) (h .graph) x one long even (threaded-sound (i .sample) one long) (is .0) (is .1) gx) (found-good K h .0 .closed)))

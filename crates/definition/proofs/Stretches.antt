@@ -1,4 +1,4 @@
--- A usable stretch is a part of the read that it names, and all its bytes are usable.
+-- A usable stretch is a maximal run of usable bytes in the read that it names.
 use mathlib.Core.Path.{_≡_, refl, sym, ap, _∙_}
 use Prim.Native.Nat.{ℕ, zero, suc, _+_, _-_, _≤_, _<_}
 use native.Mathlib.Omega.{arith}
@@ -8,10 +8,11 @@ use mathlib.Core.Option.{some}
 use lib.Dec.{eqb}
 use lib.ListN.{length, take, drop, getD}
 use borrow.Author.Tests.{eqb-true}
-use Rattle.laws.specs.ListLaws.{All, nil, cons, all-head, all-tail, all-append, all-mono, all-keep}
+use Rattle.laws.specs.ListLaws.{All, nil, cons, all-head, all-tail, all-append, all-mono, all-zip, all-keep}
 use Rattle.definition.specs.Limits.{Sample}
 use Rattle.definition.specs.Stretch.{Stretch, usable, join, runs, stretchesFrom, stretches}
 use Rattle.definition.specs.Origins.{readAt}
+use Rattle.definition.proofs.Maximal.{Maximal, runs-maximal}
 
 -- a run of the sequence s lies in the bytes bs, whose first has the place i, and each of its bytes passes the rule with its quality
 pub record Inside (good : ℕ → ℕ → Bool) (s i : ℕ) (bs qs : List ℕ) (r : Stretch) : Type 0 where
@@ -102,25 +103,28 @@ pub record InRead (good : ℕ → ℕ → Bool) (s start : ℕ) (ends bs qs : Li
   pub is : readAt number start ends bs ≡ some read
   pub qualities : readAt number start ends qs ≡ some quality
   pub inside : Inside good (s + number) 0 read quality r
+  pub maximal : length quality ≡ length read → Maximal good 0 read quality r
 
 stretches-in : (good : ℕ → ℕ → Bool) (k s start : ℕ) (ends bs qs : List ℕ) → All (InRead good s start ends bs qs) (stretchesFrom good k s start ends bs qs)
 unfolding stretchesFrom
 stretches-in good k s start [] bs qs = nil
 stretches-in good k s start (e ∷ es) bs qs =
-    all-append (all-keep _ (all-mono first (runs-inside good s 0 (take (e - start) bs) (take (e - start) qs))))
+    all-append (all-keep _ (all-mono first (all-zip (runs-inside good s 0 (take (e - start) bs) (take (e - start) qs)) (runs-maximal good s 0 (take (e - start) bs) (take (e - start) qs)))))
     (all-mono later (stretches-in good k (suc s) e es (drop (e - start) bs) (drop (e - start) qs)))
   where
-    first : (r : Stretch) → Inside good s 0 (take (e - start) bs) (take (e - start) qs) r → InRead good s start (e ∷ es) bs qs r
+    first : (r : Stretch) → Inside good s 0 (take (e - start) bs) (take (e - start) qs) r × (length (take (e - start) qs) ≡ length (take (e - start) bs) → Maximal good 0 (take (e - start) bs) (take (e - start) qs) r)
+        → InRead good s start (e ∷ es) bs qs r
     first r h =
         let n : s + 0 ≡ s = omega arith in
         record {
           number = 0;
           read = take (e - start) bs;
           quality = take (e - start) qs;
-          sequence = h .sequence ∙ sym n;
+          sequence = h .0 .sequence ∙ sym n;
           is = unfold readAt in refl;
           qualities = unfold readAt in refl;
-          inside = rw n h;
+          inside = rw n (h .0);
+          maximal = h .1;
         }
 
     later : (r : Stretch) → InRead good (suc s) e es (drop (e - start) bs) (drop (e - start) qs) r → InRead good s start (e ∷ es) bs qs r
@@ -134,9 +138,10 @@ stretches-in good k s start (e ∷ es) bs qs =
           is = unfold readAt in h .is;
           qualities = unfold readAt in h .qualities;
           inside = rw n at (h .inside);
+          maximal = h .maximal;
         }
 
--- every stretch of an input lies in the read that it names, and its bytes are usable there
+-- every stretch of a sample lies in the read that it names, its bytes are usable there, and it is maximal
 pub stretches-inside : (i : Sample) → All (InRead (usable (i .quality)) 1 0 (i .ends) (i .bases) (i .qualities)) (stretches i)
 unfolding stretches
 stretches-inside i = stretches-in (usable (i .quality)) (i .k) 1 0 (i .ends) (i .bases) (i .qualities)

@@ -9,3 +9,4 @@ pub mod Building
 pub mod Listing
 pub mod Origins
 pub mod Calls
+pub mod Promises
