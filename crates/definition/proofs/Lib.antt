@@ -18,3 +18,4 @@ pub mod Visits
 pub mod Examples
 pub mod Cases
 pub mod Borders
+pub mod Trees
