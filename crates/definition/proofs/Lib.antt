@@ -19,3 +19,6 @@ pub mod Examples
 pub mod Cases
 pub mod Borders
 pub mod Trees
+pub mod Sizes
+pub mod Supports
+pub mod Counts
