@@ -22,3 +22,4 @@ pub mod Trees
 pub mod Sizes
 pub mod Supports
 pub mod Counts
+pub mod Penalty
