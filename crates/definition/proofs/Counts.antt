@@ -1,20 +1,22 @@
 -- Counts stay small: in the trees of a sample that passed its check no count of a node, and no sum of the counts of a node's children, passes 65,535.
 -- At each depth the counts of all trees together are at most twice the openings of trees, and a stretch opens at most one for each base beyond its first k.
 use mathlib.Core.Path.{_≡_, refl}
-use Prim.Native.Nat.{ℕ, zero, suc, _+_, _-_, _*_, _≤_, _<_, compare, Ordering, Ordering·lt, Ordering·eq, Ordering·gt}
+use Prim.Native.Nat.{ℕ, zero, suc, _+_, _-_, _*_, _≤_, compare, Ordering, Ordering·lt, Ordering·eq, Ordering·gt}
 use native.Mathlib.Omega.{arith}
-use mathlib.Core.Bool.{Bool, true, false, cond}
+use mathlib.Core.Bool.{Bool, true, false, not, _&&_, cond}
 use mathlib.Core.List.{List, [], _∷_, _++_, map}
 use mathlib.Core.Option.{Option, none, some}
 use lib.Dec.{ltb, eqb}
 use lib.ListN.{length, take, drop, length-drop}
-use Rattle.laws.specs.Lists.{isEmpty, total}
-use Rattle.laws.specs.ListLaws.{All, nil, cons, total-append}
+use Rattle.laws.specs.Lists.{isEmpty, keep, total}
+use Rattle.laws.specs.Numbers.{reaches}
+use Rattle.laws.specs.ListLaws.{All, nil, cons, all-head, all-tail, all-append, all-keep, all-map, total-append}
 use Rattle.definition.specs.Limits.{Sample, readsFit}
 use Rattle.definition.specs.Stretch.{Stretch, stretches}
-use Rattle.definition.specs.Threading.{Ends, eqEnds, compareEnds, Edge, Graph, leaving, numberOf, follow, sinkOf, symbolicOf}
-use Rattle.definition.specs.Evidence.{Branches, bare, branch, Tree, reach, takeAt, atTree, Opened, Walk, opens, growth, growAll, takeEdge, openTree, pass, walkBases, walkStretch, walkAll, evidence}
-use Rattle.definition.specs.Search.{sumOf}
+use Rattle.definition.specs.Threading.{Ends, eqEnds, compareEnds, Edge, supportOf, Graph, leaving, numberOf, follow, sinkOf, symbolicOf}
+use Rattle.definition.specs.Evidence.{Branches, bare, branch, hasBranch, Tree, reach, takeAt, atTree, Opened, Walk, opens, growth, growAll, takeEdge, openTree, pass, walkBases, walkStretch, walkAll, evidence}
+use Rattle.definition.specs.Search.{SearchInput, Offer, among, sumOf, child, walkTrees, realBranches, unseen, bySupport, offers}
+use Rattle.definition.proofs.Walks.{all-best}
 use Rattle.definition.proofs.Sizes.{sizeOf, stretches-size, bases-size}
 
 -- ---- what is said
@@ -44,13 +46,13 @@ treeSum zero t = t .count
 treeSum (suc d) t = depthSum d (t .below)
 
 -- What an open tree at the end of this path may yet add at depth d: 2 where the path is shorter, 1 where it is as long, and else 0.
-due : ℕ → List Ends → ℕ
+unfoldable pub due : ℕ → List Ends → ℕ
 due zero [] = 1
 due zero (e ∷ p) = 0
 due (suc d) [] = 2
 due (suc d) (e ∷ p) = due d p
 
-dueOf : ℕ → Opened → ℕ
+unfoldable pub dueOf : ℕ → Opened → ℕ
 dueOf d o = due d (o .path)
 
 -- ---- a node takes an edge
@@ -139,7 +141,7 @@ fresh-sum zero v = refl
 fresh-sum (suc d) v = refl
 
 -- Where a change of one tree takes away at least a and adds at most b, the sum of all trees changes no more, a new tree counting 0 before.
-at-sum : (d v : ℕ) (f : Tree → Tree) (a b : ℕ) (ts : List Tree) → ((t : Tree) → treeSum d (f t) + a ≤ treeSum d t + b)
+pub at-sum : (d v : ℕ) (f : Tree → Tree) (a b : ℕ) (ts : List Tree) → ((t : Tree) → treeSum d (f t) + a ≤ treeSum d t + b)
     → total (treeSum d) (atTree v f ts) + a ≤ total (treeSum d) ts + b
 unfolding atTree fresh
 at-sum d v f a b [] h = omega (arith, h (fresh v), fresh-sum d v)
@@ -153,13 +155,13 @@ at-sum d v f a b (t ∷ ts) h = go (compare v (t .vertex)) refl (at-sum d v f a 
 
 -- ---- a walk: the counts at depth d with what its open trees may yet add
 
-walkSum : ℕ → Walk → ℕ
+unfoldable pub walkSum : ℕ → Walk → ℕ
 walkSum d w = total (treeSum d) (w .trees) + total (dueOf d) (w .opened)
 
-longer : Ends → Opened → Opened
+unfoldable pub longer : Ends → Opened → Opened
 longer e o = record { vertex = o .vertex; path = o .path ++ e ∷ [] }
 
-grow-sum : (d : ℕ) (e : Ends) (os : List Opened) (ts : List Tree)
+pub grow-sum : (d : ℕ) (e : Ends) (os : List Opened) (ts : List Tree)
     → total (treeSum d) (growAll os e ts) + total (dueOf d) (map (longer e) os) ≤ total (treeSum d) ts + total (dueOf d) os
 unfolding growAll dueOf longer
 grow-sum d e [] ts = omega arith
@@ -171,7 +173,7 @@ grow-sum d e (o ∷ os) ts =
       at-sum d (o .vertex) f (due d (o .path ++ e ∷ [])) (due d (o .path)) ts (growth-due d (o .path) e),
     )
 
-take-sum : (d : ℕ) (e : Ends) (w : Walk) → walkSum d (takeEdge e w) ≤ walkSum d w
+pub take-sum : (d : ℕ) (e : Ends) (w : Walk) → walkSum d (takeEdge e w) ≤ walkSum d w
 unfolding takeEdge walkSum longer
 take-sum d e w = grow-sum d e (w .opened) (w .trees)
 
@@ -184,11 +186,11 @@ unfolding opening treeSum due
 open-due zero v t = omega arith
 open-due (suc d) v t = omega arith
 
-open-sum : (d v : ℕ) (w : Walk) → walkSum d (openTree v w) ≤ walkSum d w + 2
+pub open-sum : (d v : ℕ) (w : Walk) → walkSum d (openTree v w) ≤ walkSum d w + 2
 unfolding openTree walkSum opening dueOf
 open-sum d v w = rw (total-append (dueOf d)) (omega (arith, at-sum d v (opening v) (due d []) 2 (w .trees) (open-due d v)))
 
-pass-sum : (d : ℕ) (es : List Edge) (e : Ends) (w : Walk) → walkSum d (pass es e w) ≤ walkSum d w + 2
+pub pass-sum : (d : ℕ) (es : List Edge) (e : Ends) (w : Walk) → walkSum d (pass es e w) ≤ walkSum d w + 2
 unfolding pass
 pass-sum d es e w = go (opens es (e .from)) refl (eqb (length (leaving es (e .from))) 1) refl
   where
@@ -199,17 +201,17 @@ pass-sum d es e w = go (opens es (e .from)) refl (eqb (length (leaving es (e .fr
     go false a false b = rw (b, pass, a) (omega (arith, take-sum d e w))
 
 -- the bases of a stretch beyond the first k
-beyond : ℕ → Stretch → ℕ
+unfoldable pub beyond : ℕ → Stretch → ℕ
 beyond k r = length (r .bytes) - k
 
 -- those of all stretches are at least 2 fewer than all bases, unless there are none
-beyond-size : (k : ℕ) (rs : List Stretch) → 2 ≤ k → total (beyond k) rs ≤ total sizeOf rs - 2
+pub beyond-size : (k : ℕ) (rs : List Stretch) → 2 ≤ k → total (beyond k) rs ≤ total sizeOf rs - 2
 unfolding beyond
 beyond-size k [] h = omega arith
 beyond-size k (r ∷ rs) h = omega (arith, beyond-size k rs h)
 
 module _ (d : ℕ) (g : Graph) (sink : ℕ) (symbolic : Ends) where
-  bases-sum : (v : ℕ) (bs : List ℕ) (w : Walk) → walkSum d (walkBases g sink symbolic v bs w) ≤ walkSum d w + 2 * length bs
+  pub bases-sum : (v : ℕ) (bs : List ℕ) (w : Walk) → walkSum d (walkBases g sink symbolic v bs w) ≤ walkSum d w + 2 * length bs
   unfolding walkBases
   bases-sum v [] w = go (eqb v sink) refl
     where
@@ -226,7 +228,7 @@ module _ (d : ℕ) (g : Graph) (sink : ℕ) (symbolic : Ends) where
           rw (u, walkBases) (omega (arith, ih (e .ends .to) (pass (g .edges) (e .ends) w), pass-sum d (g .edges) (e .ends) w))
 
   -- a stretch adds at most 2 for each of its bases beyond the first k
-  stretch-sum : (k : ℕ) (r : Stretch) (ts : List Tree)
+  pub stretch-sum : (k : ℕ) (r : Stretch) (ts : List Tree)
       → total (treeSum d) (walkStretch k g sink symbolic r ts) ≤ total (treeSum d) ts + 2 * (length (r .bytes) - k)
   unfolding walkStretch walkSum
   stretch-sum k r ts = go (ltb k (length (r .bytes))) refl
@@ -242,7 +244,7 @@ module _ (d : ℕ) (g : Graph) (sink : ℕ) (symbolic : Ends) where
           ))
       go false u = rw (u, walkStretch) (omega arith)
 
-  walks-sum : (k : ℕ) (rs : List Stretch) (ts : List Tree)
+  pub walks-sum : (k : ℕ) (rs : List Stretch) (ts : List Tree)
       → total (treeSum d) (walkAll k g sink symbolic rs ts) ≤ total (treeSum d) ts + 2 * total (beyond k) rs
   unfolding walkAll beyond
   walks-sum k [] ts = omega arith
@@ -287,3 +289,57 @@ trees-small n (t ∷ ts) h =
 -- no count and no sum of siblings in the trees passes 65,535
 pub counts-small : (s : Sample) (g : Graph) → readsFit s ≡ true → 2 ≤ s .k → All (SmallTree 65535) (evidence s g)
 counts-small s g f h = trees-small 65535 (evidence s g) (λ d. omega (arith, depth-sum s g d f h))
+
+-- ---- what the search meets: the rows below a row of such a tree, and the offers of a fork
+
+pub small-sum : (n : ℕ) (b : Branches) → Small n b → sumOf b ≤ n
+unfolding sumOf
+small-sum n bare h = omega arith
+small-sum n (branch e c below next) h = h .1
+
+pub small-child : (n : ℕ) (e : Ends) (b : Branches) → Small n b → Small n (child e b)
+unfolding child
+small-child n e bare h = tt
+small-child n e (branch f c below next) h = go (eqEnds e f) refl (small-child n e next (h .3))
+  where
+    go : (z : Bool) → eqEnds e f ≡ z → Small n (child e next) → Small n (child e (branch f c below next))
+    go true u ih = rw (u, child) (h .2)
+    go false u ih = rw (u, child) ih
+
+pub small-walk : (n : ℕ) (e : Ends) (bs : List Branches) → All (Small n) bs → All (Small n) (walkTrees e bs)
+unfolding walkTrees
+small-walk n e bs a = all-keep hasBranch (all-map (child e) (λ b h. small-child n e b h) a)
+
+-- the total of a tree's real branches is the one handed in
+real-total : (n : ℕ) (f : SearchInput) (outs : List Ends) (t : ℕ) (b : Branches) → t ≤ n → All (λ (o : Offer). o .outOf ≤ n) (realBranches f outs t b)
+unfolding realBranches
+real-total n f outs t bare h = nil
+real-total n f outs t (branch e c below next) h = go (among e outs && not (eqEnds e (f .symbolic))) (real-total n f outs t next h)
+  where
+    o : Offer
+    o = record { ends = e; count = c; outOf = t; guided = true }
+
+    go : (z : Bool) → All (λ (o : Offer). o .outOf ≤ n) (realBranches f outs t next)
+        → All (λ (o : Offer). o .outOf ≤ n) (cond z (o ∷ realBranches f outs t next) (realBranches f outs t next))
+    go true ih = cons {x = o} h ih
+    go false ih = ih
+
+support-total : (n : ℕ) (es ds : List Edge) → total supportOf ds ≤ n
+    → All (λ (o : Offer). o .outOf ≤ n) (map (λ (e : Edge). record { ends = e .ends; count = supportOf e; outOf = total supportOf ds; guided = false }) es)
+support-total n [] ds h = nil
+support-total n (e ∷ es) ds h = cons {x = record { ends = e .ends; count = supportOf e; outOf = total supportOf ds; guided = false }} h (support-total n es ds h)
+
+-- No total of an offer passes n where none of a tree's rows and none of the out-edges' supports does, so with n below the column's length none is refused.
+pub offers-small : (n : ℕ) (f : SearchInput) (es : List Edge) (seen : List Ends) (bs : List Branches) → All (Small n) bs → total supportOf es ≤ n
+    → All (λ (o : Offer). o .outOf ≤ n) (offers f es seen bs)
+unfolding offers unseen bySupport
+offers-small n f es seen [] a h = all-keep _ (support-total n (keep (λ (e : Edge). not (eqb (supportOf e) 0) && not (e .isRef && eqb (supportOf e) 1)) es) es h)
+offers-small n f es seen (b ∷ bs) a h = go (reaches (sumOf b) (f .threshold)) refl (λ l. offers-small n f es l bs (all-tail a) h)
+  where
+    real : All (λ (o : Offer). o .outOf ≤ n) (realBranches f (map (λ (e : Edge). e .ends) es) (sumOf b) b)
+    real = real-total n f (map (λ (e : Edge). e .ends) es) (sumOf b) b (small-sum n b (all-head a))
+
+    go : (z : Bool) → reaches (sumOf b) (f .threshold) ≡ z → ((l : List Ends) → All (λ (o : Offer). o .outOf ≤ n) (offers f es l bs))
+        → All (λ (o : Offer). o .outOf ≤ n) (offers f es seen (b ∷ bs))
+    go true e ih = rw (e, offers) (all-keep _ (all-best real))
+    go false e ih = rw (e, offers) (all-append (all-keep _ real) (ih _))

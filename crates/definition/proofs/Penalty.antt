@@ -1,27 +1,29 @@
 -- Over a column that passed its check no penalty is above zero: an offer's count is a part of its total, and the column's entries never fall.
 use mathlib.Core.Path.{_≡_, refl, sym, subst, _∙_}
-use Prim.Native.Nat.{ℕ, zero, suc, _+_, _≤_, _<_, max}
+use Prim.Native.Nat.{ℕ, zero, suc, _≤_, _<_, max}
 use native.Mathlib.Omega.{arith}
-use mathlib.Core.Bool.{Bool, true, false, not, _&&_, cond}
+use mathlib.Core.Logic.{_⊎_, inl, inr}
+use mathlib.Core.Bool.{Bool, true, false, not, _&&_, _||_, cond}
 use mathlib.Core.List.{List, [], _∷_, _++_, map}
 use mathlib.Core.Option.{Option, none, some}
-use lib.Dec.{T, leb, ltb, eqb}
+use lib.Dec.{T, leb, ltb}
 use lib.ListN.{length, getD}
-use lib.IntN.{pos}
 use lib.Ieee.{Float, nan, inf, fin, binary64, add, sub, lt, le, eq, isNan}
 use lib.Ieee.Scale.{finite}
 use borrow.Author.Tests.{ltb-true, not-true}
-use Rattle.laws.specs.Lists.{keep, total}
+use Rattle.laws.specs.Lists.{keep, isEmpty}
 use Rattle.laws.specs.Numbers.{within, reaches}
 use Rattle.laws.specs.FloatFacts.{lt-self, nlt-chain, le-is}
 use Rattle.laws.specs.FloatSums.{sub-not-above}
 use Rattle.laws.specs.ListLaws.{clash, and-left, and-right, All, nil, cons, all-mono, all-append, all-keep, all-map, all-total}
+use Rattle.definition.specs.Refusal.{ok, each}
 use Rattle.definition.specs.Limits.{isFinite, floatZero, sixteen, climbing, columnFits}
-use Rattle.definition.specs.Score.{Scoring, atPlace, columnPenalty, columnScoring}
+use Rattle.definition.specs.Score.{atPlace, columnPenalty, columnScoring}
 use Rattle.definition.specs.Threading.{Ends, eqEnds, Edge, supportOf}
 use Rattle.definition.specs.Evidence.{Branches, bare, branch}
-use Rattle.definition.specs.Search.{SearchInput, Offer, among, sumOf, realBranches, best, unseen, bySupport, offers}
+use Rattle.definition.specs.Search.{SearchInput, Path, Offer, among, verticesFrom, times, sumOf, realBranches, unseen, bySupport, offers, lengthen, extend, repeatRule, extensions}
 use Rattle.definition.proofs.Column.{all-at, finite-num}
+use Rattle.definition.proofs.Walks.{refused-ok, ok-same, and-then-ok, all-each, all-best}
 
 -- ---- the column never falls
 
@@ -128,19 +130,6 @@ real-part f outs t (branch e c below next) h = go (among e outs && not (eqEnds e
     go true ih = cons {x = o} (omega arith) ih
     go false ih = ih
 
-best-part : (os : List Offer) → All Part os → All Part (best os)
-unfolding best
-best-part [] a = nil
-best-part (o ∷ os) (cons p a) = go (best os) refl (best-part os a)
-  where
-    pick : (z : Bool) (q : Offer) (qs : List Offer) → All Part (q ∷ qs) → All Part (cond z (q ∷ qs) (o ∷ []))
-    pick true q qs b = b
-    pick false q qs b = cons p nil
-
-    go : (qs : List Offer) → best os ≡ qs → All Part (best os) → All Part (best (o ∷ os))
-    go [] e b = rw (e, best) (cons p nil)
-    go (q ∷ qs) e b = rw (e, best) (pick (leb (o .count) (q .count)) q qs (rw e at b))
-
 support-part : (es : List Edge) → All Part (bySupport es)
 unfolding bySupport
 support-part es = all-map _ (λ e p. p) (all-keep _ (all-total supportOf es))
@@ -155,10 +144,57 @@ offers-part f es seen (b ∷ bs) = go (reaches (sumOf b) (f .threshold)) refl (�
     real = real-part f (map (λ (e : Edge). e .ends) es) (sumOf b) b (omega arith)
 
     go : (z : Bool) → reaches (sumOf b) (f .threshold) ≡ z → ((l : List Ends) → All Part (offers f es l bs)) → All Part (offers f es seen (b ∷ bs))
-    go true e ih = rw (e, offers) (all-keep _ (best-part _ real))
+    go true e ih = rw (e, offers) (all-keep _ (all-best real))
     go false e ih = rw (e, offers) (all-append (all-keep _ real) (ih _))
 
 -- the penalty of every offer
 pub offers-not-above : (c : List Float) → columnFits c ≡ true → (f : SearchInput) (es : List Edge) (seen : List Ends) (bs : List Branches)
     → All (λ (o : Offer). (d : Float) → columnPenalty c (o .count) (o .outOf) ≡ some d → lt floatZero d ≡ false) (offers f es seen bs)
 offers-not-above c h f es seen bs = all-mono (λ (o : Offer) p. λ d e. penalty-not-above c h (o .count) (o .outOf) d p e) (offers-part f es seen bs)
+
+-- ---- what the search adds to a score
+
+-- the score y is x, or x and a penalty that is not above zero
+abbrev pub Lowered : Float → Float → Type 0
+Lowered x y = (y ≡ x) ⊎ ((d : Float) × (y ≡ add binary64 x d) × (lt floatZero d ≡ false))
+
+lengthen-score : (f : SearchInput) (p q : Path Float) (c : List Ends) (e : Ends) (x : Float) (g r : Bool) → lengthen f p c e x g r ≡ ok q → q .score ≡ x
+unfolding lengthen
+lengthen-score f p q c e x g r t = go (leb (length (p .edges ++ c ++ e ∷ [])) (f .pathEdges)) refl
+  where
+    go : (b : Bool) → leb (length (p .edges ++ c ++ e ∷ [])) (f .pathEdges) ≡ b → q .score ≡ x
+    go true u = subst (λ (z : Path Float). z .score ≡ x) (ok-same (rw (u, lengthen) at t)) refl
+    go false u = refused-ok (rw (u, lengthen) at t)
+
+module _ (column : List Float) (fits : columnFits column ≡ true) (f : SearchInput) (p : Path Float) (c : List Ends) where
+  extend-lowered : (o : Offer) (q : Path Float) → Part o → extend (columnScoring column) f p c o ≡ ok q → Lowered (p .score) (q .score)
+  unfolding extend columnScoring
+  extend-lowered o q h t = go (columnPenalty column (o .count) (o .outOf)) refl
+    where
+      go : (d : Option Float) → columnPenalty column (o .count) (o .outOf) ≡ d → Lowered (p .score) (q .score)
+      go none u = refused-ok (rw (u, extend) at t)
+      go (some d) u =
+          inr (
+            d,
+            lengthen-score f p q c (o .ends) (add binary64 (p .score) d) (o .guided) false (rw (u, extend) at t),
+            penalty-not-above column fits (o .count) (o .outOf) d h u,
+          )
+
+  -- every extension of a path: only here is anything added to a score
+  pub extensions-lowered : (v : ℕ) (es : List Edge) (qs : List (Path Float)) → extensions (columnScoring column) f p c v es ≡ ok qs
+      → All (λ (q : Path Float). Lowered (p .score) (q .score)) qs
+  unfolding extensions
+  extensions-lowered v [] qs t = subst (All (λ (q : Path Float). Lowered (p .score) (q .score))) (ok-same t) nil
+  extensions-lowered v (x ∷ []) qs t = go (not (isEmpty (p .active)) || leb (times v (verticesFrom (f .source) (p .edges))) 1) refl
+    where
+      go : (b : Bool) → (not (isEmpty (p .active)) || leb (times v (verticesFrom (f .source) (p .edges))) 1) ≡ b → All (λ (q : Path Float). Lowered (p .score) (q .score)) qs
+      go true u =
+          let r = and-then-ok (lengthen f p c (x .ends) (p .score) false true) (λ q. ok (q ∷ [])) qs (rw (u, extensions) at t) in
+          subst (All (λ (q : Path Float). Lowered (p .score) (q .score))) (ok-same (r .2))
+          (cons (inl (lengthen-score f p (r .0) c (x .ends) (p .score) false true (r .1))) nil)
+      go false u = subst (All (λ (q : Path Float). Lowered (p .score) (q .score))) (ok-same (rw (u, extensions) at t)) nil
+  extensions-lowered v (x ∷ y ∷ es) qs t =
+      let r = and-then-ok (each (extend (columnScoring column) f p c) (offers f (x ∷ y ∷ es) [] (p .active))) (λ qs. ok (keep (repeatRule f) qs)) qs t in
+      subst (All (λ (q : Path Float). Lowered (p .score) (q .score))) (ok-same (r .2))
+      (all-keep (repeatRule f)
+      (all-each (extend (columnScoring column) f p c) (offers f (x ∷ y ∷ es) [] (p .active)) (r .0) (λ o q h. extend-lowered o q h) (offers-part f (x ∷ y ∷ es) [] (p .active)) (r .1)))
