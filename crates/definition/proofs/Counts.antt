@@ -329,7 +329,7 @@ support-total : (n : ℕ) (es ds : List Edge) → total supportOf ds ≤ n
 support-total n [] ds h = nil
 support-total n (e ∷ es) ds h = cons {x = record { ends = e .ends; count = supportOf e; outOf = total supportOf ds; guided = false }} h (support-total n es ds h)
 
--- No total of an offer passes n where none of a tree's rows and none of the out-edges' supports does, so with n below the column's length none is refused.
+-- no total of an offer passes n where no row of an active tree and no sum of the out-edges' supports does
 pub offers-small : (n : ℕ) (f : SearchInput) (es : List Edge) (seen : List Ends) (bs : List Branches) → All (Small n) bs → total supportOf es ≤ n
     → All (λ (o : Offer). o .outOf ≤ n) (offers f es seen bs)
 unfolding offers unseen bySupport

@@ -10,12 +10,12 @@ use lib.Dec.{T, leb, ltb}
 use lib.ListN.{length, getD}
 use lib.Ieee.{Float, nan, inf, fin, binary64, add, sub, lt, le, eq, isNan}
 use lib.Ieee.Scale.{finite}
-use borrow.Author.Tests.{ltb-true, not-true}
-use Rattle.laws.specs.Lists.{keep, isEmpty}
+use borrow.Author.Tests.{ltb-true, lt-ltb, not-true}
+use Rattle.laws.specs.Lists.{keep, isEmpty, isSome, total}
 use Rattle.laws.specs.Numbers.{within, reaches}
 use Rattle.laws.specs.FloatFacts.{lt-self, nlt-chain, le-is}
 use Rattle.laws.specs.FloatSums.{sub-not-above}
-use Rattle.laws.specs.ListLaws.{clash, and-left, and-right, All, nil, cons, all-mono, all-append, all-keep, all-map, all-total}
+use Rattle.laws.specs.ListLaws.{clash, and-left, and-right, All, nil, cons, all-mono, all-zip, all-append, all-keep, all-map, all-total}
 use Rattle.definition.specs.Refusal.{ok, each}
 use Rattle.definition.specs.Limits.{isFinite, floatZero, sixteen, climbing, columnFits}
 use Rattle.definition.specs.Score.{atPlace, columnPenalty, columnScoring}
@@ -23,6 +23,7 @@ use Rattle.definition.specs.Threading.{Ends, eqEnds, Edge, supportOf}
 use Rattle.definition.specs.Evidence.{Branches, bare, branch}
 use Rattle.definition.specs.Search.{SearchInput, Path, Offer, among, verticesFrom, times, sumOf, realBranches, unseen, bySupport, offers, lengthen, extend, repeatRule, extensions}
 use Rattle.definition.proofs.Column.{all-at, finite-num}
+use Rattle.definition.proofs.Counts.{Small, offers-small}
 use Rattle.definition.proofs.Walks.{refused-ok, ok-same, and-then-ok, all-each, all-best}
 
 -- ---- the column never falls
@@ -151,6 +152,23 @@ offers-part f es seen (b ∷ bs) = go (reaches (sumOf b) (f .threshold)) refl (�
 pub offers-not-above : (c : List Float) → columnFits c ≡ true → (f : SearchInput) (es : List Edge) (seen : List Ends) (bs : List Branches)
     → All (λ (o : Offer). (d : Float) → columnPenalty c (o .count) (o .outOf) ≡ some d → lt floatZero d ≡ false) (offers f es seen bs)
 offers-not-above c h f es seen bs = all-mono (λ (o : Offer) p. λ d e. penalty-not-above c h (o .count) (o .outOf) d p e) (offers-part f es seen bs)
+
+-- ---- in a column that is long enough no offer is refused
+
+penalty-there : (c : List Float) (n t : ℕ) → n ≤ t → t < length c → isSome (columnPenalty c n t) ≡ true
+unfolding columnPenalty
+penalty-there c n zero h l = refl
+penalty-there c n (suc t) h l =
+    let one : 1 ≤ max n 1 = omega arith in
+    let part : max n 1 < length c = omega arith in
+    rw (lt-ltb (max n 1) (length c) part, lt-ltb (suc t) (length c) l, columnPenalty)
+
+-- where neither a row of an active tree nor the sum of the out-edges' supports passes n, and the column goes beyond place n
+pub offers-there : (c : List Float) (n : ℕ) → n < length c → (f : SearchInput) (es : List Edge) (seen : List Ends) (bs : List Branches) → All (Small n) bs
+    → total supportOf es ≤ n → All (λ (o : Offer). isSome (columnPenalty c (o .count) (o .outOf)) ≡ true) (offers f es seen bs)
+offers-there c n l f es seen bs a h =
+    all-mono (λ (o : Offer) q. (let k : o .outOf ≤ n = q .1 in penalty-there c (o .count) (o .outOf) (q .0) (omega arith)))
+    (all-zip (offers-part f es seen bs) (offers-small n f es seen bs a h))
 
 -- ---- what the search adds to a score
 
