@@ -28,12 +28,12 @@ column-ordered c = record { one-way = lt-flip; through = nlt-chain }
 
 -- ---- what the check of the column shows
 
-all-at : {A : Type 0} {P : A → Type 0} (xs : List A) (i : ℕ) (d : A) → All P xs → i < length xs → P (getD xs i d)
+pub all-at : {A : Type 0} {P : A → Type 0} (xs : List A) (i : ℕ) (d : A) → All P xs → i < length xs → P (getD xs i d)
 all-at [] i d a h = absurd (omega arith)
 all-at (x ∷ xs) zero d (cons p a) h = p
 all-at (x ∷ xs) (suc i) d (cons p a) h = all-at xs i d a (omega arith)
 
-finite-num : (x : Float) → isFinite x ≡ true → isNan x ≡ false
+pub finite-num : (x : Float) → isFinite x ≡ true → isNan x ≡ false
 unfolding isFinite isNan
 finite-num nan e = clash (sym e)
 finite-num (inf s) e = refl

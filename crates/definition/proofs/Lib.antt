@@ -1,3 +1,11 @@
+-- Theorems over the definition, by layer.
+-- Computed: Examples, Cases (the twelve of 01), Borders (the open points).
+-- Threading: Kmers, Spelling, Maximal, Stretches, Tables, Visits, Sizes, Supports. Trees: Trees, Counts.
+-- Search: Order, Column, Penalty, Runs, Walks, Turns, Waiting, Bounds, Allowance.
+-- An accepted list: Found, Origins, Checks, Fuel, Demand (demand 3).
+pub mod Examples
+pub mod Cases
+pub mod Borders
 pub mod Runs
 pub mod Order
 pub mod Column
@@ -6,17 +14,19 @@ pub mod Turns
 pub mod Waiting
 pub mod Kmers
 pub mod Spelling
+pub mod Maximal
 pub mod Stretches
 pub mod Tables
-pub mod Fuel
+pub mod Visits
+pub mod Sizes
+pub mod Supports
+pub mod Trees
+pub mod Counts
+pub mod Penalty
 pub mod Found
 pub mod Origins
 pub mod Bounds
 pub mod Allowance
 pub mod Checks
+pub mod Fuel
 pub mod Demand
-pub mod Visits
-pub mod Examples
-pub mod Cases
-pub mod Borders
-pub mod Maximal

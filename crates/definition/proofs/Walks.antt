@@ -31,7 +31,7 @@ broken-made e = let z : _≡_ {A = ℕ} 0 1 = cc in absurd (omega arith)
 end-made : {S B : Type 0} {s : State S} {ps : List (Path S)} → atEnd ≡ made s ps → B
 end-made e = let z : _≡_ {A = ℕ} 0 1 = cc in absurd (omega arith)
 
-ok-same : {A : Type 0} {a b : A} → ok a ≡ ok b → a ≡ b
+pub ok-same : {A : Type 0} {a b : A} → ok a ≡ ok b → a ≡ b
 ok-same e = cc
 
 made-state : {S : Type 0} {s t : State S} {ps qs : List (Path S)} → made s ps ≡ made t qs → s ≡ t
@@ -40,7 +40,7 @@ made-state e = cc
 made-paths : {S : Type 0} {s t : State S} {ps qs : List (Path S)} → made s ps ≡ made t qs → ps ≡ qs
 made-paths e = cc
 
-and-then-ok : {A B : Type 0} (r : Result A) (g : A → Result B) (b : B) → andThen r g ≡ ok b → (a : A) × (r ≡ ok a) × (g a ≡ ok b)
+pub and-then-ok : {A B : Type 0} (r : Result A) (g : A → Result B) (b : B) → andThen r g ≡ ok b → (a : A) × (r ≡ ok a) × (g a ≡ ok b)
 and-then-ok (ok a) g b e = (a, refl, e)
 and-then-ok (refused n) g b e = refused-ok e
 
@@ -169,7 +169,7 @@ module _ (f : SearchInput) where
       go true h ih = rw (h, realBranches) (cons (all-among e a (and-left (among e outs) _ h)) ih)
       go false h ih = rw (h, realBranches) ih
 
-all-best : {Q : Offer → Type 0} {os : List Offer} → All Q os → All Q (best os)
+pub all-best : {Q : Offer → Type 0} {os : List Offer} → All Q os → All Q (best os)
 unfolding best
 all-best nil = nil
 all-best {Q} (cons {x = o} {xs = os} p ps) = go (best os) refl (all-best ps)
@@ -315,7 +315,7 @@ unfolding walkTrees
 walk-alive e bs = all-passed hasBranch (map (child e) bs)
 
 module _ {A B : Type 0} {P : A → Type 0} {Q : B → Type 0} (g : A → Result B) where
-  all-each : (xs : List A) (ys : List B) → ((x : A) (y : B) → P x → g x ≡ ok y → Q y) → All P xs → each g xs ≡ ok ys → All Q ys
+  pub all-each : (xs : List A) (ys : List B) → ((x : A) (y : B) → P x → g x ≡ ok y → Q y) → All P xs → each g xs ≡ ok ys → All Q ys
   all-each [] ys h a e = subst (All Q) (ok-same e) nil
   all-each (x ∷ xs) ys h a e = go (g x) (each g xs) refl refl (λ zs. all-each xs zs h (all-tail a))
     where

@@ -1,12 +1,12 @@
 -- Laws of lists and of the functions of Lists: what holds of every element, membership, keeping, finding.
 use mathlib.Core.Path.{_≡_, refl, sym, ap, subst, _∙_}
-use Prim.Native.Nat.{ℕ}
+use Prim.Native.Nat.{ℕ, _+_, _≤_}
 use native.Mathlib.Omega.{arith}
 use mathlib.Core.Bool.{Bool, true, false, _&&_, _||_, cond}
 use mathlib.Core.List.{List, [], _∷_, _++_, map}
 use mathlib.Core.Option.{Option, none, some}
 use lib.Dec.{T}
-use Rattle.laws.specs.Lists.{keep, find, findLast, sole}
+use Rattle.laws.specs.Lists.{keep, find, findLast, sole, total}
 
 -- ---- Booleans
 
@@ -167,3 +167,24 @@ module _ {A : Type 0} where
       go : (b : Bool) → t x ≡ b → keep t (xs ++ ys) ≡ keep t xs ++ keep t ys → keep t (x ∷ (xs ++ ys)) ≡ keep t (x ∷ xs) ++ keep t ys
       go true e ih = rw e (ap (λ (l : List A). x ∷ l) ih)
       go false e ih = rw e ih
+
+-- ---- sums
+
+module _ {A : Type 0} (f : A → ℕ) where
+  pub total-append : (xs ys : List A) → total f (xs ++ ys) ≡ total f xs + total f ys
+  total-append [] ys = omega arith
+  total-append (x ∷ xs) ys = let h = total-append xs ys in omega arith
+
+  -- a part sums to no more than the whole
+  pub total-keep : (t : A → Bool) (xs : List A) → total f (keep t xs) ≤ total f xs
+  total-keep t [] = omega arith
+  total-keep t (x ∷ xs) = go (t x) refl (total-keep t xs)
+    where
+      go : (b : Bool) → t x ≡ b → total f (keep t xs) ≤ total f xs → total f (keep t (x ∷ xs)) ≤ f x + total f xs
+      go true e ih = rw e (omega arith)
+      go false e ih = rw e (omega arith)
+
+  -- no element is greater than the sum
+  pub all-total : (xs : List A) → All (λ x. f x ≤ total f xs) xs
+  all-total [] = nil
+  all-total (x ∷ xs) = cons {x = x} (omega arith) (all-mono (λ y h. (let k : f y ≤ total f xs = h in omega arith)) (all-total xs))
