@@ -4,9 +4,10 @@ use Prim.Native.Nat.{ℕ}
 use mathlib.Core.List.{List, [], _∷_, map}
 use mathlib.Core.Bool.{true, false}
 use lib.IntN.{pos, negsuc}
+use lib.ListN.{replicate}
 use lib.Ieee.{Float, fin, nan}
 use Rattle.definition.specs.Limits.{Input, floatZero}
-use Rattle.definition.proofs.Examples.{A, C, G, T, seqR, seqA, one, minusOne, column, room, allowance, sample, ask, asking, recovering, within, over, listing, longest, origin, no, paths, numbers, reply, Case, asks, path}
+use Rattle.definition.proofs.Examples.{A, C, G, T, seqR, seqA, one, minusOne, column, room, allowance, sample, ask, asking, recovering, within, over, listing, lending, firstOrigins, longest, origin, no, paths, numbers, reply, Case, asks, path}
 
 abbrev acgta : List ℕ
 acgta = A ∷ C ∷ G ∷ T ∷ A ∷ []
@@ -33,6 +34,11 @@ split =
 abbrev minusHalf : Float
 minusHalf = fin true 1 (negsuc 0)
 
+-- R with reads of the byte X, which no rule accepts as usable: the ends, the number of bases and that of qualities
+abbrev reads : List ℕ → ℕ → ℕ → Input
+reads ends bases qualities =
+    ask (record { k = 3; quality = 10; reference = seqR; ends = ends; bases = replicate bases 88; qualities = replicate qualities 40 }) 3
+
 pub table : List Case
 table =
     -- Reading 1: 3 kmers and the symbolic vertex, 2 edges and the symbolic edge; 8 is met one below
@@ -50,6 +56,9 @@ table =
     -- an extension that the repeat rule then drops meets 10 too
     ∷ asks (listing (over (floatZero ∷ floatZero ∷ []) ring)) (no 10)
     ∷ asks (listing ring) (paths (path floatZero 1 0 (A ∷ A ∷ []) ∷ []) 1)
+    -- one extension that meets 10 and 11 is 10: the fork behind GCA makes paths of 2 edges
+    ∷ asks (listing (within (room 128 256 256) (allowance 1 8 128) (over (floatZero ∷ floatZero ∷ []) split))) (no 10)
+    ∷ asks (listing (within (room 128 256 256) (allowance 1 8 128) split)) (no 11)
     -- Reading 3: such an extension meets 11 too; so does the symbolic edge of case 1, whose path has 3 edges with it
     ∷ asks (listing (within (room 128 256 256) (allowance 1 8 128) (ask (sample 2 (A ∷ C ∷ C ∷ C ∷ C ∷ []) []) 3))) (no 11)
     ∷ asks (listing (within (room 4 3 1) (allowance 2 1 128) case1)) (no 11)
@@ -78,6 +87,17 @@ table =
     ∷ asks (listing (within (room 1 3 1) (allowance 3 1 128) case1)) (no 5)
     ∷ asks (listing (within (room 4 3 1) (allowance 3 65 128) case1)) (no 5)
     ∷ asks (listing (ask (sample 3 (A ∷ C ∷ 88 ∷ T ∷ []) []) 3)) (no 3)
+    -- 4: ends that fall, a last end that is not the base count, no read but a base, qualities that differ in length
+    ∷ asks (listing (reads (5 ∷ 4 ∷ 7 ∷ []) 7 7)) (no 4)
+    ∷ asks (listing (reads (6 ∷ []) 7 7)) (no 4)
+    ∷ asks (listing (reads [] 1 1)) (no 4)
+    ∷ asks (listing (reads (7 ∷ []) 7 6)) (no 4)
+    ∷ asks (listing (reads (7 ∷ []) 7 7)) (paths (path floatZero 1 4 seqR ∷ []) 2)
+    -- 7: a lent slice shorter than told, and one just as long
+    ∷ asks (lending 9 8 case1) (no 7)
+    ∷ asks (lending 9 9 case1) (paths (path floatZero 1 2 acgta ∷ []) 2)
+    -- the origins of case 6's first row, CAAGTGG: read 1 made its four edges, at places 0 to 3; the flag is false
+    ∷ asks (firstOrigins case6) (numbers (0 ∷ 1 ∷ 0 ∷ 1 ∷ 1 ∷ 1 ∷ 2 ∷ 1 ∷ 3 ∷ []))
     -- Reading 10: the symbolic edge's origin answers 13; so does a read that is not there, and a place whose k + 1 bytes do not fit
     ∷ asks (origin 0 4 case5) (no 13)
     ∷ asks (origin 2 0 case5) (no 13)

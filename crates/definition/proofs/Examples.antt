@@ -1,6 +1,6 @@
 -- The inputs of "Potatoes on paper" and the way a table asks about them: Cases has the twelve, Borders what lies beside them.
 use Prim.Native.Nat.{ℕ, zero, suc, _+_, _*_}
-use mathlib.Core.Bool.{Bool, true, false}
+use mathlib.Core.Bool.{Bool, true, false, cond}
 use mathlib.Core.List.{List, [], _∷_, _++_, map}
 use lib.IntN.{ℤ, pos, negsuc}
 use lib.Dec.{eqb}
@@ -109,6 +109,10 @@ over c i =
 pub data Question : Type 0 where
   -- the call for the list
   listing : Input → Question
+  -- the same with a workspace slice: the length told, and the length lent
+  lending : ℕ → ℕ → Input → Question
+  -- the origins that the call for the list writes for its first row, sequence and place in turn, and its flag
+  firstOrigins : Input → Question
   -- the bits of the scores of the call for the list
   scoreBits : Input → Question
   -- the greatest length of the waiting list
@@ -159,6 +163,16 @@ allPaths i o =
 abbrev allBits : ListOutcome → Reply
 allBits o = numbers (map (λ (r : PathRow). toBits binary64 (r .score)) (take (o .answer .paths) (o .slices .rows)))
 
+abbrev zipOrigins : ℕ → List ℕ → List ℕ → List ℕ
+zipOrigins zero ss ps = []
+zipOrigins (suc n) [] ps = []
+zipOrigins (suc n) (s ∷ ss) [] = []
+zipOrigins (suc n) (s ∷ ss) (p ∷ ps) = s ∷ p ∷ zipOrigins n ss ps
+
+abbrev originsOf : ListOutcome → List PathRow → List ℕ
+originsOf o [] = []
+originsOf o (r ∷ rs) = cond (r .isRef) 1 0 ∷ zipOrigins (r .edges) (o .slices .sequences) (o .slices .places)
+
 abbrev builtReply : (Built → List ℕ) → Result Built → Reply
 builtReply f (refused n) = no n
 builtReply f (ok b) = numbers (f b)
@@ -173,6 +187,8 @@ originReply o = elim (eqb (o .refusal) 0) [ true ↦ numbers (o .bytes) | false 
 unfoldable pub reply : Question → Reply
 unfolding openRefusal openScore openLimits openStretch openThreading openEvidence openSearch openBuilding openListing openOrigins openCalls add sub lt eq le toBits
 reply (listing i) = listReply (allPaths i) (listCall i [] [] (blank i))
+reply (lending told lent i) = listReply (allPaths i) (listCall i (told ∷ []) (lent ∷ []) (blank i))
+reply (firstOrigins i) = listReply (λ o. numbers (originsOf o (o .slices .rows))) (listCall i [] [] (blank i))
 reply (scoreBits i) = listReply allBits (listCall i [] [] (blank i))
 reply (longest i) = listReply (λ o. numbers (o .answer .longest ∷ [])) (listCall i [] [] (blank i))
 reply (treeOf v i) = builtReply (λ b. flat nodeRow (nodes (keep (λ (t : Tree). eqb (t .vertex) v) (b .trees)))) (built (i .sample) (i .graphMaxima))
