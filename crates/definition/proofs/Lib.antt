@@ -14,6 +14,7 @@ pub mod Origins
 pub mod Bounds
 pub mod Allowance
 pub mod Demand
+pub mod Rows
 pub mod Visits
 pub mod Examples
 pub mod Cases

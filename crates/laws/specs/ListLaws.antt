@@ -167,3 +167,38 @@ module _ {A : Type 0} where
       go : (b : Bool) → t x ≡ b → keep t (xs ++ ys) ≡ keep t xs ++ keep t ys → keep t (x ∷ (xs ++ ys)) ≡ keep t (x ∷ xs) ++ keep t ys
       go true e ih = rw e (ap (λ (l : List A). x ∷ l) ih)
       go false e ih = rw e ih
+
+-- ---- every two elements
+
+-- R holds of each element and every one after it
+pub data Pairwise {A : Type 0} (R : A → A → Type 0) : List A → Type 0 where
+  empty : Pairwise R []
+  first : {x : A} {xs : List A} → All (R x) xs → Pairwise R xs → Pairwise R (x ∷ xs)
+
+module _ {A : Type 0} where
+  pub pairwise-head : {R : A → A → Type 0} {x : A} {xs : List A} → Pairwise R (x ∷ xs) → All (R x) xs
+  pairwise-head (first a p) = a
+
+  pub pairwise-tail : {R : A → A → Type 0} {x : A} {xs : List A} → Pairwise R (x ∷ xs) → Pairwise R xs
+  pairwise-tail (first a p) = p
+
+  pub pairwise-mono : {R Q : A → A → Type 0} {xs : List A} → ((x y : A) → R x y → Q x y) → Pairwise R xs → Pairwise Q xs
+  pairwise-mono h empty = empty
+  pairwise-mono h (first {x = x} a p) = first (all-mono (h x) a) (pairwise-mono h p)
+
+  pub pairwise-append : {R : A → A → Type 0} {xs ys : List A} → Pairwise R xs → Pairwise R ys → All (λ x. All (R x) ys) xs → Pairwise R (xs ++ ys)
+  pairwise-append empty q h = q
+  pairwise-append (first a p) q h = first (all-append a (all-head h)) (pairwise-append p q (all-tail h))
+
+  pub pairwise-keep : {R : A → A → Type 0} (t : A → Bool) {xs : List A} → Pairwise R xs → Pairwise R (keep t xs)
+  pairwise-keep t empty = empty
+  pairwise-keep {R} t (first {x = x} {xs = xs} a p) = go (t x) refl (pairwise-keep t p)
+    where
+      go : (b : Bool) → t x ≡ b → Pairwise R (keep t xs) → Pairwise R (keep t (x ∷ xs))
+      go true e ih = rw e (first (all-keep t a) ih)
+      go false e ih = rw e ih
+
+pub pairwise-map : {A B : Type 0} {R : A → A → Type 0} {Q : B → B → Type 0} (f : A → B) {xs : List A} → ((x y : A) → R x y → Q (f x) (f y)) → Pairwise R xs
+    → Pairwise Q (map f xs)
+pairwise-map f h empty = empty
+pairwise-map f h (first {x = x} a p) = first (all-map f (h x) a) (pairwise-map f h p)
