@@ -16,6 +16,7 @@ pub mod Allowance
 pub mod Demand
 pub mod Rows
 pub mod Visits
+pub mod Degrees
 pub mod Examples
 pub mod Cases
 pub mod Borders

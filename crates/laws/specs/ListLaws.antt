@@ -1,11 +1,12 @@
 -- Laws of lists and of the functions of Lists: what holds of every element, membership, keeping, finding.
 use mathlib.Core.Path.{_≡_, refl, sym, ap, subst, _∙_}
-use Prim.Native.Nat.{ℕ}
+use Prim.Native.Nat.{ℕ, suc, _≤_}
 use native.Mathlib.Omega.{arith}
 use mathlib.Core.Bool.{Bool, true, false, _&&_, _||_, cond}
 use mathlib.Core.List.{List, [], _∷_, _++_, map}
 use mathlib.Core.Option.{Option, none, some}
 use lib.Dec.{T}
+use lib.ListN.{length}
 use Rattle.laws.specs.Lists.{keep, find, findLast, sole}
 
 -- ---- Booleans
@@ -202,3 +203,34 @@ pub pairwise-map : {A B : Type 0} {R : A → A → Type 0} {Q : B → B → Type
     → Pairwise Q (map f xs)
 pairwise-map f h empty = empty
 pairwise-map f h (first {x = x} a p) = first (all-map f (h x) a) (pairwise-map f h p)
+
+module _ {A : Type 0} where
+  -- every two elements have what each of them has
+  pub pairwise-all : {P : A → Type 0} {R : A → A → Type 0} {xs : List A} → All P xs → Pairwise R xs → Pairwise (λ x y. P x × P y × R x y) xs
+  pairwise-all h empty = empty
+  pairwise-all h (first a p) = first (all-mono (λ y w. (all-head h, w .0, w .1)) (all-zip (all-tail h) a)) (pairwise-all (all-tail h) p)
+
+  -- ---- a list of different elements is no longer than one that holds them all
+
+  without : {a : A} {ys : List A} → Mem a ys → List A
+  without (here {xs = ys} e) = ys
+  without (there {x = y} m) = y ∷ without m
+
+  length-without : {a : A} {ys : List A} (m : Mem a ys) → suc (length (without m)) ≡ length ys
+  unfolding without
+  length-without (here e) = refl
+  length-without (there m) = ap suc (length-without m)
+
+  mem-without : {a b : A} {ys : List A} (m : Mem a ys) → (a ≡ b → ⊥) → Mem b ys → Mem b (without m)
+  unfolding without
+  mem-without (here e) d (here f) = absurd (d (e ∙ sym f))
+  mem-without (here e) d (there n) = n
+  mem-without (there m) d (here f) = here f
+  mem-without (there m) d (there n) = there (mem-without m d n)
+
+  pub pigeonhole : {xs ys : List A} → Pairwise (λ x y. x ≡ y → ⊥) xs → All (λ x. Mem x ys) xs → length xs ≤ length ys
+  pigeonhole empty h = omega arith
+  pigeonhole (first {x = x} {xs = xs} a p) h =
+      let l = length-without (all-head h) in
+      let r : length xs ≤ length (without (all-head h)) = pigeonhole p (all-mono (λ y w. mem-without (all-head h) (w .0) (w .1)) (all-zip a (all-tail h))) in
+      omega arith
