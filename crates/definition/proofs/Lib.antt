@@ -17,6 +17,7 @@ pub mod Demand
 pub mod Rows
 pub mod Visits
 pub mod Degrees
+pub mod First
 pub mod Examples
 pub mod Cases
 pub mod Borders
