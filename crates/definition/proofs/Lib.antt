@@ -18,6 +18,7 @@ pub mod Rows
 pub mod Visits
 pub mod Degrees
 pub mod First
+pub mod Trees
 pub mod Examples
 pub mod Cases
 pub mod Borders

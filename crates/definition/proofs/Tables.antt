@@ -21,7 +21,7 @@ use Rattle.definition.proofs.Spelling.{all-put}
 
 -- ---- the order of ends
 
-ends-lt : (a b c : Ends) → compareEnds a b ≡ Ordering·lt → compareEnds b c ≡ Ordering·lt → compareEnds a c ≡ Ordering·lt
+pub ends-lt : (a b c : Ends) → compareEnds a b ≡ Ordering·lt → compareEnds b c ≡ Ordering·lt → compareEnds a c ≡ Ordering·lt
 ends-lt a b c e f = go (compare (a .from) (b .from)) (compare (b .from) (c .from)) refl refl
   where
     go : (o p : Ordering) → compare (a .from) (b .from) ≡ o → compare (b .from) (c .from) ≡ p → compareEnds a c ≡ Ordering·lt
@@ -47,7 +47,7 @@ ends-lt a b c e f = go (compare (a .from) (b .from)) (compare (b .from) (c .from
         let n = lt-compare (b .to) (c .to) (rw y at f) in
         rw (compare-eq (a .from) (c .from) (omega arith)) (compare-lt (a .to) (c .to) (omega arith))
 
-ends-flip : (a b : Ends) → compareEnds a b ≡ Ordering·gt → compareEnds b a ≡ Ordering·lt
+pub ends-flip : (a b : Ends) → compareEnds a b ≡ Ordering·gt → compareEnds b a ≡ Ordering·lt
 ends-flip a b e = go (compare (a .from) (b .from)) refl
   where
     go : (o : Ordering) → compare (a .from) (b .from) ≡ o → compareEnds b a ≡ Ordering·lt
