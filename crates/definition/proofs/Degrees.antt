@@ -90,7 +90,7 @@ module _ (i : Sample) (check : referenceBases (i .reference) ≡ true) where
 
 -- ---- edges by their ends
 
-ends-less : (d e : Ends) → compareEnds d e ≡ Ordering·lt → d ≡ e → ⊥
+pub ends-less : (d e : Ends) → compareEnds d e ≡ Ordering·lt → d ≡ e → ⊥
 ends-less d e l s =
     let f : compareEnds e e ≡ Ordering·lt = rw s at l in
     let g : compareEnds e e ≡ Ordering·eq = rw (compare-eq (e .from) (e .from) refl, compare-eq (e .to) (e .to) refl) in

@@ -19,6 +19,7 @@ pub mod Visits
 pub mod Degrees
 pub mod First
 pub mod Trees
+pub mod Forks
 pub mod Examples
 pub mod Cases
 pub mod Borders

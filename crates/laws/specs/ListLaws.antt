@@ -1,5 +1,6 @@
 -- Laws of lists and of the functions of Lists: what holds of every element, membership, keeping, finding.
 use mathlib.Core.Path.{_≡_, refl, sym, ap, subst, _∙_}
+use mathlib.Core.Logic.{_⊎_, inl, inr}
 use Prim.Native.Nat.{ℕ, suc, _≤_}
 use native.Mathlib.Omega.{arith}
 use mathlib.Core.Bool.{Bool, true, false, _&&_, _||_, cond}
@@ -234,3 +235,67 @@ module _ {A : Type 0} where
       let l = length-without (all-head h) in
       let r : length xs ≤ length (without (all-head h)) = pigeonhole p (all-mono (λ y w. mem-without (all-head h) (w .0) (w .1)) (all-zip a (all-tail h))) in
       omega arith
+
+-- ---- a list that begins another
+
+module _ {A : Type 0} where
+  abbrev pub Begins : List A → List A → Type 0
+  Begins [] ys = Unit {0}
+  Begins (x ∷ xs) [] = ⊥
+  Begins (x ∷ xs) (y ∷ ys) = (x ≡ y) × Begins xs ys
+
+  pub begins-self : (xs : List A) → Begins xs xs
+  begins-self [] = tt
+  begins-self (x ∷ xs) = (refl, begins-self xs)
+
+  pub begins-append : (xs ys : List A) → Begins xs (xs ++ ys)
+  begins-append [] ys = tt
+  begins-append (x ∷ xs) ys = (refl, begins-append xs ys)
+
+  pub begins-front : (xs ys zs : List A) → Begins (xs ++ ys) zs → Begins xs zs
+  begins-front [] ys zs b = tt
+  begins-front (x ∷ xs) ys [] b = b
+  begins-front (x ∷ xs) ys (z ∷ zs) b = (b .0, begins-front xs ys zs (b .1))
+
+  -- of two lists that begin a third, one begins the other
+  pub begins-both : (xs ys zs : List A) → Begins xs zs → Begins ys zs → Begins xs ys ⊎ Begins ys xs
+  begins-both [] ys zs a b = inl tt
+  begins-both (x ∷ xs) [] zs a b = inr tt
+  begins-both (x ∷ xs) (y ∷ ys) [] a b = absurd a
+  begins-both (x ∷ xs) (y ∷ ys) (z ∷ zs) a b = go (begins-both xs ys zs (a .1) (b .1))
+    where
+      go : Begins xs ys ⊎ Begins ys xs → Begins (x ∷ xs) (y ∷ ys) ⊎ Begins (y ∷ ys) (x ∷ xs)
+      go (inl c) = inl (a .0 ∙ sym (b .0), c)
+      go (inr c) = inr (b .0 ∙ sym (a .0), c)
+
+  -- one element more does not begin the list without it
+  pub begins-longer : (xs : List A) (y : A) → Begins (xs ++ y ∷ []) xs → ⊥
+  begins-longer [] y b = b
+  begins-longer (x ∷ xs) y b = begins-longer xs y (b .1)
+
+  -- with one element more each, only if that is the same
+  pub begins-last : (xs : List A) (y z : A) → Begins (xs ++ y ∷ []) (xs ++ z ∷ []) → y ≡ z
+  begins-last [] y z b = b .0
+  begins-last (x ∷ xs) y z b = begins-last xs y z (b .1)
+
+  pub begins-mem : {a : A} (xs ys : List A) → Begins xs ys → Mem a xs → Mem a ys
+  begins-mem [] ys b m = elim m [ ]
+  begins-mem (x ∷ xs) [] b m = absurd b
+  begins-mem {a} (x ∷ xs) (y ∷ ys) b m = go m (λ k. begins-mem xs ys (b .1) k)
+    where
+      go : Mem a (x ∷ xs) → (Mem a xs → Mem a ys) → Mem a (y ∷ ys)
+      go (here e) ih = here (e ∙ b .0)
+      go (there k) ih = there (ih k)
+
+  -- an element of two lists one after the other is in one of them
+  pub mem-append : {a : A} (xs ys : List A) → Mem a (xs ++ ys) → Mem a xs ⊎ Mem a ys
+  mem-append [] ys m = inr m
+  mem-append {a} (x ∷ xs) ys m = go m (λ k. mem-append xs ys k)
+    where
+      go : Mem a (x ∷ (xs ++ ys)) → (Mem a (xs ++ ys) → Mem a xs ⊎ Mem a ys) → Mem a (x ∷ xs) ⊎ Mem a ys
+      go (here e) ih = inl (here e)
+      go (there k) ih = on (ih k)
+        where
+          on : Mem a xs ⊎ Mem a ys → Mem a (x ∷ xs) ⊎ Mem a ys
+          on (inl w) = inl (there w)
+          on (inr w) = inr w
