@@ -20,6 +20,7 @@ pub mod Degrees
 pub mod First
 pub mod Trees
 pub mod Forks
+pub mod Twice
 pub mod Examples
 pub mod Cases
 pub mod Borders
