@@ -87,7 +87,7 @@ run-bytes i o r off (inr m) h s p =
 
 module _ (i : Sample) (ks : List (List ℕ)) (es : List Edge) (1≤k : 1 ≤ i .k) where
   -- linked edges from v, each of which spells
-  abbrev Spelt : ℕ → List Ends → Type 0
+  abbrev pub Spelt : ℕ → List Ends → Type 0
   Spelt v [] = Unit {0}
   Spelt v (d ∷ ds) = Spells (RunOf i) (i .k) ks d (originAt es d) × (d .from ≡ v) × Spelt (d .to) ds
 
@@ -145,7 +145,7 @@ unfolding withSymbolic merge
 table-known i g s = all-put _ (inr refl) (λ e p. p) (all-mono (λ e h. inl h) (s .spelled))
 
 -- the sink is a vertex before the symbolic one, and its kmer is the reference's last
-sink-in : (i : Sample) (g : Graph) → Sound i g → sinkOf i g < length (g .kmers)
+pub sink-in : (i : Sample) (g : Graph) → Sound i g → sinkOf i g < length (g .kmers)
 unfolding sinkOf
 sink-in i g s = number-in (g .kmers) (lastOr [] (kmers (i .k) (i .reference))) (s .sink) (s .sink-in) (s .sink-is)
 
@@ -163,7 +163,7 @@ leaves-in i g d s (x, m, e) = go (all-mem (table-known i g s) m)
     go (inr h) = let f : d .from ≡ sinkOf i g = ap (λ (z : Ends). z .from) (sym e ∙ h) in rw f (sink-in i g s)
 
 -- so a path that ends before the symbolic vertex never enters it
-enters-in : (i : Sample) (g : Graph) (v : ℕ) (ds : List Ends) → Sound i g → Linked (withSymbolic i g) v ds → endFrom v ds < length (g .kmers)
+pub enters-in : (i : Sample) (g : Graph) (v : ℕ) (ds : List Ends) → Sound i g → Linked (withSymbolic i g) v ds → endFrom v ds < length (g .kmers)
     → All (λ d. d .to < length (g .kmers)) ds
 unfolding endFrom
 enters-in i g v [] s l h = nil
@@ -202,7 +202,7 @@ edge-spells i g d s m h = go (find (λ (x : Edge). eqEnds d (x .ends)) (withSymb
     go none u = absurd (find-has (withSymbolic i g) d m u)
     go (some x) u = let q = all-find _ (table-known i g s) u in rw (u, originAt) (known x (q .0) (q .1))
 
-spelt-path : (i : Sample) (g : Graph) (p : 1 ≤ i .k) (v : ℕ) (ds : List Ends) → Sound i g → Linked (withSymbolic i g) v ds → All (λ d. d .to < length (g .kmers)) ds
+pub spelt-path : (i : Sample) (g : Graph) (p : 1 ≤ i .k) (v : ℕ) (ds : List Ends) → Sound i g → Linked (withSymbolic i g) v ds → All (λ d. d .to < length (g .kmers)) ds
     → Spelt i (g .kmers) (withSymbolic i g) p v ds
 spelt-path i g p v [] s l a = tt
 spelt-path i g p v (d ∷ ds) s l a = (edge-spells i g d s (l .0) (all-head a), l .1, spelt-path i g p (d .to) ds s (l .2) (all-tail a))

@@ -1,28 +1,40 @@
 -- No path is listed twice: the closed paths of a search differ in their edges, and so the rows of a list differ in their bases.
 use mathlib.Core.Path.{_≡_, refl, sym, ap, subst, _∙_}
 use mathlib.Core.Logic.{_⊎_, inl, inr}
-use Prim.Native.Nat.{ℕ, zero, suc, _≤_, _<_}
+use Prim.Native.Nat.{ℕ, zero, suc, _≤_, _<_, Ordering·gt}
 use native.Mathlib.Omega.{arith}
 use mathlib.Core.Bool.{Bool, true, false, not, _&&_, _||_, cond}
 use mathlib.Core.List.{List, [], _∷_, _++_, map}
 use mathlib.Core.Option.{Option, none, some}
 use lib.Dec.{leb, ltb, eqb}
 use lib.ListN.{length, take, getD}
+use lib.Ieee.{Float}
 use Rattle.laws.specs.Lists.{keep, any, findLast, position, isEmpty, isSome}
-use Rattle.laws.specs.ListLaws.{All, nil, cons, Mem, here, there, all-head, all-tail, all-append, all-mono, all-zip, all-keep, all-map, all-mem, mem-right, Pairwise, empty, first, pairwise-head, pairwise-tail, pairwise-append, pairwise-keep, pairwise-map, pairwise-all, Begins, begins-append, begins-front, begins-both, begins-longer, begins-last, begins-mem, mem-append}
+use Rattle.laws.specs.Numbers.{compareList}
+use Rattle.laws.specs.ListLaws.{All, nil, cons, Mem, here, there, all-head, all-tail, all-append, all-mono, all-zip, all-keep, all-map, all-mem, mem-right, Pairwise, empty, first, pairwise-head, pairwise-tail, pairwise-append, pairwise-keep, pairwise-mono, pairwise-map, pairwise-all, pairwise-zip, append-rest, Begins, begins-append, begins-front, begins-both, begins-longer, begins-last, begins-mem, mem-append}
 use Rattle.laws.specs.Insertion.{insert, sorted, all-insert, all-sorted}
 use Rattle.definition.specs.Refusal.{Result, ok, refused, andThen, each}
-use Rattle.definition.specs.Score.{Scoring}
-use Rattle.definition.specs.Threading.{Ends, eqEnds, Edge, leaving}
-use Rattle.definition.specs.Evidence.{Branches, bare, branch, hasBranch, Tree, treeAt}
+use Rattle.definition.specs.Score.{Scoring, columnScoring}
+use Rattle.definition.specs.Limits.{Sample, Input}
+use Rattle.definition.specs.Threading.{Ends, eqEnds, Edge, leaving, lastBase, threaded, sinkOf, withSymbolic}
+use Rattle.definition.specs.Evidence.{Branches, bare, branch, hasBranch, Tree, treeAt, evidence}
 use Rattle.definition.specs.Search.{SearchInput, Path, Closed, State, Made, atEnd, broken, made, Turn, more, ended, failed, full, Offer, endFrom, verticesFrom, times, chain, child, walkTrees, offers, hasStoppingEvidence, crossOff, ahead, wait, push, pushAll, lengthen, extend, repeatRule, extensions, joinTree, closeAt, madeOf, extendAt, takePath, greatest, recover, advance, pushMade, turn, run, pivotalEdges, firstState, search}
-use Rattle.definition.proofs.Order.{Keeps}
+use Rattle.definition.specs.Building.{Built}
+use Rattle.definition.specs.Listing.{searchInput, Row, pathBases, originAt, rowOf, above, listOrder, listed, answer}
+use Rattle.definition.proofs.Order.{Ordered, Keeps}
 use Rattle.definition.proofs.Runs.{all-wait, run-ended, run-failed, run-full}
-use Rattle.definition.proofs.Walks.{refused-ok, broken-made, end-made, ok-same, made-state, made-paths, and-then-ok, all-crossOff, all-each}
+use Rattle.definition.proofs.Walks.{refused-ok, broken-made, end-made, ok-same, made-state, made-paths, and-then-ok, all-crossOff, all-each, Linked, GoodClosed}
 use Rattle.definition.proofs.Turns.{lastOf, same-some, no-some, turn-ended}
 use Rattle.definition.proofs.Tables.{Rises, symbolic-rises}
 use Rattle.definition.proofs.Degrees.{rises-differ}
-use Rattle.definition.proofs.Trees.{Rising, AllRising}
+use Rattle.definition.proofs.Spelling.{threaded-sound}
+use Rattle.definition.proofs.Visits.{one-way-on}
+use Rattle.definition.proofs.Found.{Found, Listing, found-good}
+use Rattle.definition.proofs.Origins.{Spelt, spelt-path, enters-in, sink-in, built-is}
+use Rattle.definition.proofs.Column.{column-ordered, column-keeps}
+use Rattle.definition.proofs.Demand.{accepted, k-some, reference-long}
+use Rattle.definition.proofs.Rows.{Outranks, by-score, by-bases, by-closing, ranked-listing}
+use Rattle.definition.proofs.Trees.{Rising, AllRising, evidence-rising}
 use Rattle.definition.proofs.Forks.{Sole, Fork, chain-sole, offers-differ, pairwise-crossOff, cross-gone, leaving-differ, pivotal-differ}
 
 -- ---- a relation that goes both ways, and insertion
@@ -504,3 +516,112 @@ module _ {S : Type 0} (𝓢 : Scoring S) (f : SearchInput) where
 pub closed-differ : {S : Type 0} (𝓢 : Scoring S) (f : SearchInput) (asked limit : ℕ) (recovery : Bool) (s : State S) → Rises (f .edges) → AllRising (f .trees)
     → lastOf (search 𝓢 f asked limit recovery) ≡ some s → Differ (s .closed)
 closed-differ 𝓢 f asked limit recovery s r rt t = search-separate 𝓢 f rt (rises-differ (f .edges) r) asked limit recovery s t .closed
+
+-- ---- the list
+
+-- The closed paths behind the rows of a list differ in their edges.
+pub found-differ : {S : Type 0} {𝓢 : Scoring S} (i : Input) (rows : List (Row S)) (p q : ℕ) (h : Found 𝓢 i rows p q) → Differ (h .state .closed)
+unfolding searchInput
+found-differ {𝓢 = 𝓢} i rows p q h =
+    let is = built-is (i .sample) (i .graphMaxima) (h .graph) (h .is-built) in
+    closed-differ 𝓢 (searchInput i (h .graph)) (i .asked) (i .searchMaxima .pushes) (i .recovery) (h .state) (rw (is .1) (symbolic-rises (i .sample)))
+    (rw (is .2) (evidence-rising (i .sample) (threaded (i .sample)))) (h .reached)
+
+-- ---- bases
+
+module _ (i : Sample) (1≤k : 1 ≤ i .k) (es : List Edge) where
+  -- the last bases of the vertices reached
+  abbrev lasts : List Ends → List ℕ
+  lasts ds = map (λ (e : Ends). lastBase (threaded i .kmers) (e .to)) ds
+
+  -- from one vertex on, a base tells the way on, and so the bases tell the edges
+  same-way : (v : ℕ) (ds cs : List Ends) → Spelt i (threaded i .kmers) es 1≤k v ds → Spelt i (threaded i .kmers) es 1≤k v cs → lasts ds ≡ lasts cs → ds ≡ cs
+  same-way v [] [] a b e = refl
+  same-way v [] (c ∷ cs) a b e = let z : _≡_ {A = ℕ} 0 1 = cc in absurd (omega arith)
+  same-way v (d ∷ ds) [] a b e = let z : _≡_ {A = ℕ} 0 1 = cc in absurd (omega arith)
+  same-way v (d ∷ ds) (c ∷ cs) a b e =
+      let l : lastBase (threaded i .kmers) (d .to) ≡ lastBase (threaded i .kmers) (c .to) = cc in
+      let r : lasts ds ≡ lasts cs = cc in
+      let s : d ≡ c = one-way-on i d c (originAt es d) (originAt es c) 1≤k (a .0) (b .0) (a .1 ∙ sym (b .1)) l in
+      let w : Spelt i (threaded i .kmers) es 1≤k (d .to) cs = rw s (b .2) in
+      let t : ds ≡ cs = same-way (d .to) ds cs (a .2) w r in
+      cc
+
+-- paths of the same bases reach vertices of the same last bases
+bases-lasts : (i : Sample) (ds cs : List Ends) → pathBases (threaded i) ds ≡ pathBases (threaded i) cs
+    → map (λ (e : Ends). lastBase (threaded i .kmers) (e .to)) ds ≡ map (λ (e : Ends). lastBase (threaded i .kmers) (e .to)) cs
+unfolding pathBases
+bases-lasts i ds cs e = append-rest (getD (threaded i .kmers) 0 []) _ _ e
+
+-- the edges of a closed path spell
+closed-spelt : {S : Type 0} {Fine : S → Type 0} (x : Input) (b : Built) (c : Closed S) (p : 1 ≤ x .sample .k) → x .sample .k ≤ length (x .sample .reference)
+    → b .graph ≡ threaded (x .sample) → b .edges ≡ withSymbolic (x .sample) (threaded (x .sample)) → GoodClosed Fine (searchInput x b) c
+    → Spelt (x .sample) (threaded (x .sample) .kmers) (withSymbolic (x .sample) (threaded (x .sample))) p 0 (c .edges)
+unfolding searchInput
+closed-spelt x b c p long eg ee gc =
+    let i = x .sample in
+    let g = threaded i in
+    let s = threaded-sound i p long in
+    let l : Linked (withSymbolic i g) 0 (c .edges) = rw ee at (gc .linked) in
+    let z : endFrom 0 (c .edges) ≡ sinkOf i g = rw eg at (gc .atSink) in
+    spelt-path i g p 0 (c .edges) s l (enters-in i g 0 (c .edges) s l (rw z (sink-in i g s)))
+
+module _ {S : Type 0} (𝓢 : Scoring S) (i : Input) (rows : List (Row S)) (p q : ℕ) (1≤k : 1 ≤ i .sample .k) (long : i .sample .k ≤ length (i .sample .reference)) where
+  found-bases : Found 𝓢 i rows p q → Pairwise (λ a b. a .bases ≡ b .bases → ⊥) rows
+  unfolding listOrder
+  found-bases h = rw (h .are) (sorted-pairwise (above 𝓢) (λ a b n e. n (sym e)) (unfold rowOf in pairwise-map (rowOf (h .graph)) other-bases (pairwise-all spelt (found-differ i rows p q h))))
+    where
+      is : (h .graph .graph ≡ threaded (i .sample)) × (h .graph .edges ≡ withSymbolic (i .sample) (threaded (i .sample))) × (h .graph .trees ≡ evidence (i .sample) (threaded (i .sample)))
+      is = built-is (i .sample) (i .graphMaxima) (h .graph) (h .is-built)
+
+      Spelling : Closed S → Type 0
+      Spelling c = Spelt (i .sample) (threaded (i .sample) .kmers) (withSymbolic (i .sample) (threaded (i .sample))) 1≤k 0 (c .edges)
+
+      spelt : All Spelling (h .state .closed)
+      spelt = all-mono (λ c g. closed-spelt i (h .graph) c 1≤k long (is .0) (is .1) g) (found-good (any-keeps 𝓢) h .0 .closed)
+
+      other-bases : (c d : Closed S) → Spelling c × Spelling d × (c .edges ≡ d .edges → ⊥) → pathBases (h .graph .graph) (c .edges) ≡ pathBases (h .graph .graph) (d .edges) → ⊥
+      other-bases c d w e =
+          let f : pathBases (threaded (i .sample)) (c .edges) ≡ pathBases (threaded (i .sample)) (d .edges) = rw (is .0) at e in
+          w .2 (same-way (i .sample) 1≤k (withSymbolic (i .sample) (threaded (i .sample))) 0 (c .edges) (d .edges) (w .0) (w .1) (bases-lasts (i .sample) (c .edges) (d .edges) f))
+
+  -- No two rows of a list have the same bases.
+  pub bases-listing : Listing 𝓢 i rows p q → Pairwise (λ a b. a .bases ≡ b .bases → ⊥) rows
+  bases-listing (inl h) = rw (h .1) empty
+  bases-listing (inr h) = found-bases h
+
+-- ---- the order, once more
+
+-- a's score is greater, or neither score is less and its bases are greater
+abbrev pub Tops : {S : Type 0} → Scoring S → Row S → Row S → Type 0
+Tops 𝓢 a b =
+    (𝓢 .less (b .score) (a .score) ≡ true)
+    ⊎ ((𝓢 .less (a .score) (b .score) ≡ false) × (𝓢 .less (b .score) (a .score) ≡ false) × (compareList (a .bases) (b .bases) ≡ Ordering·gt))
+
+outranks-tops : {S : Type 0} (𝓢 : Scoring S) (a b : Row S) → Outranks 𝓢 a b → (a .bases ≡ b .bases → ⊥) → Tops 𝓢 a b
+outranks-tops 𝓢 a b (by-score e) n = inl e
+outranks-tops 𝓢 a b (by-bases e f g) n = inr (e, f, g)
+outranks-tops 𝓢 a b (by-closing e f g h) n = absurd (n g)
+
+-- Score and bases alone decide the order of any two rows: the closing number never does.
+pub tops-listing : {S : Type 0} {𝓢 : Scoring S} {Fine : S → Type 0} → Ordered 𝓢 Fine → Keeps 𝓢 Fine → (i : Input) (rows : List (Row S)) (p q : ℕ) → 1 ≤ i .sample .k
+    → i .sample .k ≤ length (i .sample .reference) → Listing 𝓢 i rows p q → Pairwise (Tops 𝓢) rows
+tops-listing {𝓢 = 𝓢} O K i rows p q one long h =
+    pairwise-mono (λ a b w. outranks-tops 𝓢 a b (w .0) (w .1)) (pairwise-zip (ranked-listing O K i rows p q h) (bases-listing 𝓢 i rows p q one long h))
+
+-- ---- the call for the list, in column mode
+
+module _ (i : Input) (told lent : List ℕ) (rows : List (Row Float)) (p q : ℕ) (t : answer i told lent ≡ listed rows p q) where
+  -- No two rows of an accepted list have the same bases.
+  pub bases-differ : Pairwise (λ a b. a .bases ≡ b .bases → ⊥) rows
+  bases-differ =
+      let a = accepted i told lent rows p q t in
+      let k : 2 ≤ i .sample .k = k-some i (a .0) in
+      bases-listing (columnScoring (i .column)) i rows p q (omega arith) (reference-long i (a .0)) (a .1)
+
+  -- Of any two rows of an accepted list the upper one has the greater score, or an equal one and greater bases.
+  pub rows-top : Pairwise (Tops (columnScoring (i .column))) rows
+  rows-top =
+      let a = accepted i told lent rows p q t in
+      let k : 2 ≤ i .sample .k = k-some i (a .0) in
+      tops-listing (column-ordered (i .column)) (column-keeps (i .column) (a .0 .column-fits)) i rows p q (omega arith) (reference-long i (a .0)) (a .1)

@@ -299,3 +299,13 @@ module _ {A : Type 0} where
           on : Mem a xs ⊎ Mem a ys → Mem a (x ∷ xs) ⊎ Mem a ys
           on (inl w) = inl (there w)
           on (inr w) = inr w
+
+module _ {A : Type 0} where
+  pub pairwise-zip : {R Q : A → A → Type 0} {xs : List A} → Pairwise R xs → Pairwise Q xs → Pairwise (λ x y. R x y × Q x y) xs
+  pairwise-zip empty q = empty
+  pairwise-zip (first a p) q = first (all-zip a (pairwise-head q)) (pairwise-zip p (pairwise-tail q))
+
+  -- what follows the same front is the same
+  pub append-rest : (xs ys zs : List A) → xs ++ ys ≡ xs ++ zs → ys ≡ zs
+  append-rest [] ys zs e = e
+  append-rest (x ∷ xs) ys zs e = append-rest xs ys zs (let h : xs ++ ys ≡ xs ++ zs = cc in h)
