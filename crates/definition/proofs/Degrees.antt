@@ -3,18 +3,18 @@ use mathlib.Core.Path.{_≡_, refl, sym, ap, _∙_}
 use mathlib.Core.Logic.{_⊎_, inl, inr}
 use Prim.Native.Nat.{ℕ, zero, suc, _+_, _-_, _≤_, _<_, Ordering, Ordering·lt, Ordering·eq, Ordering·gt}
 use native.Mathlib.Omega.{arith}
-use mathlib.Core.Bool.{Bool, true, false, _&&_, _||_}
-use mathlib.Core.List.{List, [], _∷_, map}
-use lib.Dec.{leb, eqb}
+use mathlib.Core.Bool.{Bool, true, false, _||_}
+use mathlib.Core.List.{List, [], _∷_}
+use lib.Dec.{eqb}
 use lib.ListN.{length, take, drop, getD, length-drop, length-map}
 use lib.Seq.{getD-drop, getD-take}
 use borrow.Author.Tests.{eqb-true, ne-eqb}
 use Rattle.laws.specs.Lists.{keep, all, lastOr}
 use Rattle.laws.specs.Numbers.{compare-eq}
-use Rattle.laws.specs.ListLaws.{and-left, and-right, All, nil, cons, Mem, here, there, all-map, all-mono, all-mem, all-keep, all-passed, all-zip, Pairwise, empty, first, pairwise-keep, pairwise-map, pairwise-all, pigeonhole}
+use Rattle.laws.specs.ListLaws.{and-left, and-right, All, Mem, here, there, all-map, all-mono, all-mem, all-keep, all-passed, all-zip, Pairwise, empty, first, pairwise-keep, pairwise-map, pairwise-all, pigeonhole}
 use Rattle.definition.specs.Limits.{Sample, isBase, referenceBases}
-use Rattle.definition.specs.Stretch.{Stretch, usable, stretches}
-use Rattle.definition.specs.Threading.{Ends, compareEnds, Origin, Edge, Graph, leaving, lastBase, merge, put, threaded, lastPlace, sinkOf, symbolicOf, withSymbolic}
+use Rattle.definition.specs.Stretch.{Stretch, usable}
+use Rattle.definition.specs.Threading.{Ends, compareEnds, Origin, Edge, leaving, lastBase, merge, put, threaded, lastPlace, sinkOf, symbolicOf, withSymbolic}
 use Rattle.definition.proofs.Stretches.{InRead, Inside, stretches-inside}
 use Rattle.definition.proofs.Spelling.{Spells, SpellsOn, RunOf, threaded-sound}
 use Rattle.definition.proofs.Tables.{Rises, threaded-neat}
@@ -176,12 +176,12 @@ module _ (i : Sample) (1≤k : 1 ≤ i .k) (long : i .k ≤ length (i .reference
           (one-way-on i (d .ends) (e .ends) (d .origin) (e .origin) 1≤k (w .0 .0) (w .1 .0)
           (eqb-true (d .ends .from) v (w .0 .1) ∙ sym (eqb-true (e .ends .from) v (w .1 .1))) s)
 
-  -- With the symbolic edge, at most six edges leave the sink,
+  -- With the symbolic edge, at most six edges leave any vertex, the sink included.
   pub six-leave : (v : ℕ) → length (leaving (withSymbolic i (threaded i)) v) ≤ 6
   unfolding withSymbolic
   six-leave v = let n = symbolic in omega (arith, put-leaving v n (threaded i .edges), one-more v n (threaded i .edges), five-leave v)
 
-  -- and at most five any other vertex.
+  -- With the symbolic edge, at most five edges leave any vertex but the sink.
   pub five-elsewhere : (v : ℕ) → (v ≡ sinkOf i (threaded i) → ⊥) → length (leaving (withSymbolic i (threaded i)) v) ≤ 5
   unfolding withSymbolic symbolicOf
   five-elsewhere v m =

@@ -4,14 +4,14 @@ use mathlib.Core.Logic.{_⊎_, inl, inr}
 use Prim.Native.Nat.{ℕ, zero, suc, _+_, _-_, _≤_, _<_, Ordering, Ordering·lt, Ordering·eq, Ordering·gt}
 use native.Mathlib.Omega.{arith}
 use mathlib.Core.Bool.{Bool, true, false}
-use mathlib.Core.List.{List, [], _∷_, _++_}
+use mathlib.Core.List.{List, [], _∷_}
 use mathlib.Core.Option.{Option, none, some}
 use lib.Dec.{leb, eqb}
 use lib.ListN.{length, take, drop, getD}
 use lib.Seq.{drop-drop}
 use borrow.Author.Tests.{leb-true, leb-false, eqb-true}
 use Rattle.laws.specs.Lists.{sole, lastOr}
-use Rattle.laws.specs.ListLaws.{All, nil, cons, Mem, here, there, all-head, all-tail, all-append, all-mono, all-zip, all-keep, all-self, all-sole, all-mem, Pairwise, empty, first, pairwise-head, pairwise-tail, pairwise-append, pairwise-keep}
+use Rattle.laws.specs.ListLaws.{All, nil, cons, Mem, here, there, all-head, all-tail, all-append, all-mono, all-keep, all-self, all-sole, all-mem, Pairwise, empty, first, pairwise-head, pairwise-tail, pairwise-append, pairwise-keep}
 use Rattle.definition.specs.Limits.{Sample}
 use Rattle.definition.specs.Stretch.{Stretch, usable, join, runs, stretchesFrom, stretches, kmers}
 use Rattle.definition.specs.Threading.{Ends, compareEnds, Origin, Edge, Graph, Threading, entering, oneStep, merge, put, numberOf, follow, stepTo, step, steps, backward, startAt, thread, threadAll, threaded}

@@ -1,8 +1,8 @@
 -- Forks: the edges that a fork offers differ, those of a chain leave no fork, and the pivotal edges differ and leave forks.
 use mathlib.Core.Path.{_≡_, refl, sym, ap, _∙_}
-use Prim.Native.Nat.{ℕ, zero, suc, _+_, _<_, Ordering, Ordering·lt}
+use Prim.Native.Nat.{ℕ, zero, suc, _+_, _<_, Ordering·lt}
 use native.Mathlib.Omega.{arith}
-use mathlib.Core.Bool.{Bool, true, false, not, _&&_, _||_, cond}
+use mathlib.Core.Bool.{Bool, true, false, not, _&&_, _||_}
 use mathlib.Core.List.{List, [], _∷_, _++_, map}
 use mathlib.Core.Option.{Option, none, some}
 use lib.Dec.{leb, ltb, eqb}
@@ -10,8 +10,8 @@ use lib.ListN.{length}
 use borrow.Author.Tests.{ltb-true}
 use Rattle.laws.specs.Lists.{keep, sole, dropFirst, isSome}
 use Rattle.laws.specs.Numbers.{reaches}
-use Rattle.laws.specs.ListLaws.{clash, or-none, All, nil, cons, Mem, here, there, all-head, all-tail, all-append, all-mono, all-zip, all-keep, all-passed, all-map, all-from, mem-map, Pairwise, empty, first, pairwise-head, pairwise-tail, pairwise-append, pairwise-keep, pairwise-map}
-use Rattle.definition.specs.Threading.{Ends, eqEnds, compareEnds, Edge, supportOf, leaving}
+use Rattle.laws.specs.ListLaws.{clash, or-none, All, nil, cons, Mem, here, there, all-head, all-tail, all-append, all-mono, all-zip, all-keep, all-passed, all-map, all-from, mem-map, Pairwise, empty, first, pairwise-append, pairwise-keep, pairwise-map}
+use Rattle.definition.specs.Threading.{Ends, eqEnds, compareEnds, Edge, leaving}
 use Rattle.definition.specs.Evidence.{Branches, bare, branch, treeAt}
 use Rattle.definition.specs.Search.{SearchInput, Offer, among, sumOf, onward, chainFrom, chain, realBranches, best, unseen, bySupport, offers, crossOff, Queued, enqueueAll, endsOf, pivotalOf, pivotalFrom, pivotalEdges}
 use Rattle.definition.proofs.Walks.{eqEnds-true, eqEnds-self, leaving-on, onward-on, all-dropFirst, all-crossOff}

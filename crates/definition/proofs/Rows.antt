@@ -1,9 +1,9 @@
 -- The list's order is total and strict: of any two rows the upper one outranks the lower, so no row stands twice.
-use mathlib.Core.Path.{_≡_, refl, sym, ap, subst, _∙_}
-use mathlib.Core.Logic.{_⊎_, inl, inr}
-use Prim.Native.Nat.{ℕ, zero, suc, _<_, compare, Ordering, Ordering·lt, Ordering·eq, Ordering·gt}
+use mathlib.Core.Path.{_≡_, refl, sym, ap, _∙_}
+use mathlib.Core.Logic.{inl, inr}
+use Prim.Native.Nat.{ℕ, suc, _<_, compare, Ordering, Ordering·lt, Ordering·eq, Ordering·gt}
 use native.Mathlib.Omega.{arith}
-use mathlib.Core.Bool.{Bool, true, false, not, _&&_, _||_}
+use mathlib.Core.Bool.{Bool, true, false}
 use mathlib.Core.List.{List, [], _∷_, map}
 use lib.Ieee.{Float}
 use Rattle.laws.specs.Numbers.{compareList, isGt, list-flip, compare-gt, compare-eq, lt-compare, eq-compare}
@@ -12,7 +12,6 @@ use Rattle.laws.specs.Insertion.{insert, sorted, StrictOrder, all-insert, all-s
 use Rattle.definition.specs.Score.{Scoring, columnScoring}
 use Rattle.definition.specs.Limits.{Input}
 use Rattle.definition.specs.Search.{Closed}
-use Rattle.definition.specs.Building.{Built}
 use Rattle.definition.specs.Listing.{searchInput, Row, rowOf, above, listOrder, listed, answer}
 use Rattle.definition.proofs.Order.{Ordered, Keeps, above-order}
 use Rattle.definition.proofs.Walks.{GoodState, Numbered}

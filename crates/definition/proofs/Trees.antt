@@ -1,12 +1,11 @@
 -- The junction trees stand in order: at every node the edges of the branches strictly rise, so no edge branches off a node twice.
 use mathlib.Core.Path.{_≡_, refl}
-use Prim.Native.Nat.{ℕ, suc, compare, Ordering, Ordering·lt, Ordering·eq, Ordering·gt}
-use mathlib.Core.Bool.{Bool, true, false, cond}
-use mathlib.Core.List.{List, [], _∷_, _++_, map}
+use Prim.Native.Nat.{ℕ, compare, Ordering, Ordering·lt, Ordering·eq, Ordering·gt}
+use mathlib.Core.Bool.{Bool, true, false}
+use mathlib.Core.List.{List, [], _∷_}
 use mathlib.Core.Option.{Option, none, some}
 use lib.Dec.{ltb, eqb}
 use lib.ListN.{length, take, drop}
-use Rattle.laws.specs.Lists.{isEmpty}
 use Rattle.laws.specs.ListLaws.{All, nil, cons}
 use Rattle.definition.specs.Limits.{Sample}
 use Rattle.definition.specs.Stretch.{Stretch, stretches}

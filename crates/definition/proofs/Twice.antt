@@ -1,7 +1,7 @@
 -- No path is listed twice: the closed paths of a search differ in their edges, and so the rows of a list differ in their bases.
 use mathlib.Core.Path.{_≡_, refl, sym, ap, subst, _∙_}
 use mathlib.Core.Logic.{_⊎_, inl, inr}
-use Prim.Native.Nat.{ℕ, zero, suc, _≤_, _<_, Ordering·gt}
+use Prim.Native.Nat.{ℕ, zero, suc, _≤_, Ordering·gt}
 use native.Mathlib.Omega.{arith}
 use mathlib.Core.Bool.{Bool, true, false, not, _&&_, _||_, cond}
 use mathlib.Core.List.{List, [], _∷_, _++_, map}
@@ -9,11 +9,11 @@ use mathlib.Core.Option.{Option, none, some}
 use lib.Dec.{leb, ltb, eqb}
 use lib.ListN.{length, take, getD}
 use lib.Ieee.{Float}
-use Rattle.laws.specs.Lists.{keep, any, findLast, position, isEmpty, isSome}
+use Rattle.laws.specs.Lists.{keep, any, findLast, position, isEmpty}
 use Rattle.laws.specs.Numbers.{compareList}
-use Rattle.laws.specs.ListLaws.{All, nil, cons, Mem, here, there, all-head, all-tail, all-append, all-mono, all-zip, all-keep, all-map, all-mem, mem-right, Pairwise, empty, first, pairwise-head, pairwise-tail, pairwise-append, pairwise-keep, pairwise-mono, pairwise-map, pairwise-all, pairwise-zip, append-rest, Begins, begins-append, begins-front, begins-both, begins-longer, begins-last, begins-mem, mem-append}
+use Rattle.laws.specs.ListLaws.{All, nil, cons, Mem, here, all-head, all-tail, all-append, all-mono, all-zip, all-keep, all-map, all-mem, mem-right, Pairwise, empty, first, pairwise-head, pairwise-tail, pairwise-append, pairwise-keep, pairwise-mono, pairwise-map, pairwise-all, pairwise-zip, append-rest, Begins, begins-append, begins-front, begins-both, begins-longer, begins-last, begins-mem, mem-append}
 use Rattle.laws.specs.Insertion.{insert, sorted, all-insert, all-sorted}
-use Rattle.definition.specs.Refusal.{Result, ok, refused, andThen, each}
+use Rattle.definition.specs.Refusal.{Result, ok, refused, each}
 use Rattle.definition.specs.Score.{Scoring, columnScoring}
 use Rattle.definition.specs.Limits.{Sample, Input}
 use Rattle.definition.specs.Threading.{Ends, eqEnds, Edge, leaving, lastBase, threaded, sinkOf, withSymbolic}

@@ -244,10 +244,6 @@ module _ {A : Type 0} where
   Begins (x ∷ xs) [] = ⊥
   Begins (x ∷ xs) (y ∷ ys) = (x ≡ y) × Begins xs ys
 
-  pub begins-self : (xs : List A) → Begins xs xs
-  begins-self [] = tt
-  begins-self (x ∷ xs) = (refl, begins-self xs)
-
   pub begins-append : (xs ys : List A) → Begins xs (xs ++ ys)
   begins-append [] ys = tt
   begins-append (x ∷ xs) ys = (refl, begins-append xs ys)
