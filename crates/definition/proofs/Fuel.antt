@@ -161,7 +161,7 @@ module _ {A : Type 0} where
       go true e ih = rw e (omega arith)
       go false e ih = rw e (omega arith)
 
-among-mem : (d : Ends) (ds : List Ends) → Mem d ds → among d ds ≡ true
+pub among-mem : (d : Ends) (ds : List Ends) → Mem d ds → among d ds ≡ true
 unfolding among
 among-mem d [] m = elim m [ ]
 among-mem d (x ∷ xs) m = go (eqEnds d x) refl m (λ k. among-mem d xs k)
@@ -171,7 +171,7 @@ among-mem d (x ∷ xs) m = go (eqEnds d x) refl m (λ k. among-mem d xs k)
     go false e (here w) ih = clash (sym (eqEnds-self d) ∙ ap (eqEnds d) w ∙ e)
     go false e (there k) ih = rw e (ih k)
 
-among-append : (d : Ends) (xs ys : List Ends) → among d (xs ++ ys) ≡ (among d xs || among d ys)
+pub among-append : (d : Ends) (xs ys : List Ends) → among d (xs ++ ys) ≡ (among d xs || among d ys)
 unfolding among
 among-append d [] ys = refl
 among-append d (x ∷ xs) ys = go (eqEnds d x) refl (among-append d xs ys)

@@ -1,8 +1,8 @@
 -- Theorems over the definition, by layer.
 -- Computed: Examples, Cases (the twelve of 01), Borders (the open points).
--- Threading: Kmers, Spelling, Maximal, Stretches, Tables, Visits, Sizes, Supports. Trees: Trees, Counts.
--- Search: Order, Column, Penalty, Runs, Walks, Turns, Waiting, Bounds, Allowance.
--- An accepted list: Found, Origins, Checks, Fuel, Demand (demand 3).
+-- Threading: Kmers, Spelling, Maximal, Stretches, Tables, Visits, First, Degrees, Sizes, Supports. Trees: Trees, Counts.
+-- Search: Order, Column, Penalty, Runs, Walks, Turns, Waiting, Forks, Bounds, Allowance.
+-- An accepted list: Found, Origins, Checks, Fuel, Demand (demand 3), Rows (the order is total), Twice (no path is listed twice).
 pub mod Examples
 pub mod Cases
 pub mod Borders
@@ -30,3 +30,8 @@ pub mod Allowance
 pub mod Checks
 pub mod Fuel
 pub mod Demand
+pub mod First
+pub mod Degrees
+pub mod Forks
+pub mod Rows
+pub mod Twice

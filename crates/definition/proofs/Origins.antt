@@ -149,9 +149,9 @@ run-bytes i o r off even (inr m) h s p =
 
 -- ---- a path of spelling edges
 
-module _ (i : Sample) (ks : List (List ℕ)) (es : List Edge) (1≤k : 1 ≤ i .k) (even : Even i) where
+module _ (i : Sample) (ks : List (List ℕ)) (es : List Edge) (1≤k : 1 ≤ i .k) where
   -- linked edges from v, each of which spells
-  abbrev Spelt : ℕ → List Ends → Type 0
+  abbrev pub Spelt : ℕ → List Ends → Type 0
   Spelt v [] = Unit {0}
   Spelt v (d ∷ ds) = Spells (RunOf i) (i .k) ks d (originAt es d) × (d .from ≡ v) × Spelt (d .to) ds
 
@@ -181,9 +181,9 @@ module _ (i : Sample) (ks : List (List ℕ)) (es : List Edge) (1≤k : 1 ≤ i .
   path-end v (d ∷ ds) p = rw (bases-step v d ds (originAt es d) (p .0) (p .1)) (path-end (d .to) ds (p .2))
 
   -- the k + 1 bases of the first edge are the bytes at its origin
-  first-bytes : (v : ℕ) (d : Ends) (ds : List Ends) (o : Origin) → Spells (RunOf i) (i .k) ks d o → d .from ≡ v
+  first-bytes : Even i → (v : ℕ) (d : Ends) (ds : List Ends) (o : Origin) → Spells (RunOf i) (i .k) ks d o → d .from ≡ v
       → (bytesAt i o ≡ ok (take (suc (i .k)) (basesFrom v (d ∷ ds)))) × Lies i o
-  first-bytes v d ds o s e =
+  first-bytes even v d ds o s e =
       let w = open-edge d o s in
       let q = run-bytes i o (s .run) (s .off) even (s .source) (s .fits) (s .sequence) (s .place) in
       let a : take (suc (i .k)) (drop (s .off) (s .run .bytes)) ≡ w .first ∷ getD ks (d .to) [] = ap (take (suc (i .k))) (w .whole) ∙ ap (λ (l : List ℕ). w .first ∷ l) (sym (w .right)) in
@@ -192,11 +192,11 @@ module _ (i : Sample) (ks : List (List ℕ)) (es : List Edge) (1≤k : 1 ≤ i .
       ap (take (suc (i .k))) (bases-step v d ds o s e) ∙ ap (λ (l : List ℕ). w .first ∷ l) b in
       (q .0 ∙ ap ok (a ∙ sym c), q .1)
 
-  edge-bytes : (o₀ : Origin) (v : ℕ) (ds : List Ends) (j : ℕ) → Spelt v ds → j < length ds
+  edge-bytes : Even i → (o₀ : Origin) (v : ℕ) (ds : List Ends) (j : ℕ) → Spelt v ds → j < length ds
       → (bytesAt i (getD (map (originAt es) ds) j o₀) ≡ ok (take (suc (i .k)) (drop j (basesFrom v ds)))) × Lies i (getD (map (originAt es) ds) j o₀)
-  edge-bytes o₀ v [] j p h = absurd (omega arith)
-  edge-bytes o₀ v (d ∷ ds) zero p h = first-bytes v d ds (originAt es d) (p .0) (p .1)
-  edge-bytes o₀ v (d ∷ ds) (suc j) p h = rw (bases-step v d ds (originAt es d) (p .0) (p .1)) (edge-bytes o₀ (d .to) ds j (p .2) (omega arith))
+  edge-bytes even o₀ v [] j p h = absurd (omega arith)
+  edge-bytes even o₀ v (d ∷ ds) zero p h = first-bytes even v d ds (originAt es d) (p .0) (p .1)
+  edge-bytes even o₀ v (d ∷ ds) (suc j) p h = rw (bases-step v d ds (originAt es d) (p .0) (p .1)) (edge-bytes even o₀ (d .to) ds j (p .2) (omega arith))
 
 -- ---- the edges of the table
 
@@ -209,7 +209,7 @@ unfolding withSymbolic merge
 table-known i g s = all-put _ (inr refl) (λ e p. p) (all-mono (λ e h. inl h) (s .spelled))
 
 -- the sink is a vertex before the symbolic one, and its kmer is the reference's last
-sink-in : (i : Sample) (g : Graph) → Sound i g → sinkOf i g < length (g .kmers)
+pub sink-in : (i : Sample) (g : Graph) → Sound i g → sinkOf i g < length (g .kmers)
 unfolding sinkOf
 sink-in i g s = number-in (g .kmers) (lastOr [] (kmers (i .k) (i .reference))) (s .sink) (s .sink-in) (s .sink-is)
 
@@ -227,7 +227,7 @@ leaves-in i g d s (x, m, e) = go (all-mem (table-known i g s) m)
     go (inr h) = let f : d .from ≡ sinkOf i g = ap (λ (z : Ends). z .from) (sym e ∙ h) in rw f (sink-in i g s)
 
 -- so a path that ends before the symbolic vertex never enters it
-enters-in : (i : Sample) (g : Graph) (v : ℕ) (ds : List Ends) → Sound i g → Linked (withSymbolic i g) v ds → endFrom v ds < length (g .kmers)
+pub enters-in : (i : Sample) (g : Graph) (v : ℕ) (ds : List Ends) → Sound i g → Linked (withSymbolic i g) v ds → endFrom v ds < length (g .kmers)
     → All (λ d. d .to < length (g .kmers)) ds
 unfolding endFrom
 enters-in i g v [] s l h = nil
@@ -266,10 +266,10 @@ edge-spells i g d s m h = go (find (λ (x : Edge). eqEnds d (x .ends)) (withSymb
     go none u = absurd (find-has (withSymbolic i g) d m u)
     go (some x) u = let q = all-find _ (table-known i g s) u in rw (u, originAt) (known x (q .0) (q .1))
 
-spelt-path : (i : Sample) (g : Graph) (p : 1 ≤ i .k) (even : Even i) (v : ℕ) (ds : List Ends) → Sound i g → Linked (withSymbolic i g) v ds → All (λ d. d .to < length (g .kmers)) ds
-    → Spelt i (g .kmers) (withSymbolic i g) p even v ds
-spelt-path i g p even v [] s l a = tt
-spelt-path i g p even v (d ∷ ds) s l a = (edge-spells i g d s (l .0) (all-head a), l .1, spelt-path i g p even (d .to) ds s (l .2) (all-tail a))
+pub spelt-path : (i : Sample) (g : Graph) (p : 1 ≤ i .k) (v : ℕ) (ds : List Ends) → Sound i g → Linked (withSymbolic i g) v ds → All (λ d. d .to < length (g .kmers)) ds
+    → Spelt i (g .kmers) (withSymbolic i g) p v ds
+spelt-path i g p v [] s l a = tt
+spelt-path i g p v (d ∷ ds) s l a = (edge-spells i g d s (l .0) (all-head a), l .1, spelt-path i g p (d .to) ds s (l .2) (all-tail a))
 
 -- ---- rows
 
@@ -290,13 +290,13 @@ row-spelled Fine x g b c p h even s eg ee gc =
     let l : Linked (withSymbolic i g) 0 (c .edges) = rw ee at (gc .linked) in
     let z : endFrom 0 (c .edges) ≡ sinkOf i g = rw eg at (gc .atSink) in
     let n : length (getD (g .kmers) 0 []) ≡ i .k = ap length (s .source-is) ∙ length-take-le (i .k) (i .reference) h in
-    let q : Spelt i (g .kmers) (withSymbolic i g) p even 0 (c .edges) = spelt-path i g p even 0 (c .edges) s l (enters-in i g 0 (c .edges) s l (rw z (sink-in i g s))) in
+    let q : Spelt i (g .kmers) (withSymbolic i g) p 0 (c .edges) = spelt-path i g p 0 (c .edges) s l (enters-in i g 0 (c .edges) s l (rw z (sink-in i g s))) in
     rw (eg, ee)
     (record {
       bases-length = rw (length-append, n, length-map);
       origins-length = length-map (c .edges) (originAt (withSymbolic i g));
       begins = take-at (getD (g .kmers) 0 []) _ (i .k) n ∙ s .source-is;
-      finishes = path-end i (g .kmers) (withSymbolic i g) p even 0 (c .edges) q ∙ (rw (z, sink-is i g s) (kmers-last (i .k) [] (i .reference) p h));
+      finishes = path-end i (g .kmers) (withSymbolic i g) p 0 (c .edges) q ∙ (rw (z, sink-is i g s) (kmers-last (i .k) [] (i .reference) p h));
       spells = λ o₀ j w. edge-bytes i (g .kmers) (withSymbolic i g) p even o₀ 0 (c .edges) j q w .0;
       lies = λ o₀ j w. edge-bytes i (g .kmers) (withSymbolic i g) p even o₀ 0 (c .edges) j q w .1;
     })

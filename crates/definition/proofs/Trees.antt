@@ -24,9 +24,9 @@ After d bare = Unit {0}
 After d (branch e c below next) = (compareEnds d e ≡ Ordering·lt) × After d next
 
 -- the branches of a node strictly rise by their edges, and so do those of every node below
-abbrev pub Rises : Branches → Type 0
-Rises bare = Unit {0}
-Rises (branch e c below next) = After e next × Rises below × Rises next
+abbrev pub Rising : Branches → Type 0
+Rising bare = Unit {0}
+Rising (branch e c below next) = After e next × Rising below × Rising next
 
 -- every node has a count of at least 1
 abbrev pub Counted : Branches → Type 0
@@ -36,7 +36,7 @@ Counted (branch e c below next) = (1 ≤ c) × Counted below × Counted next
 -- a tree whose nodes are in order and counted, the root too
 pub record Orderly (t : Tree) : Type 0 where
   pub root : 1 ≤ t .count
-  pub rises : Rises (t .below)
+  pub rises : Rising (t .below)
   pub counted : Counted (t .below)
 
 -- the trees strictly rise by vertex, so each vertex has at most one
@@ -65,12 +65,12 @@ reach-after d e (branch f c below next) h a = go (compareEnds e f) refl (reach-a
     go Ordering·eq u ih = rw (u, reach) a
     go Ordering·gt u ih = rw (u, reach) (a .0, ih)
 
-reach-rises : (e : Ends) (b : Branches) → Rises b → Rises (reach e b)
+reach-rises : (e : Ends) (b : Branches) → Rising b → Rising (reach e b)
 unfolding reach
 reach-rises e bare r = (tt, tt, tt)
 reach-rises e (branch f c below next) r = go (compareEnds e f) refl (reach-rises e next (r .2))
   where
-    go : (o : Ordering) → compareEnds e f ≡ o → Rises (reach e next) → Rises (reach e (branch f c below next))
+    go : (o : Ordering) → compareEnds e f ≡ o → Rising (reach e next) → Rising (reach e (branch f c below next))
     go Ordering·lt u ih = rw (u, reach) ((u, after-less e f next u (r .0)), tt, r)
     go Ordering·eq u ih = rw (u, reach) r
     go Ordering·gt u ih = rw (u, reach) (reach-after f e next (ends-flip e f u) (r .0), r .1, ih)
@@ -97,14 +97,14 @@ take-after x d p e (branch f c below next) a = go (eqEnds d f) refl (take-after 
     go true u ih = rw (u, takeAt) a
     go false u ih = rw (u, takeAt) (a .0, ih)
 
-take-rises : (p : List Ends) (e : Ends) (b : Branches) → Rises b → Rises (takeAt b p e)
+take-rises : (p : List Ends) (e : Ends) (b : Branches) → Rising b → Rising (takeAt b p e)
 unfolding takeAt
 take-rises [] e bare r = reach-rises e bare r
 take-rises [] e (branch f c below next) r = reach-rises e (branch f c below next) r
 take-rises (d ∷ p) e bare r = tt
 take-rises (d ∷ p) e (branch f c below next) r = go (eqEnds d f) refl (take-rises p e below (r .1)) (take-rises (d ∷ p) e next (r .2))
   where
-    go : (z : Bool) → eqEnds d f ≡ z → Rises (takeAt below p e) → Rises (takeAt next (d ∷ p) e) → Rises (takeAt (branch f c below next) (d ∷ p) e)
+    go : (z : Bool) → eqEnds d f ≡ z → Rising (takeAt below p e) → Rising (takeAt next (d ∷ p) e) → Rising (takeAt (branch f c below next) (d ∷ p) e)
     go true u ih jh = rw (u, takeAt) (r .0, ih, r .2)
     go false u ih jh = rw (u, takeAt) (take-after f d p e next (r .0), r .1, jh)
 
@@ -313,3 +313,10 @@ trees-rise s g = evidence-order s g .rise
 
 pub trees-orderly : (s : Sample) (g : Graph) → All Orderly (evidence s g)
 trees-orderly s g = evidence-order s g .orderly
+
+-- the branches of every tree strictly rise
+abbrev pub AllRising : List Tree → Type 0
+AllRising ts = All (λ t. Rising (t .below)) ts
+
+pub evidence-rising : (s : Sample) (g : Graph) → AllRising (evidence s g)
+evidence-rising s g = all-mono (λ t o. o .rises) (trees-orderly s g)

@@ -28,10 +28,10 @@ lastOf (full s ps) = none
 abbrev pub measure : {S : Type 0} → ℕ → State S → ℕ
 measure limit s = (limit - s .pushes) + length (s .waiting) + length (s .pivotal)
 
-same-some : {A : Type 0} {a b : A} → some a ≡ some b → a ≡ b
+pub same-some : {A : Type 0} {a b : A} → some a ≡ some b → a ≡ b
 same-some e = cc
 
-no-some : {A B : Type 0} {a : A} → none ≡ some a → B
+pub no-some : {A B : Type 0} {a : A} → none ≡ some a → B
 no-some e = let z : _≡_ {A = ℕ} 0 1 = cc in absurd (omega arith)
 
 -- ---- numbers of closings

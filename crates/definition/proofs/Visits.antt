@@ -25,7 +25,7 @@ use Rattle.definition.proofs.Tables.{Unlike, unlike-number, threaded-ne
 
 -- ---- edges stay
 
-ends-same : (a b : Ends) → compareEnds a b ≡ Ordering·eq → a ≡ b
+pub ends-same : (a b : Ends) → compareEnds a b ≡ Ordering·eq → a ≡ b
 ends-same a b e = go (compare (a .from) (b .from)) refl
   where
     go : (o : Ordering) → compare (a .from) (b .from) ≡ o → a ≡ b

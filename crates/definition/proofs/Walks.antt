@@ -25,19 +25,19 @@ use Rattle.definition.proofs.Order.{Keeps}
 pub refused-ok : {A B : Type 0} {n : ℕ} {a : A} → refused n ≡ ok a → B
 refused-ok e = let z : _≡_ {A = ℕ} 0 1 = cc in absurd (omega arith)
 
-broken-made : {S B : Type 0} {n : ℕ} {s : State S} {ps : List (Path S)} → broken n ≡ made s ps → B
+pub broken-made : {S B : Type 0} {n : ℕ} {s : State S} {ps : List (Path S)} → broken n ≡ made s ps → B
 broken-made e = let z : _≡_ {A = ℕ} 0 1 = cc in absurd (omega arith)
 
-end-made : {S B : Type 0} {s : State S} {ps : List (Path S)} → atEnd ≡ made s ps → B
+pub end-made : {S B : Type 0} {s : State S} {ps : List (Path S)} → atEnd ≡ made s ps → B
 end-made e = let z : _≡_ {A = ℕ} 0 1 = cc in absurd (omega arith)
 
 pub ok-same : {A : Type 0} {a b : A} → ok a ≡ ok b → a ≡ b
 ok-same e = cc
 
-made-state : {S : Type 0} {s t : State S} {ps qs : List (Path S)} → made s ps ≡ made t qs → s ≡ t
+pub made-state : {S : Type 0} {s t : State S} {ps qs : List (Path S)} → made s ps ≡ made t qs → s ≡ t
 made-state e = cc
 
-made-paths : {S : Type 0} {s t : State S} {ps qs : List (Path S)} → made s ps ≡ made t qs → ps ≡ qs
+pub made-paths : {S : Type 0} {s t : State S} {ps qs : List (Path S)} → made s ps ≡ made t qs → ps ≡ qs
 made-paths e = cc
 
 pub and-then-ok : {A B : Type 0} (r : Result A) (g : A → Result B) (b : B) → andThen r g ≡ ok b → (a : A) × (r ≡ ok a) × (g a ≡ ok b)
@@ -270,7 +270,7 @@ unfolding crossOff
 length-crossOff [] ps = omega arith
 length-crossOff (e ∷ es) ps = omega (arith, length-crossOff es (dropFirst (eqEnds e) ps), length-dropFirst (eqEnds e) ps)
 
-all-dropFirst : {A : Type 0} {P : A → Type 0} (t : A → Bool) {xs : List A} → All P xs → All P (dropFirst t xs)
+pub all-dropFirst : {A : Type 0} {P : A → Type 0} (t : A → Bool) {xs : List A} → All P xs → All P (dropFirst t xs)
 all-dropFirst t nil = nil
 all-dropFirst {A} {P} t (cons {x = x} {xs = xs} p a) = go (t x) refl (all-dropFirst t a)
   where
@@ -278,7 +278,7 @@ all-dropFirst {A} {P} t (cons {x = x} {xs = xs} p a) = go (t x) refl (all-dropFi
     go true e ih = rw (e, dropFirst) a
     go false e ih = rw (e, dropFirst) (cons p ih)
 
-all-crossOff : {P : Ends → Type 0} (es : List Ends) {ps : List Ends} → All P ps → All P (crossOff es ps)
+pub all-crossOff : {P : Ends → Type 0} (es : List Ends) {ps : List Ends} → All P ps → All P (crossOff es ps)
 unfolding crossOff
 all-crossOff [] a = a
 all-crossOff (e ∷ es) a = all-crossOff es (all-dropFirst (eqEnds e) a)

@@ -1,11 +1,13 @@
 -- Laws of lists and of the functions of Lists: what holds of every element, membership, keeping, finding.
 use mathlib.Core.Path.{_≡_, refl, sym, ap, subst, _∙_}
-use Prim.Native.Nat.{ℕ, _+_, _≤_}
+use mathlib.Core.Logic.{_⊎_, inl, inr}
+use Prim.Native.Nat.{ℕ, suc, _+_, _≤_}
 use native.Mathlib.Omega.{arith}
 use mathlib.Core.Bool.{Bool, true, false, _&&_, _||_, cond}
 use mathlib.Core.List.{List, [], _∷_, _++_, map}
 use mathlib.Core.Option.{Option, none, some}
 use lib.Dec.{T}
+use lib.ListN.{length}
 use Rattle.laws.specs.Lists.{keep, find, findLast, sole, total}
 
 -- ---- Booleans
@@ -188,3 +190,139 @@ module _ {A : Type 0} (f : A → ℕ) where
   pub all-total : (xs : List A) → All (λ x. f x ≤ total f xs) xs
   all-total [] = nil
   all-total (x ∷ xs) = cons {x = x} (omega arith) (all-mono (λ y h. (let k : f y ≤ total f xs = h in omega arith)) (all-total xs))
+
+-- ---- every two elements
+
+-- R holds of each element and every one after it
+pub data Pairwise {A : Type 0} (R : A → A → Type 0) : List A → Type 0 where
+  empty : Pairwise R []
+  first : {x : A} {xs : List A} → All (R x) xs → Pairwise R xs → Pairwise R (x ∷ xs)
+
+module _ {A : Type 0} where
+  pub pairwise-head : {R : A → A → Type 0} {x : A} {xs : List A} → Pairwise R (x ∷ xs) → All (R x) xs
+  pairwise-head (first a p) = a
+
+  pub pairwise-tail : {R : A → A → Type 0} {x : A} {xs : List A} → Pairwise R (x ∷ xs) → Pairwise R xs
+  pairwise-tail (first a p) = p
+
+  pub pairwise-mono : {R Q : A → A → Type 0} {xs : List A} → ((x y : A) → R x y → Q x y) → Pairwise R xs → Pairwise Q xs
+  pairwise-mono h empty = empty
+  pairwise-mono h (first {x = x} a p) = first (all-mono (h x) a) (pairwise-mono h p)
+
+  pub pairwise-append : {R : A → A → Type 0} {xs ys : List A} → Pairwise R xs → Pairwise R ys → All (λ x. All (R x) ys) xs → Pairwise R (xs ++ ys)
+  pairwise-append empty q h = q
+  pairwise-append (first a p) q h = first (all-append a (all-head h)) (pairwise-append p q (all-tail h))
+
+  pub pairwise-keep : {R : A → A → Type 0} (t : A → Bool) {xs : List A} → Pairwise R xs → Pairwise R (keep t xs)
+  pairwise-keep t empty = empty
+  pairwise-keep {R} t (first {x = x} {xs = xs} a p) = go (t x) refl (pairwise-keep t p)
+    where
+      go : (b : Bool) → t x ≡ b → Pairwise R (keep t xs) → Pairwise R (keep t (x ∷ xs))
+      go true e ih = rw e (first (all-keep t a) ih)
+      go false e ih = rw e ih
+
+pub pairwise-map : {A B : Type 0} {R : A → A → Type 0} {Q : B → B → Type 0} (f : A → B) {xs : List A} → ((x y : A) → R x y → Q (f x) (f y)) → Pairwise R xs
+    → Pairwise Q (map f xs)
+pairwise-map f h empty = empty
+pairwise-map f h (first {x = x} a p) = first (all-map f (h x) a) (pairwise-map f h p)
+
+module _ {A : Type 0} where
+  -- every two elements have what each of them has
+  pub pairwise-all : {P : A → Type 0} {R : A → A → Type 0} {xs : List A} → All P xs → Pairwise R xs → Pairwise (λ x y. P x × P y × R x y) xs
+  pairwise-all h empty = empty
+  pairwise-all h (first a p) = first (all-mono (λ y w. (all-head h, w .0, w .1)) (all-zip (all-tail h) a)) (pairwise-all (all-tail h) p)
+
+  -- ---- a list of different elements is no longer than one that holds them all
+
+  without : {a : A} {ys : List A} → Mem a ys → List A
+  without (here {xs = ys} e) = ys
+  without (there {x = y} m) = y ∷ without m
+
+  length-without : {a : A} {ys : List A} (m : Mem a ys) → suc (length (without m)) ≡ length ys
+  unfolding without
+  length-without (here e) = refl
+  length-without (there m) = ap suc (length-without m)
+
+  mem-without : {a b : A} {ys : List A} (m : Mem a ys) → (a ≡ b → ⊥) → Mem b ys → Mem b (without m)
+  unfolding without
+  mem-without (here e) d (here f) = absurd (d (e ∙ sym f))
+  mem-without (here e) d (there n) = n
+  mem-without (there m) d (here f) = here f
+  mem-without (there m) d (there n) = there (mem-without m d n)
+
+  pub pigeonhole : {xs ys : List A} → Pairwise (λ x y. x ≡ y → ⊥) xs → All (λ x. Mem x ys) xs → length xs ≤ length ys
+  pigeonhole empty h = omega arith
+  pigeonhole (first {x = x} {xs = xs} a p) h =
+      let l = length-without (all-head h) in
+      let r : length xs ≤ length (without (all-head h)) = pigeonhole p (all-mono (λ y w. mem-without (all-head h) (w .0) (w .1)) (all-zip a (all-tail h))) in
+      omega arith
+
+-- ---- a list that begins another
+
+module _ {A : Type 0} where
+  abbrev pub Begins : List A → List A → Type 0
+  Begins [] ys = Unit {0}
+  Begins (x ∷ xs) [] = ⊥
+  Begins (x ∷ xs) (y ∷ ys) = (x ≡ y) × Begins xs ys
+
+  pub begins-append : (xs ys : List A) → Begins xs (xs ++ ys)
+  begins-append [] ys = tt
+  begins-append (x ∷ xs) ys = (refl, begins-append xs ys)
+
+  pub begins-front : (xs ys zs : List A) → Begins (xs ++ ys) zs → Begins xs zs
+  begins-front [] ys zs b = tt
+  begins-front (x ∷ xs) ys [] b = b
+  begins-front (x ∷ xs) ys (z ∷ zs) b = (b .0, begins-front xs ys zs (b .1))
+
+  -- of two lists that begin a third, one begins the other
+  pub begins-both : (xs ys zs : List A) → Begins xs zs → Begins ys zs → Begins xs ys ⊎ Begins ys xs
+  begins-both [] ys zs a b = inl tt
+  begins-both (x ∷ xs) [] zs a b = inr tt
+  begins-both (x ∷ xs) (y ∷ ys) [] a b = absurd a
+  begins-both (x ∷ xs) (y ∷ ys) (z ∷ zs) a b = go (begins-both xs ys zs (a .1) (b .1))
+    where
+      go : Begins xs ys ⊎ Begins ys xs → Begins (x ∷ xs) (y ∷ ys) ⊎ Begins (y ∷ ys) (x ∷ xs)
+      go (inl c) = inl (a .0 ∙ sym (b .0), c)
+      go (inr c) = inr (b .0 ∙ sym (a .0), c)
+
+  -- one element more does not begin the list without it
+  pub begins-longer : (xs : List A) (y : A) → Begins (xs ++ y ∷ []) xs → ⊥
+  begins-longer [] y b = b
+  begins-longer (x ∷ xs) y b = begins-longer xs y (b .1)
+
+  -- with one element more each, only if that is the same
+  pub begins-last : (xs : List A) (y z : A) → Begins (xs ++ y ∷ []) (xs ++ z ∷ []) → y ≡ z
+  begins-last [] y z b = b .0
+  begins-last (x ∷ xs) y z b = begins-last xs y z (b .1)
+
+  pub begins-mem : {a : A} (xs ys : List A) → Begins xs ys → Mem a xs → Mem a ys
+  begins-mem [] ys b m = elim m [ ]
+  begins-mem (x ∷ xs) [] b m = absurd b
+  begins-mem {a} (x ∷ xs) (y ∷ ys) b m = go m (λ k. begins-mem xs ys (b .1) k)
+    where
+      go : Mem a (x ∷ xs) → (Mem a xs → Mem a ys) → Mem a (y ∷ ys)
+      go (here e) ih = here (e ∙ b .0)
+      go (there k) ih = there (ih k)
+
+  -- an element of two lists one after the other is in one of them
+  pub mem-append : {a : A} (xs ys : List A) → Mem a (xs ++ ys) → Mem a xs ⊎ Mem a ys
+  mem-append [] ys m = inr m
+  mem-append {a} (x ∷ xs) ys m = go m (λ k. mem-append xs ys k)
+    where
+      go : Mem a (x ∷ (xs ++ ys)) → (Mem a (xs ++ ys) → Mem a xs ⊎ Mem a ys) → Mem a (x ∷ xs) ⊎ Mem a ys
+      go (here e) ih = inl (here e)
+      go (there k) ih = on (ih k)
+        where
+          on : Mem a xs ⊎ Mem a ys → Mem a (x ∷ xs) ⊎ Mem a ys
+          on (inl w) = inl (there w)
+          on (inr w) = inr w
+
+module _ {A : Type 0} where
+  pub pairwise-zip : {R Q : A → A → Type 0} {xs : List A} → Pairwise R xs → Pairwise Q xs → Pairwise (λ x y. R x y × Q x y) xs
+  pairwise-zip empty q = empty
+  pairwise-zip (first a p) q = first (all-zip a (pairwise-head q)) (pairwise-zip p (pairwise-tail q))
+
+  -- what follows the same front is the same
+  pub append-rest : (xs ys zs : List A) → xs ++ ys ≡ xs ++ zs → ys ≡ zs
+  append-rest [] ys zs e = e
+  append-rest (x ∷ xs) ys zs e = append-rest xs ys zs (let h : xs ++ ys ≡ xs ++ zs = cc in h)
