@@ -8,7 +8,7 @@ use mathlib.Core.List.{List, [], _∷_, _++_, map, append-nil, append-assoc}
 use mathlib.Core.Option.{Option, none, some}
 use lib.Dec.{leb}
 use lib.ListN.{length, take, drop, getD, length-append, length-map, length-take, length-drop}
-use lib.Seq.{drop-drop, length-take-le, take-at, take-take}
+use lib.Seq.{drop-drop, length-take-le, take-all, take-at, take-take}
 use borrow.Author.Tests.{le-leb, leb-true}
 use Rattle.laws.specs.Lists.{find, lastOr}
 use Rattle.laws.specs.ListLaws.{clash, and-left, and-right, All, nil, cons, Mem, here, there, all-head, all-tail, all-mono, all-map, all-mem, all-find}
@@ -233,6 +233,29 @@ unfolding endFrom
 enters-in i g v [] s l h = nil
 enters-in i g v (d ∷ []) s l h = cons h nil
 enters-in i g v (d ∷ e ∷ ds) s l h = cons {x = d} (rw (← (l .2 .1)) (leaves-in i g e s (l .2 .0))) (enters-in i g (d .to) (e ∷ ds) s (l .2) h)
+
+-- Every edge but the symbolic one spells: the k + 1 bytes at its origin are its left kmer and the last base of its right one, and they lie in the
+-- reference or inside one usable stretch of the read named.
+pub edges-spelled : (i : Sample) → 1 ≤ i .k → i .k ≤ length (i .reference) → length (i .qualities) ≡ length (i .bases)
+    → All (λ e. (bytesAt i (e .origin) ≡ ok (getD (threaded i .kmers) (e .ends .from) [] ++ (lastBase (threaded i .kmers) (e .ends .to) ∷ []))) × Lies i (e .origin)) (threaded i .edges)
+edges-spelled i p h even = all-mono one (threaded-sound i p h .spelled)
+  where
+    ks : List (List ℕ)
+    ks = threaded i .kmers
+
+    -- the left kmer has k bases
+    long : (e : Edge) (s : SpellsOn (RunOf i) (i .k) ks e) → length (getD ks (e .ends .from) [] ++ (lastBase ks (e .ends .to) ∷ [])) ≡ suc (i .k)
+    long e s =
+        let w = open-edge i ks [] p (e .ends) (e .origin) s in
+        let l : i .k ≤ length (w .rest) = w .long in
+        let n : length (getD ks (e .ends .from) []) ≡ i .k = ap length (w .left) ∙ length-take-le (i .k) (w .first ∷ w .rest) (omega arith) in
+        length-append (getD ks (e .ends .from) []) (lastBase ks (e .ends .to) ∷ []) ∙ (omega arith)
+
+    one : (e : Edge) → SpellsOn (RunOf i) (i .k) ks e
+        → (bytesAt i (e .origin) ≡ ok (getD ks (e .ends .from) [] ++ (lastBase ks (e .ends .to) ∷ []))) × Lies i (e .origin)
+    one e s =
+        let q = first-bytes i ks [] p even (e .ends .from) (e .ends) [] (e .origin) s refl in
+        (q .0 ∙ ap ok (take-all (suc (i .k)) (getD ks (e .ends .from) [] ++ (lastBase ks (e .ends .to) ∷ [])) (let z = long e s in omega arith)), q .1)
 
 -- The edges of a closed path are no symbolic edge.
 pub no-symbolic : (i : Sample) (g : Graph) (v : ℕ) (ds : List Ends) → Sound i g → Linked (withSymbolic i g) v ds → endFrom v ds ≡ sinkOf i g
