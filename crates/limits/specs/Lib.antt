@@ -1,0 +1,4 @@
+pub mod Handed
+pub mod Tests
+pub mod Loops
+pub mod Rules

@@ -1,0 +1,53 @@
+-- Rules in order: laws of `firstBroken`, for a call that tests one rule after the other.
+use mathlib.Core.Path.{_≡_, refl, sym, ap, _∙_}
+use Prim.Native.Nat.{ℕ, zero, suc, _<_, _≤_}
+use native.Mathlib.Omega.{arith}
+use mathlib.Core.Bool.{Bool, true, false, not, _&&_}
+use mathlib.Core.List.{List, [], _∷_, _++_}
+use borrow.Author.Tests.{not-true, not-false}
+use Rattle.definition.specs.Refusal.{Rule, firstBroken}
+use Rattle.definition.specs.Limits.{kFits, referenceFits, referenceBases}
+
+abbrev pub rule : ℕ → Bool → Rule
+rule n b = record { number = n; holds = b }
+
+-- 1 to 3
+unfoldable pub referenceRules : ℕ → List ℕ → List Rule
+referenceRules k reference = rule 1 (kFits k) ∷ rule 2 (referenceFits k reference) ∷ rule 3 (referenceBases reference) ∷ []
+
+pub all-hold : 0 ≡ firstBroken []
+unfolding firstBroken
+all-hold = refl
+
+module _ (n : ℕ) (b : Bool) (rs : List Rule) where
+  pub broken : b ≡ false → n ≡ firstBroken (rule n b ∷ rs)
+  unfolding firstBroken
+  broken h = rw (h, firstBroken)
+
+  pub holds : b ≡ true → firstBroken rs ≡ firstBroken (rule n b ∷ rs)
+  unfolding firstBroken
+  holds h = rw (h, firstBroken)
+
+-- no rule has the number 0, which says that all hold
+abbrev pub Numbered : List Rule → Type 0
+Numbered [] = Unit {0}
+Numbered (r ∷ rs) = (0 < r .number) × Numbered rs
+
+-- n is what the code's check of the first rules answered
+pub first-broken : (xs ys : List Rule) (n : ℕ) → n ≡ firstBroken xs → 0 < n → n ≡ firstBroken (xs ++ ys)
+unfolding firstBroken
+first-broken [] ys n e h = absurd (omega arith)
+first-broken (r ∷ rs) ys n e h = go (r .holds) refl (λ k. first-broken rs ys n k h)
+  where
+    go : (b : Bool) → r .holds ≡ b → (n ≡ firstBroken rs → n ≡ firstBroken (rs ++ ys)) → n ≡ firstBroken (r ∷ (rs ++ ys))
+    go true f ih = rw (f, firstBroken) (ih (rw (f, firstBroken) at e))
+    go false f ih = rw (f, firstBroken) (rw (f, firstBroken) at e)
+
+pub first-hold : (xs ys : List Rule) (n : ℕ) → Numbered xs → n ≡ firstBroken xs → n ≤ 0 → firstBroken ys ≡ firstBroken (xs ++ ys)
+unfolding firstBroken
+first-hold [] ys n d e h = refl
+first-hold (r ∷ rs) ys n d e h = go (r .holds) refl (λ k. first-hold rs ys n (d .1) k h)
+  where
+    go : (b : Bool) → r .holds ≡ b → (n ≡ firstBroken rs → firstBroken ys ≡ firstBroken (rs ++ ys)) → firstBroken ys ≡ firstBroken (r ∷ (rs ++ ys))
+    go true f ih = rw (f, firstBroken) (ih (rw (f, firstBroken) at e))
+    go false f ih = let z : n ≡ r .number = rw (f, firstBroken) at e in let y : 0 < r .number = d .0 in absurd (omega arith)
