@@ -2,11 +2,12 @@
 use mathlib.Core.Path.{_≡_, refl, sym, ap, _∙_}
 use Prim.Native.Nat.{ℕ, zero, suc, _<_, _≤_}
 use native.Mathlib.Omega.{arith}
-use mathlib.Core.Bool.{Bool, true, false, not, _&&_}
+use mathlib.Core.Bool.{Bool, true, false, _&&_}
 use mathlib.Core.List.{List, [], _∷_, _++_}
-use borrow.Author.Tests.{not-true, not-false}
+use lib.Dec.{eqb}
+use lib.ListN.{length}
 use Rattle.definition.specs.Refusal.{Rule, firstBroken}
-use Rattle.definition.specs.Limits.{kFits, referenceFits, referenceBases}
+use Rattle.definition.specs.Limits.{Sample, GraphMaxima, SearchMaxima, Input, kFits, referenceFits, referenceBases, endsFit, readsFit, graphMaximaFit, settingsFit, columnFits, longEnough, originRules, sampleRules, graphRules, listRules}
 
 abbrev pub rule : ℕ → Bool → Rule
 rule n b = record { number = n; holds = b }
@@ -51,3 +52,33 @@ first-hold (r ∷ rs) ys n d e h = go (r .holds) refl (λ k. first-hold rs ys n 
     go : (b : Bool) → r .holds ≡ b → (n ≡ firstBroken rs → firstBroken ys ≡ firstBroken (rs ++ ys)) → firstBroken ys ≡ firstBroken (r ∷ (rs ++ ys))
     go true f ih = rw (f, firstBroken) (ih (rw (f, firstBroken) at e))
     go false f ih = let z : n ≡ r .number = rw (f, firstBroken) at e in let y : 0 < r .number = d .0 in absurd (omega arith)
+
+-- ---- the rules of each call, parted as the code checks them
+
+pub reference-numbered : (k : ℕ) (reference : List ℕ) → Numbered (referenceRules k reference)
+unfolding referenceRules
+reference-numbered k reference = (omega arith, (omega arith, (omega arith, tt)))
+
+pub sample-numbered : (s : Sample) → Numbered (sampleRules s)
+unfolding sampleRules
+sample-numbered s = (omega arith, (omega arith, (omega arith, (omega arith, tt))))
+
+pub origin-parts : (k : ℕ) (reference ends bases : List ℕ)
+    → firstBroken (referenceRules k reference ++ (rule 4 (endsFit ends bases) ∷ [])) ≡ firstBroken (originRules k reference ends bases)
+unfolding referenceRules originRules
+origin-parts k reference ends bases = refl
+
+pub sample-parts : (s : Sample)
+    → firstBroken (referenceRules (s .k) (s .reference) ++ (rule 4 (endsFit (s .ends) (s .bases) && eqb (length (s .qualities)) (length (s .bases))) ∷ [])) ≡ firstBroken (sampleRules s)
+unfolding referenceRules sampleRules readsFit
+sample-parts s = refl
+
+pub graph-rules : (s : Sample) (m : GraphMaxima) (told lent : List ℕ)
+    → firstBroken (sampleRules s ++ (rule 5 (graphMaximaFit m) ∷ rule 7 (longEnough told lent) ∷ [])) ≡ firstBroken (graphRules s m told lent)
+unfolding graphRules
+graph-rules s m told lent = refl
+
+pub list-rules : (i : Input) (told lent : List ℕ)
+    → firstBroken (sampleRules (i .sample) ++ (rule 5 (settingsFit (i .asked) (i .graphMaxima) (i .searchMaxima)) ∷ rule 6 (columnFits (i .column)) ∷ rule 7 (longEnough told lent) ∷ [])) ≡ firstBroken (listRules i told lent)
+unfolding listRules
+list-rules i told lent = refl

@@ -78,3 +78,16 @@ pub settings-parts : (asked : ℕ) (g : GraphMaxima) (s : SearchMaxima)
     → both (leb asked 128) (both (graphMaximaFit g) (searchMaximaFit s)) ≡ settingsFit asked g s
 unfolding settingsFit
 settings-parts asked g s = regroup (leb asked 128) (graphMaximaFit g) (searchMaximaFit s)
+
+pub reads-parts : (ends bases qualities : List ℕ)
+    → both (endsFit ends bases) (eqb (length qualities) (length bases)) ≡ (endsFit ends bases && eqb (length qualities) (length bases))
+unfolding both
+reads-parts ends bases qualities = refl
+
+-- `last` is what the code found for m
+module _ (last m n : ℕ) (e : last ≡ m) where
+  pub differs : (last ≡ n → ⊥) → eqb m n ≡ false
+  differs h = ne-eqb m n (λ k. h (e ∙ k))
+
+  pub agrees : last ≡ n → eqb m n ≡ true
+  agrees h = eq-eqb m n (sym e ∙ h)

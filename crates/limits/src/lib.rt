@@ -206,7 +206,15 @@ pub fn check_sample(k: u32, reference: &[u8], ends: &[u32], bases: &[u8], qualit
 }
 
 // 1 to 7 of the call for edges and trees, which is given no column; `long_enough` says that no lent slice is shorter than told.
-pub fn check_graph(k: u32, reference: &[u8], ends: &[u32], bases: &[u8], qualities: &[u8], g: GraphMaxima, long_enough: bool) -> u32
+pub fn check_graph(
+    k: u32,
+    reference: &[u8],
+    ends: &[u32],
+    bases: &[u8],
+    qualities: &[u8],
+    g: GraphMaxima,
+    long_enough: bool,
+) -> u32
     ensures { λ r. ⌜ ((quality : ℕ) (told lent : List ℕ) → longEnough told lent ≡ «long_enough» → r ≡ firstBroken (graphRules (sampleOf k quality (now (reference .entry)) (now (ends .entry)) (now (bases .entry)) (now (qualities .entry))) (graphMaximaOf g) told lent)) ⌝ }
 {
     let refusal = check_sample(k, reference, ends, bases, qualities);
@@ -223,7 +231,18 @@ pub fn check_graph(k: u32, reference: &[u8], ends: &[u32], bases: &[u8], qualiti
 }
 
 // 1 to 7 of the call for the list; neither the threshold nor recovery has a limit.
-pub fn check_list(k: u32, reference: &[u8], ends: &[u32], bases: &[u8], qualities: &[u8], asked: u32, g: GraphMaxima, s: SearchMaxima, column: &[f64], long_enough: bool) -> u32
+pub fn check_list(
+    k: u32,
+    reference: &[u8],
+    ends: &[u32],
+    bases: &[u8],
+    qualities: &[u8],
+    asked: u32,
+    g: GraphMaxima,
+    s: SearchMaxima,
+    column: &[f64],
+    long_enough: bool,
+) -> u32
     ensures { λ r. ⌜ ((quality : ℕ) (threshold : ℤ) (recovery : Bool) (told lent : List ℕ) → longEnough told lent ≡ «long_enough» → r ≡ firstBroken (listRules (inputOf (sampleOf k quality (now (reference .entry)) (now (ends .entry)) (now (bases .entry)) (now (qualities .entry))) asked threshold recovery (graphMaximaOf g) (searchMaximaOf s) (now (column .entry))) told lent)) ⌝ }
 {
     let refusal = check_sample(k, reference, ends, bases, qualities);

@@ -1,34 +1,43 @@
-use borrow.Author.Needs.{needs}
+-- `check_graph` meets its contract: the rules of the sample, then 5 and 7. Assumes nothing.
+use mathlib.Core.Path.{_∙_}
+use Rattle.limits.specs.Tests.{told-no, told-yes}
+use mathlib.Core.Path.{sym}
+use Rattle.limits.specs.Rules.{all-hold, broken, holds, first-broken, first-hold, sample-numbered, graph-rules}
+use Rattle.limits.specs.Handed.{sampleOf, graphMaximaOf}
 use Rattle.limits.proofs.check_graph.Statement.{statement}
 use Rattle.limits.proofs.check_graph.Tie as tie
-use Rattle.limits.proofs.check_graph.Reads as reads
-use Rattle.limits.proofs.check_graph.Lts as lts
-use Rattle.limits.proofs.check_sample.Reads as check-sample-reads
-use Rattle.limits.proofs.graph_maxima_fit.Reads as graph-maxima-fit-reads
 
--- src/lib.rt:212:9
 check-sample-requires : tie.Need-check-sample-requires
-check-sample-requires c κs = search needs
+check-sample-requires c κs = tt
 
--- src/lib.rt:214:9
 returns : tie.Need-returns
-returns c = ?
+returns c =
+    λ q told lent e. first-broken _ _ _ (c .before .check-sample .ensures q) (c .if1 .taken)
+    ∙ graph-rules (sampleOf (c .before .before .before .before .before .before .args .k) q (c .before .before .before .before .before .before .args .reference .now) (c .before .before .before .before .before .before .args .ends .now) (c .before .before .before .before .before .before .args .bases .now) (c .before .before .before .before .before .before .args .qualities .now)) _ told lent
 
--- src/lib.rt:216:9
 graph-maxima-fit-requires : tie.Need-graph-maxima-fit-requires
-graph-maxima-fit-requires c κs = search needs
+graph-maxima-fit-requires c κs = tt
 
--- src/lib.rt:217:9
 returns-2 : tie.Need-returns-2
-returns-2 c = ?
+returns-2 c =
+    λ q told lent e. broken _ _ _ (told-no _ _ (c .before .graph-maxima-fit .ensures) (c .if2 .taken))
+    ∙ first-hold _ _ _ (sample-numbered (sampleOf (c .before .before .before .before .before .before .before .before .args .k) q (c .before .before .before .before .before .before .before .before .args .reference .now) (c .before .before .before .before .before .before .before .before .args .ends .now) (c .before .before .before .before .before .before .before .before .args .bases .now) (c .before .before .before .before .before .before .before .before .args .qualities .now))) (c .before .before .before .check-sample .ensures q) (c .before .before .if1 .left)
+    ∙ graph-rules (sampleOf (c .before .before .before .before .before .before .before .before .args .k) q (c .before .before .before .before .before .before .before .before .args .reference .now) (c .before .before .before .before .before .before .before .before .args .ends .now) (c .before .before .before .before .before .before .before .before .args .bases .now) (c .before .before .before .before .before .before .before .before .args .qualities .now)) _ told lent
 
--- src/lib.rt:220:9
 returns-3 : tie.Need-returns-3
-returns-3 c = ?
+returns-3 c =
+    λ q told lent e. broken _ _ _ (told-no _ _ (sym e) (c .if3 .taken))
+    ∙ holds _ _ _ (told-yes _ _ (c .before .before .graph-maxima-fit .ensures) (c .before .if2 .left))
+    ∙ first-hold _ _ _ (sample-numbered (sampleOf (c .before .before .before .before .before .before .before .before .before .args .k) q (c .before .before .before .before .before .before .before .before .before .args .reference .now) (c .before .before .before .before .before .before .before .before .before .args .ends .now) (c .before .before .before .before .before .before .before .before .before .args .bases .now) (c .before .before .before .before .before .before .before .before .before .args .qualities .now))) (c .before .before .before .before .check-sample .ensures q) (c .before .before .before .if1 .left)
+    ∙ graph-rules (sampleOf (c .before .before .before .before .before .before .before .before .before .args .k) q (c .before .before .before .before .before .before .before .before .before .args .reference .now) (c .before .before .before .before .before .before .before .before .before .args .ends .now) (c .before .before .before .before .before .before .before .before .before .args .bases .now) (c .before .before .before .before .before .before .before .before .before .args .qualities .now)) _ told lent
 
--- src/lib.rt:209:1
 returns-4 : tie.Need-returns-4
-returns-4 c = ?
+returns-4 c =
+    λ q told lent e. all-hold
+    ∙ holds _ _ _ (told-yes _ _ (sym e) (c .if3 .left))
+    ∙ holds _ _ _ (told-yes _ _ (c .before .before .graph-maxima-fit .ensures) (c .before .if2 .left))
+    ∙ first-hold _ _ _ (sample-numbered (sampleOf (c .before .before .before .before .before .before .before .before .before .args .k) q (c .before .before .before .before .before .before .before .before .before .args .reference .now) (c .before .before .before .before .before .before .before .before .before .args .ends .now) (c .before .before .before .before .before .before .before .before .before .args .bases .now) (c .before .before .before .before .before .before .before .before .before .args .qualities .now))) (c .before .before .before .before .check-sample .ensures q) (c .before .before .before .if1 .left)
+    ∙ graph-rules (sampleOf (c .before .before .before .before .before .before .before .before .before .args .k) q (c .before .before .before .before .before .before .before .before .before .args .reference .now) (c .before .before .before .before .before .before .before .before .before .args .ends .now) (c .before .before .before .before .before .before .before .before .before .args .bases .now) (c .before .before .before .before .before .before .before .before .before .args .qualities .now)) _ told lent
 
 pub check-graph-spec : {M : Type 1} → statement M
 check-graph-spec =

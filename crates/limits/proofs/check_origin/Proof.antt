@@ -1,31 +1,40 @@
-use borrow.Author.Needs.{needs}
+-- `check_origin` meets its contract: the rules of the reference, then the reads'. Assumes nothing.
+use mathlib.Core.Path.{_∙_}
+use Rattle.limits.specs.Tests.{told-no, told-yes}
+use Rattle.limits.specs.Rules.{all-hold, broken, holds, first-broken, first-hold, reference-numbered, origin-parts}
 use Rattle.limits.proofs.check_origin.Statement.{statement}
 use Rattle.limits.proofs.check_origin.Tie as tie
-use Rattle.limits.proofs.check_origin.Reads as reads
-use Rattle.limits.proofs.check_origin.Lts as lts
-use Rattle.limits.proofs.check_reference.Reads as check-reference-reads
-use Rattle.limits.proofs.ends_fit.Reads as ends-fit-reads
 
--- src/lib.rt:184:9
 check-reference-requires : tie.Need-check-reference-requires
-check-reference-requires c κs = search needs
+check-reference-requires c κs = tt
 
--- src/lib.rt:186:9
 returns : tie.Need-returns
-returns c = ?
+returns c =
+    first-broken _ _ _ (c .before .check-reference .ensures) (c .if1 .taken)
+    ∙ origin-parts _ _ _ _
 
--- src/lib.rt:188:9
 ends-fit-requires : tie.Need-ends-fit-requires
-ends-fit-requires c κs = search needs
+ends-fit-requires c κs = tt
 
--- src/lib.rt:189:9
 returns-2 : tie.Need-returns-2
-returns-2 c = ?
+returns-2 c =
+    broken _ _ _ (told-no _ _ (c .before .ends-fit .ensures) (c .if2 .taken))
+    ∙ first-hold _ _ _ (reference-numbered _ _) (c .before .before .before .check-reference .ensures) (c .before .before .if1 .left)
+    ∙ origin-parts _ _ _ _
 
--- src/lib.rt:181:1
 returns-3 : tie.Need-returns-3
-returns-3 c = ?
+returns-3 c =
+    all-hold
+    ∙ holds _ _ _ (told-yes _ _ (c .before .ends-fit .ensures) (c .if2 .left))
+    ∙ first-hold _ _ _ (reference-numbered _ _) (c .before .before .before .check-reference .ensures) (c .before .before .if1 .left)
+    ∙ origin-parts _ _ _ _
 
 pub check-origin-spec : {M : Type 1} → statement M
 check-origin-spec =
-    tie.close (tie.spec check-reference-requires returns ends-fit-requires returns-2 returns-3)
+    tie.close
+    (tie.spec
+    check-reference-requires
+    returns
+    ends-fit-requires
+    returns-2
+    returns-3)

@@ -1,39 +1,43 @@
-use borrow.Author.Needs.{needs}
+-- `check_reference` meets its contract: the rules in their order. Assumes nothing.
+use mathlib.Core.Path.{_∙_}
+use Rattle.limits.specs.Tests.{told-no, told-yes}
+use Rattle.limits.specs.Rules.{referenceRules, all-hold, broken, holds}
 use Rattle.limits.proofs.check_reference.Statement.{statement}
 use Rattle.limits.proofs.check_reference.Tie as tie
-use Rattle.limits.proofs.check_reference.Reads as reads
-use Rattle.limits.proofs.check_reference.Lts as lts
-use Rattle.bio_ids.proofs.k_fits.Reads as k-fits-reads
-use Rattle.limits.proofs.reference_bases.Reads as reference-bases-reads
-use Rattle.limits.proofs.reference_fits.Reads as reference-fits-reads
 
--- src/lib.rt:168:9
 k-fits-requires : tie.Need-k-fits-requires
-k-fits-requires c κs = search needs
+k-fits-requires c κs = tt
 
--- src/lib.rt:169:9
 returns : tie.Need-returns
-returns c = ?
+unfolding referenceRules
+returns c = broken _ _ _ (told-no _ _ (c .before .k-fits .ensures) (c .if1 .taken))
 
--- src/lib.rt:171:9
 reference-fits-requires : tie.Need-reference-fits-requires
-reference-fits-requires c κs = search needs
+reference-fits-requires c κs = tt
 
--- src/lib.rt:172:9
 returns-2 : tie.Need-returns-2
-returns-2 c = ?
+unfolding referenceRules
+returns-2 c =
+    broken _ _ _ (told-no _ _ (c .before .reference-fits .ensures) (c .if2 .taken))
+    ∙ holds _ _ _ (told-yes _ _ (c .before .before .before .k-fits .ensures) (c .before .before .if1 .left))
 
--- src/lib.rt:174:9
 reference-bases-requires : tie.Need-reference-bases-requires
-reference-bases-requires c κs = search needs
+reference-bases-requires c κs = tt
 
--- src/lib.rt:175:9
 returns-3 : tie.Need-returns-3
-returns-3 c = ?
+unfolding referenceRules
+returns-3 c =
+    broken _ _ _ (told-no _ _ (c .before .reference-bases .ensures) (c .if3 .taken))
+    ∙ holds _ _ _ (told-yes _ _ (c .before .before .before .reference-fits .ensures) (c .before .before .if2 .left))
+    ∙ holds _ _ _ (told-yes _ _ (c .before .before .before .before .before .k-fits .ensures) (c .before .before .before .before .if1 .left))
 
--- src/lib.rt:165:1
 returns-4 : tie.Need-returns-4
-returns-4 c = ?
+unfolding referenceRules
+returns-4 c =
+    all-hold
+    ∙ holds _ _ _ (told-yes _ _ (c .before .reference-bases .ensures) (c .if3 .left))
+    ∙ holds _ _ _ (told-yes _ _ (c .before .before .before .reference-fits .ensures) (c .before .before .if2 .left))
+    ∙ holds _ _ _ (told-yes _ _ (c .before .before .before .before .before .k-fits .ensures) (c .before .before .before .before .if1 .left))
 
 pub check-reference-spec : {M : Type 1} → statement M
 check-reference-spec =

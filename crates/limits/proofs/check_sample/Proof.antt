@@ -1,31 +1,41 @@
-use borrow.Author.Needs.{needs}
+-- `check_sample` meets its contract: the rules of the reference, then the reads'. Assumes nothing.
+use mathlib.Core.Path.{_∙_}
+use Rattle.limits.specs.Tests.{told-no, told-yes}
+use Rattle.limits.specs.Rules.{all-hold, broken, holds, first-broken, first-hold, reference-numbered, sample-parts}
+use Rattle.limits.specs.Handed.{sampleOf}
 use Rattle.limits.proofs.check_sample.Statement.{statement}
 use Rattle.limits.proofs.check_sample.Tie as tie
-use Rattle.limits.proofs.check_sample.Reads as reads
-use Rattle.limits.proofs.check_sample.Lts as lts
-use Rattle.limits.proofs.check_reference.Reads as check-reference-reads
-use Rattle.limits.proofs.reads_fit.Reads as reads-fit-reads
 
--- src/lib.rt:198:9
 check-reference-requires : tie.Need-check-reference-requires
-check-reference-requires c κs = search needs
+check-reference-requires c κs = tt
 
--- src/lib.rt:200:9
 returns : tie.Need-returns
-returns c = ?
+returns c =
+    λ q. first-broken _ _ _ (c .before .check-reference .ensures) (c .if1 .taken)
+    ∙ sample-parts (sampleOf (c .before .before .before .before .before .before .args .k) q (c .before .before .before .before .before .before .args .reference .now) (c .before .before .before .before .before .before .args .ends .now) (c .before .before .before .before .before .before .args .bases .now) (c .before .before .before .before .before .before .args .qualities .now))
 
--- src/lib.rt:202:9
 reads-fit-requires : tie.Need-reads-fit-requires
-reads-fit-requires c κs = search needs
+reads-fit-requires c κs = tt
 
--- src/lib.rt:203:9
 returns-2 : tie.Need-returns-2
-returns-2 c = ?
+returns-2 c =
+    λ q. broken _ _ _ (told-no _ _ (c .before .reads-fit .ensures) (c .if2 .taken))
+    ∙ first-hold _ _ _ (reference-numbered _ _) (c .before .before .before .check-reference .ensures) (c .before .before .if1 .left)
+    ∙ sample-parts (sampleOf (c .before .before .before .before .before .before .before .before .args .k) q (c .before .before .before .before .before .before .before .before .args .reference .now) (c .before .before .before .before .before .before .before .before .args .ends .now) (c .before .before .before .before .before .before .before .before .args .bases .now) (c .before .before .before .before .before .before .before .before .args .qualities .now))
 
--- src/lib.rt:195:1
 returns-3 : tie.Need-returns-3
-returns-3 c = ?
+returns-3 c =
+    λ q. all-hold
+    ∙ holds _ _ _ (told-yes _ _ (c .before .reads-fit .ensures) (c .if2 .left))
+    ∙ first-hold _ _ _ (reference-numbered _ _) (c .before .before .before .check-reference .ensures) (c .before .before .if1 .left)
+    ∙ sample-parts (sampleOf (c .before .before .before .before .before .before .before .before .args .k) q (c .before .before .before .before .before .before .before .before .args .reference .now) (c .before .before .before .before .before .before .before .before .args .ends .now) (c .before .before .before .before .before .before .before .before .args .bases .now) (c .before .before .before .before .before .before .before .before .args .qualities .now))
 
 pub check-sample-spec : {M : Type 1} → statement M
 check-sample-spec =
-    tie.close (tie.spec check-reference-requires returns reads-fit-requires returns-2 returns-3)
+    tie.close
+    (tie.spec
+    check-reference-requires
+    returns
+    reads-fit-requires
+    returns-2
+    returns-3)

@@ -1,21 +1,22 @@
-use borrow.Author.Needs.{needs}
+-- `reads_fit` meets its contract. Assumes nothing.
+use mathlib.Core.Path.{_∙_}
+use Rattle.limits.specs.Tests.{fails, passes, told-no, told-yes, reads-parts}
 use Rattle.limits.proofs.reads_fit.Statement.{statement}
 use Rattle.limits.proofs.reads_fit.Tie as tie
-use Rattle.limits.proofs.reads_fit.Reads as reads
-use Rattle.limits.proofs.reads_fit.Lts as lts
-use Rattle.limits.proofs.ends_fit.Reads as ends-fit-reads
 
--- src/lib.rt:119:9
 ends-fit-requires : tie.Need-ends-fit-requires
-ends-fit-requires c κs = search needs
+ends-fit-requires c κs = tt
 
--- src/lib.rt:120:9
 returns : tie.Need-returns
-returns c = ?
+returns c = fails _ _ (told-no _ _ (c .before .ends-fit .ensures) (c .if1 .taken)) ∙ reads-parts (c .before .before .before .before .before .args .ends .now) (c .before .before .before .before .before .args .bases .now) (c .before .before .before .before .before .args .qualities .now)
 
--- src/lib.rt:116:1
 returns-2 : tie.Need-returns-2
-returns-2 c = ?
+returns-2 c = passes _ _ (told-yes _ _ (c .before .ends-fit .ensures) (c .if1 .left)) ∙ reads-parts (c .before .before .before .before .before .args .ends .now) (c .before .before .before .before .before .args .bases .now) (c .before .before .before .before .before .args .qualities .now)
 
 pub reads-fit-spec : {M : Type 1} → statement M
-reads-fit-spec = tie.close (tie.spec ends-fit-requires returns returns-2)
+reads-fit-spec =
+    tie.close
+    (tie.spec
+    ends-fit-requires
+    returns
+    returns-2)
