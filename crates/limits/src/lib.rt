@@ -2,7 +2,7 @@
 ghost use mathlib.Core.Path.{_≡_};
 ghost use mathlib.Core.Bool.{Bool, _&&_};
 ghost use mathlib.Core.List.{List};
-ghost use Prim.Native.Nat.{ℕ};
+ghost use Prim.Native.Nat.{ℕ, _≤_};
 ghost use lib.IntN.{ℤ};
 ghost use lib.Dec.{eqb};
 ghost use lib.ListN.{length};
@@ -12,6 +12,8 @@ ghost use Rattle.definition.specs.Refusal.{firstBroken};
 ghost use Rattle.definition.specs.Limits.{isBase, referenceFits, referenceBases, rising, endsFit, graphMaximaFit, searchMaximaFit, settingsFit, originRules, sampleRules, graphRules, listRules, longEnough, lengthsRules};
 ghost use Rattle.limits.specs.Handed.{graphMaximaOf, searchMaximaOf, sampleOf, inputOf};
 ghost use Rattle.limits.specs.Rules.{referenceRules};
+ghost use Rattle.limits.specs.Lengths.{workspaceTold, refusedLengths, acceptedLengths, Told};
+ghost use Rattle.limits.specs.Bounds.{InLimits};
 
 // The caller's maxima for the graph and its trees; the symbolic vertex and edge count, and so do the roots.
 #[repr(C)]
@@ -259,4 +261,120 @@ pub fn check_list(
         return 7;
     }
     0
+}
+
+// How many elements each workspace slice needs: numbers of 32 bits, but for the scores, which are f64.
+#[repr(C)]
+pub struct Workspace {
+    pub vertices: usize,
+    pub edges: usize,
+    pub index: usize,
+    pub nodes: usize,
+    pub open: usize,
+    pub paths: usize,
+    pub scores: usize,
+    pub active: usize,
+    pub queue: usize,
+    pub pivotal: usize,
+}
+
+// The answer of `lengths`: a refusal, or how many elements each slice needs; there are two slices of `origins` numbers.
+#[repr(C)]
+pub struct LengthsTold {
+    pub refusal: u32,
+    pub edges: usize,
+    pub nodes: usize,
+    pub paths: usize,
+    pub bases: usize,
+    pub origins: usize,
+    pub workspace: Workspace,
+}
+
+// 1 and 5, of the call for lengths.
+fn check_lengths(k: u32, asked: u32, g: GraphMaxima, s: SearchMaxima) -> u32
+    ensures { λ r. ⌜ r ≡ firstBroken (lengthsRules k asked (graphMaximaOf g) (searchMaximaOf s)) ⌝ }
+{
+    if !bio_ids::k_fits(k) {
+        return 1;
+    }
+    if !settings_fit(asked, g, s) {
+        return 5;
+    }
+    0
+}
+
+// A refused answer holds 0 in every other field.
+fn lengths_refused(refusal: u32) -> LengthsTold
+    ensures { λ r. ⌜ r ≡ refusedLengths refusal ⌝ }
+{
+    let workspace = Workspace {
+        vertices: 0,
+        edges: 0,
+        index: 0,
+        nodes: 0,
+        open: 0,
+        paths: 0,
+        scores: 0,
+        active: 0,
+        queue: 0,
+        pivotal: 0,
+    };
+    LengthsTold {
+        refusal: refusal,
+        edges: 0,
+        nodes: 0,
+        paths: 0,
+        bases: 0,
+        origins: 0,
+        workspace: workspace,
+    }
+}
+
+// The workspace of settings within limits; a path is made by a push or by recovery, which makes no more than are asked.
+fn workspace_told(asked: u32, g: GraphMaxima, s: SearchMaxima) -> Workspace
+    requires { ⌜ InLimits asked (graphMaximaOf g) (searchMaximaOf s) ⌝ }
+    ensures { λ r. ⌜ r ≡ workspaceTold asked (graphMaximaOf g) (searchMaximaOf s) ⌝ }
+{
+    let paths = s.pushes as usize + asked as usize;
+    Workspace {
+        vertices: g.vertices as usize * 12,
+        edges: g.edges as usize * 6,
+        index: g.vertices as usize * 2,
+        nodes: (g.nodes as usize + 1) * 5,
+        open: g.nodes as usize * 2,
+        paths: paths * 8,
+        scores: paths,
+        active: paths * s.active as usize,
+        queue: s.pushes as usize,
+        pivotal: g.edges as usize * 4,
+    }
+}
+
+// The lengths for settings within limits.
+fn lengths_within(k: u32, asked: u32, g: GraphMaxima, s: SearchMaxima) -> LengthsTold
+    requires { ⌜ (k ≤ 128) × InLimits asked (graphMaximaOf g) (searchMaximaOf s) ⌝ }
+    ensures { λ r. ⌜ r ≡ acceptedLengths k asked (graphMaximaOf g) (searchMaximaOf s) ⌝ }
+{
+    let workspace = workspace_told(asked, g, s);
+    let stride = k as usize + s.path_edges as usize;
+    LengthsTold {
+        refusal: 0,
+        edges: g.edges as usize * 6,
+        nodes: g.nodes as usize * 4,
+        paths: asked as usize,
+        bases: asked as usize * stride,
+        origins: asked as usize * s.path_edges as usize,
+        workspace: workspace,
+    }
+}
+
+// The call for lengths: what each slice must hold for these settings, so that a caller can lend it.
+pub fn lengths(k: u32, asked: u32, g: GraphMaxima, s: SearchMaxima) -> LengthsTold
+    ensures { λ r. ⌜ Told k asked (graphMaximaOf g) (searchMaximaOf s) r ⌝ }
+{
+    let refusal = check_lengths(k, asked, g, s);
+    if refusal > 0 {
+        return lengths_refused(refusal);
+    }
+    lengths_within(k, asked, g, s)
 }
