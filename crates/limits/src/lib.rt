@@ -116,7 +116,8 @@ pub fn ends_fit(ends: &[u32], bases: &[u8]) -> bool
 
 // 4, of a call that is given qualities: one for each base.
 pub fn reads_fit(ends: &[u32], bases: &[u8], qualities: &[u8]) -> bool
-    ensures { λ r. ⌜ r ≡ (endsFit (now (ends .entry)) (now (bases .entry)) && eqb (length (now (qualities .entry))) (length (now (bases .entry)))) ⌝ }
+    ensures { λ r. ⌜ r ≡ (endsFit (now (ends .entry)) (now (bases .entry))
+        && eqb (length (now (qualities .entry))) (length (now (bases .entry)))) ⌝ }
 {
     if !ends_fit(ends, bases) {
         return false;
@@ -195,7 +196,9 @@ pub fn check_origin(k: u32, reference: &[u8], ends: &[u32], bases: &[u8]) -> u32
 
 // 1 to 4, of a call that threads the sample; the minimum quality may be any byte.
 pub fn check_sample(k: u32, reference: &[u8], ends: &[u32], bases: &[u8], qualities: &[u8]) -> u32
-    ensures { λ r. ⌜ ((quality : ℕ) → r ≡ firstBroken (sampleRules (sampleOf k quality (now (reference .entry)) (now (ends .entry)) (now (bases .entry)) (now (qualities .entry))))) ⌝ }
+    ensures { λ r. ⌜ ((quality : ℕ)
+        → r ≡ firstBroken (sampleRules
+        (sampleOf k quality (now (reference .entry)) (now (ends .entry)) (now (bases .entry)) (now (qualities .entry))))) ⌝ }
 {
     let refusal = check_reference(k, reference);
     if refusal > 0 {
@@ -217,7 +220,10 @@ pub fn check_graph(
     g: GraphMaxima,
     long_enough: bool,
 ) -> u32
-    ensures { λ r. ⌜ ((quality : ℕ) (told lent : List ℕ) → longEnough told lent ≡ «long_enough» → r ≡ firstBroken (graphRules (sampleOf k quality (now (reference .entry)) (now (ends .entry)) (now (bases .entry)) (now (qualities .entry))) (graphMaximaOf g) told lent)) ⌝ }
+    ensures { λ r. ⌜ ((quality : ℕ) (told lent : List ℕ) → longEnough told lent ≡ «long_enough»
+        → r ≡ firstBroken (graphRules
+        (sampleOf k quality (now (reference .entry)) (now (ends .entry)) (now (bases .entry)) (now (qualities .entry)))
+        (graphMaximaOf g) told lent)) ⌝ }
 {
     let refusal = check_sample(k, reference, ends, bases, qualities);
     if refusal > 0 {
@@ -245,7 +251,12 @@ pub fn check_list(
     column: &[f64],
     long_enough: bool,
 ) -> u32
-    ensures { λ r. ⌜ ((quality : ℕ) (threshold : ℤ) (recovery : Bool) (told lent : List ℕ) → longEnough told lent ≡ «long_enough» → r ≡ firstBroken (listRules (inputOf (sampleOf k quality (now (reference .entry)) (now (ends .entry)) (now (bases .entry)) (now (qualities .entry))) asked threshold recovery (graphMaximaOf g) (searchMaximaOf s) (now (column .entry))) told lent)) ⌝ }
+    ensures { λ r. ⌜ ((quality : ℕ) (threshold : ℤ) (recovery : Bool) (told lent : List ℕ) → longEnough told lent ≡ «long_enough»
+        → r ≡ firstBroken (listRules
+        (inputOf
+        (sampleOf k quality (now (reference .entry)) (now (ends .entry)) (now (bases .entry)) (now (qualities .entry)))
+        asked threshold recovery (graphMaximaOf g) (searchMaximaOf s) (now (column .entry)))
+        told lent)) ⌝ }
 {
     let refusal = check_sample(k, reference, ends, bases, qualities);
     if refusal > 0 {

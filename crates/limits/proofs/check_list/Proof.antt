@@ -1,9 +1,7 @@
 -- `check_list` meets its contract: the rules of the sample, then 5, 6 and 7. Assumes nothing.
-use mathlib.Core.Path.{_∙_}
+use mathlib.Core.Path.{sym, _∙_}
 use Rattle.limits.specs.Tests.{told-no, told-yes}
-use mathlib.Core.Path.{sym}
 use Rattle.limits.specs.Rules.{all-hold, broken, holds, first-broken, first-hold, sample-numbered, list-rules}
-use Rattle.limits.specs.Handed.{sampleOf, inputOf, graphMaximaOf, searchMaximaOf}
 use Rattle.limits.proofs.check_list.Statement.{statement}
 use Rattle.limits.proofs.check_list.Tie as tie
 
@@ -13,7 +11,7 @@ check-sample-requires c κs = tt
 returns : tie.Need-returns
 returns c =
     λ q threshold recovery told lent e. first-broken _ _ _ (c .before .check-sample .ensures q) (c .if1 .taken)
-    ∙ list-rules (inputOf (sampleOf (c .before .before .before .before .before .before .before .args .k) q (c .before .before .before .before .before .before .before .args .reference .now) (c .before .before .before .before .before .before .before .args .ends .now) (c .before .before .before .before .before .before .before .args .bases .now) (c .before .before .before .before .before .before .before .args .qualities .now)) (c .before .before .before .before .before .before .before .args .asked) threshold recovery (graphMaximaOf (c .before .before .before .before .before .before .before .args .g)) (searchMaximaOf (c .before .before .before .before .before .before .before .args .s)) (c .before .before .before .before .before .before .before .args .column .now)) told lent
+    ∙ list-rules _ told lent
 
 settings-fit-requires : tie.Need-settings-fit-requires
 settings-fit-requires c κs = tt
@@ -21,8 +19,8 @@ settings-fit-requires c κs = tt
 returns-2 : tie.Need-returns-2
 returns-2 c =
     λ q threshold recovery told lent e. broken _ _ _ (told-no _ _ (c .before .settings-fit .ensures) (c .if2 .taken))
-    ∙ first-hold _ _ _ (sample-numbered (sampleOf (c .before .before .before .before .before .before .before .before .before .args .k) q (c .before .before .before .before .before .before .before .before .before .args .reference .now) (c .before .before .before .before .before .before .before .before .before .args .ends .now) (c .before .before .before .before .before .before .before .before .before .args .bases .now) (c .before .before .before .before .before .before .before .before .before .args .qualities .now))) (c .before .before .before .check-sample .ensures q) (c .before .before .if1 .left)
-    ∙ list-rules (inputOf (sampleOf (c .before .before .before .before .before .before .before .before .before .args .k) q (c .before .before .before .before .before .before .before .before .before .args .reference .now) (c .before .before .before .before .before .before .before .before .before .args .ends .now) (c .before .before .before .before .before .before .before .before .before .args .bases .now) (c .before .before .before .before .before .before .before .before .before .args .qualities .now)) (c .before .before .before .before .before .before .before .before .before .args .asked) threshold recovery (graphMaximaOf (c .before .before .before .before .before .before .before .before .before .args .g)) (searchMaximaOf (c .before .before .before .before .before .before .before .before .before .args .s)) (c .before .before .before .before .before .before .before .before .before .args .column .now)) told lent
+    ∙ first-hold _ _ _ (sample-numbered _) (c .before .before .before .check-sample .ensures q) (c .before .before .if1 .left)
+    ∙ list-rules _ told lent
 
 column-fits-requires : tie.Need-column-fits-requires
 column-fits-requires c κs = tt
@@ -31,16 +29,16 @@ returns-3 : tie.Need-returns-3
 returns-3 c =
     λ q threshold recovery told lent e. broken _ _ _ (told-no _ _ (c .before .column-fits .ensures) (c .if3 .taken))
     ∙ holds _ _ _ (told-yes _ _ (c .before .before .before .settings-fit .ensures) (c .before .before .if2 .left))
-    ∙ first-hold _ _ _ (sample-numbered (sampleOf (c .before .before .before .before .before .before .before .before .before .before .before .args .k) q (c .before .before .before .before .before .before .before .before .before .before .before .args .reference .now) (c .before .before .before .before .before .before .before .before .before .before .before .args .ends .now) (c .before .before .before .before .before .before .before .before .before .before .before .args .bases .now) (c .before .before .before .before .before .before .before .before .before .before .before .args .qualities .now))) (c .before .before .before .before .before .check-sample .ensures q) (c .before .before .before .before .if1 .left)
-    ∙ list-rules (inputOf (sampleOf (c .before .before .before .before .before .before .before .before .before .before .before .args .k) q (c .before .before .before .before .before .before .before .before .before .before .before .args .reference .now) (c .before .before .before .before .before .before .before .before .before .before .before .args .ends .now) (c .before .before .before .before .before .before .before .before .before .before .before .args .bases .now) (c .before .before .before .before .before .before .before .before .before .before .before .args .qualities .now)) (c .before .before .before .before .before .before .before .before .before .before .before .args .asked) threshold recovery (graphMaximaOf (c .before .before .before .before .before .before .before .before .before .before .before .args .g)) (searchMaximaOf (c .before .before .before .before .before .before .before .before .before .before .before .args .s)) (c .before .before .before .before .before .before .before .before .before .before .before .args .column .now)) told lent
+    ∙ first-hold _ _ _ (sample-numbered _) (c .before .before .before .before .before .check-sample .ensures q) (c .before .before .before .before .if1 .left)
+    ∙ list-rules _ told lent
 
 returns-4 : tie.Need-returns-4
 returns-4 c =
     λ q threshold recovery told lent e. broken _ _ _ (told-no _ _ (sym e) (c .if4 .taken))
     ∙ holds _ _ _ (told-yes _ _ (c .before .before .column-fits .ensures) (c .before .if3 .left))
     ∙ holds _ _ _ (told-yes _ _ (c .before .before .before .before .settings-fit .ensures) (c .before .before .before .if2 .left))
-    ∙ first-hold _ _ _ (sample-numbered (sampleOf (c .before .before .before .before .before .before .before .before .before .before .before .before .args .k) q (c .before .before .before .before .before .before .before .before .before .before .before .before .args .reference .now) (c .before .before .before .before .before .before .before .before .before .before .before .before .args .ends .now) (c .before .before .before .before .before .before .before .before .before .before .before .before .args .bases .now) (c .before .before .before .before .before .before .before .before .before .before .before .before .args .qualities .now))) (c .before .before .before .before .before .before .check-sample .ensures q) (c .before .before .before .before .before .if1 .left)
-    ∙ list-rules (inputOf (sampleOf (c .before .before .before .before .before .before .before .before .before .before .before .before .args .k) q (c .before .before .before .before .before .before .before .before .before .before .before .before .args .reference .now) (c .before .before .before .before .before .before .before .before .before .before .before .before .args .ends .now) (c .before .before .before .before .before .before .before .before .before .before .before .before .args .bases .now) (c .before .before .before .before .before .before .before .before .before .before .before .before .args .qualities .now)) (c .before .before .before .before .before .before .before .before .before .before .before .before .args .asked) threshold recovery (graphMaximaOf (c .before .before .before .before .before .before .before .before .before .before .before .before .args .g)) (searchMaximaOf (c .before .before .before .before .before .before .before .before .before .before .before .before .args .s)) (c .before .before .before .before .before .before .before .before .before .before .before .before .args .column .now)) told lent
+    ∙ first-hold _ _ _ (sample-numbered _) (c .before .before .before .before .before .before .check-sample .ensures q) (c .before .before .before .before .before .if1 .left)
+    ∙ list-rules _ told lent
 
 returns-5 : tie.Need-returns-5
 returns-5 c =
@@ -48,8 +46,8 @@ returns-5 c =
     ∙ holds _ _ _ (told-yes _ _ (sym e) (c .if4 .left))
     ∙ holds _ _ _ (told-yes _ _ (c .before .before .column-fits .ensures) (c .before .if3 .left))
     ∙ holds _ _ _ (told-yes _ _ (c .before .before .before .before .settings-fit .ensures) (c .before .before .before .if2 .left))
-    ∙ first-hold _ _ _ (sample-numbered (sampleOf (c .before .before .before .before .before .before .before .before .before .before .before .before .args .k) q (c .before .before .before .before .before .before .before .before .before .before .before .before .args .reference .now) (c .before .before .before .before .before .before .before .before .before .before .before .before .args .ends .now) (c .before .before .before .before .before .before .before .before .before .before .before .before .args .bases .now) (c .before .before .before .before .before .before .before .before .before .before .before .before .args .qualities .now))) (c .before .before .before .before .before .before .check-sample .ensures q) (c .before .before .before .before .before .if1 .left)
-    ∙ list-rules (inputOf (sampleOf (c .before .before .before .before .before .before .before .before .before .before .before .before .args .k) q (c .before .before .before .before .before .before .before .before .before .before .before .before .args .reference .now) (c .before .before .before .before .before .before .before .before .before .before .before .before .args .ends .now) (c .before .before .before .before .before .before .before .before .before .before .before .before .args .bases .now) (c .before .before .before .before .before .before .before .before .before .before .before .before .args .qualities .now)) (c .before .before .before .before .before .before .before .before .before .before .before .before .args .asked) threshold recovery (graphMaximaOf (c .before .before .before .before .before .before .before .before .before .before .before .before .args .g)) (searchMaximaOf (c .before .before .before .before .before .before .before .before .before .before .before .before .args .s)) (c .before .before .before .before .before .before .before .before .before .before .before .before .args .column .now)) told lent
+    ∙ first-hold _ _ _ (sample-numbered _) (c .before .before .before .before .before .before .check-sample .ensures q) (c .before .before .before .before .before .if1 .left)
+    ∙ list-rules _ told lent
 
 pub check-list-spec : {M : Type 1} → statement M
 check-list-spec =
