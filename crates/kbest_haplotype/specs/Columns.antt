@@ -1,17 +1,14 @@
 -- The logarithm column, entry by entry: finiteness by comparisons, and the laws of the loop that reads it.
 use mathlib.Core.Path.{_≡_, refl, sym, ap, _∙_}
-use Prim.Native.Nat.{ℕ, zero, suc, _+_, _<_, _≤_}
+use Prim.Native.Nat.{ℕ, _+_, _<_, _≤_}
 use native.Mathlib.Numerals.{add-one}
-use native.Mathlib.Omega.{arith}
-use mathlib.Core.Bool.{Bool, true, false, not, _&&_}
-use mathlib.Core.List.{List, [], _∷_}
-use lib.IntN.{ℤ, pos}
-use lib.Dec.{leb}
+use mathlib.Core.Bool.{Bool, true, false, _&&_}
+use mathlib.Core.List.{List, _∷_}
 use lib.ListN.{length, drop, getD, drop-of-length-le}
 use lib.Seq.{drop-cons}
 use lib.Ieee.{Float, nan, inf, fin, binary64, le, eq, ne, ofBits, ofFields}
 use borrow.Author.Tests.{le-leb, lt-leb, not-true, not-false}
-use Rattle.laws.specs.ListLaws.{clash, and-left, and-right}
+use Rattle.laws.specs.ListLaws.{clash}
 use Rattle.definition.specs.Limits.{isFinite, climbing, columnFits, floatZero, sixteen}
 
 -- the code's 0.0 and 16.0

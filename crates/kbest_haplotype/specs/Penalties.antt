@@ -1,11 +1,9 @@
 -- The answer of `log_penalty` as the definition has it, and a law for each of its returns.
-use mathlib.Core.Path.{_≡_, refl, sym, ap, _∙_}
+use mathlib.Core.Path.{_≡_, ap}
 use Prim.Native.Nat.{ℕ, zero, suc, max, _<_, _≤_}
 use native.Mathlib.Omega.{arith}
-use mathlib.Core.Bool.{Bool, true, false, _&&_}
 use mathlib.Core.List.{List}
 use mathlib.Core.Option.{Option, none, some}
-use lib.Dec.{ltb}
 use lib.ListN.{length, getD}
 use lib.Ieee.{Float, nan, binary64, sub, ofBits}
 use borrow.Author.Tests.{lt-ltb, le-ltb}

@@ -1,10 +1,9 @@
 -- The answer of `lengths` as the definition has it, the workspace told beside it, and all of it in bytes.
-use mathlib.Core.Path.{_≡_, refl, sym, ap, _∙_}
+use mathlib.Core.Path.{_≡_, ap, _∙_}
 use Prim.Native.Nat.{ℕ, zero, suc, _+_, _*_, _<_, _≤_}
 use native.Mathlib.Omega.{arith}
-use mathlib.Core.List.{List, [], _∷_}
 use Rattle.definition.specs.Refusal.{firstBroken}
-use Rattle.definition.specs.Limits.{GraphMaxima, SearchMaxima, toldEdges, toldNodes, basesStride, toldBases, toldOrigins, lengthsRules}
+use Rattle.definition.specs.Limits.{GraphMaxima, SearchMaxima, toldEdges, toldNodes, toldBases, toldOrigins, lengthsRules}
 use Rattle.definition.specs.Calls.{LengthsAnswer, lengthsOf, lengthsCall}
 use Rattle.limits.specs.Workspaces.{vertexTable, edgeTable, kmerIndex, nodeTable, openTrees, pathTable, pathScores, activeNodes, waitingQueue, pivotalEdges}
 use Rattle.limits.specs.declared.Workspace.{Workspace}

@@ -1,13 +1,13 @@
 -- Rules in order: laws of `firstBroken`, for a call that tests one rule after the other.
-use mathlib.Core.Path.{_≡_, refl, sym, ap, _∙_}
-use Prim.Native.Nat.{ℕ, zero, suc, _<_, _≤_}
+use mathlib.Core.Path.{_≡_, refl}
+use Prim.Native.Nat.{ℕ, _<_, _≤_}
 use native.Mathlib.Omega.{arith}
 use mathlib.Core.Bool.{Bool, true, false, _&&_}
 use mathlib.Core.List.{List, [], _∷_, _++_}
 use lib.Dec.{eqb}
 use lib.ListN.{length}
 use Rattle.definition.specs.Refusal.{Rule, firstBroken}
-use Rattle.definition.specs.Limits.{Sample, GraphMaxima, SearchMaxima, Input, kFits, referenceFits, referenceBases, endsFit, readsFit, graphMaximaFit, settingsFit, columnFits, longEnough, originRules, sampleRules, graphRules, listRules}
+use Rattle.definition.specs.Limits.{Sample, GraphMaxima, Input, kFits, referenceFits, referenceBases, endsFit, readsFit, graphMaximaFit, settingsFit, columnFits, longEnough, originRules, sampleRules, graphRules, listRules}
 
 abbrev pub rule : ℕ → Bool → Rule
 rule n b = record { number = n; holds = b }

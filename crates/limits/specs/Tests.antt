@@ -1,12 +1,12 @@
 -- Tests made one after the other, the first that fails ending it: how `if !test { return false; }` decides as `&&` does.
 use mathlib.Core.Path.{_≡_, refl, sym, ap, _∙_}
-use Prim.Native.Nat.{ℕ, _<_, _≤_}
-use mathlib.Core.Bool.{Bool, true, false, not, _&&_, _||_}
+use Prim.Native.Nat.{ℕ}
+use mathlib.Core.Bool.{Bool, true, false, not, _&&_}
 use mathlib.Core.List.{List}
 use mathlib.Core.Logic.{_⊎_, inl, inr}
 use lib.Dec.{leb, eqb}
 use lib.ListN.{length}
-use borrow.Author.Tests.{not-true, not-false, le-leb, lt-leb, eq-eqb, ne-eqb}
+use borrow.Author.Tests.{not-true, not-false, eq-eqb, ne-eqb}
 use Rattle.laws.specs.Lists.{lastOr}
 use Rattle.laws.specs.Numbers.{within}
 use Rattle.definition.specs.Limits.{GraphMaxima, SearchMaxima, isBase, rising, endsFit, graphMaximaFit, searchMaximaFit, settingsFit}

@@ -1,8 +1,4 @@
 -- `climbs` meets its contract. Assumes nothing.
-use mathlib.Core.Path.{_≡_, refl, sym, ap, _∙_}
-use mathlib.Core.Bool.{Bool, _&&_}
-use lib.Ieee.{Float, le}
-use Rattle.definition.specs.Limits.{sixteen}
 use Rattle.kbest_haplotype.specs.Columns.{bits-sixteen}
 use Rattle.kbest_haplotype.proofs.climbs.Statement.{statement}
 use Rattle.kbest_haplotype.proofs.climbs.Tie as tie

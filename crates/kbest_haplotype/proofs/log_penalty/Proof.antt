@@ -1,9 +1,5 @@
 -- `log_penalty` meets its contract, by a law for each return. Assumes nothing.
-use mathlib.Core.Path.{_≡_, refl, sym, ap, _∙_}
-use Prim.Native.Nat.{ℕ, max, _<_, _≤_}
-use native.Mathlib.Omega.{arith}
 use borrow.Author.Needs.{needs}
-use lib.ListN.{length}
 use Rattle.kbest_haplotype.specs.Penalties.{no-total, no-count-place, no-total-place, both-placed}
 use Rattle.kbest_haplotype.proofs.log_penalty.Statement.{statement}
 use Rattle.kbest_haplotype.proofs.log_penalty.Tie as tie

@@ -3,7 +3,6 @@ use mathlib.Core.Path.{_∙_}
 use Rattle.definition.specs.Limits.{lengthsRules}
 use Rattle.limits.specs.Tests.{told-no, told-yes}
 use Rattle.limits.specs.Rules.{all-hold, broken, holds}
-use borrow.Author.Needs.{needs}
 use Rattle.limits.proofs.check_lengths.Statement.{statement}
 use Rattle.limits.proofs.check_lengths.Tie as tie
 

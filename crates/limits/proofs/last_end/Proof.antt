@@ -1,23 +1,18 @@
+-- `last_end` meets its contract. Assumes nothing.
 use borrow.Author.Needs.{needs}
 use Rattle.limits.specs.Loops.{last-none, last-some}
 use Rattle.limits.proofs.last_end.Statement.{statement}
 use Rattle.limits.proofs.last_end.Tie as tie
-use Rattle.limits.proofs.last_end.Reads as reads
-use Rattle.limits.proofs.last_end.Lts as lts
 
--- src/lib.rt:93:9
 returns : tie.Need-returns
 returns c = last-none (c .before .args .ends .now) (c .if1 .taken)
 
--- src/lib.rt:95:5
 mul-result : tie.Need-mul-result
 mul-result c = search needs
 
--- src/lib.rt:95:5
 shared-slice-read-result : tie.Need-shared-slice-read-result
 shared-slice-read-result c = search needs
 
--- src/lib.rt:88:1
 returns-2 : tie.Need-returns-2
 returns-2 c = last-some 0 (c .before .before .args .ends .now) (c .before .if1 .left)
 

@@ -1,7 +1,6 @@
 -- `lengths` meets its contract: a refusal, or settings within the limits. Assumes nothing.
 use Rattle.limits.specs.Bounds.{accepted-by}
 use Rattle.limits.specs.Lengths.{told-refused, told-accepted}
-use borrow.Author.Needs.{needs}
 use Rattle.limits.proofs.lengths.Statement.{statement}
 use Rattle.limits.proofs.lengths.Tie as tie
 

@@ -1,5 +1,4 @@
 -- `lengths_within` meets its contract. Assumes nothing.
-use mathlib.Core.Path.{refl}
 use Rattle.definition.specs.Limits.{toldEdges, toldNodes, basesStride, toldBases, toldOrigins}
 use Rattle.limits.specs.Bounds.{bases-fit, origins-fit}
 use Rattle.limits.specs.Lengths.{acceptedLengths}
