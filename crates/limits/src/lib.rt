@@ -188,7 +188,8 @@ pub fn check_origin(k: u32, reference: &[u8], ends: &[u32], bases: &[u8]) -> u32
     if refusal > 0 {
         return refusal;
     }
-    if !ends_fit(ends, bases) {
+    let divided = ends_fit(ends, bases);
+    if !divided {
         return 4;
     }
     0
@@ -229,13 +230,14 @@ pub fn check_graph(
     if refusal > 0 {
         return refusal;
     }
-    if !graph_maxima_fit(g) {
+    let maxima_good = graph_maxima_fit(g);
+    if !maxima_good {
         return 5;
     }
-    if !long_enough {
-        return 7;
+    if long_enough {
+        return 0;
     }
-    0
+    7
 }
 
 // 1 to 7 of the call for the list; neither the threshold nor recovery has a limit.
@@ -262,10 +264,12 @@ pub fn check_list(
     if refusal > 0 {
         return refusal;
     }
-    if !settings_fit(asked, g, s) {
+    let settings_good = settings_fit(asked, g, s);
+    if !settings_good {
         return 5;
     }
-    if !kbest_haplotype::column_fits(column) {
+    let column_good = kbest_haplotype::column_fits(column);
+    if !column_good {
         return 6;
     }
     if !long_enough {

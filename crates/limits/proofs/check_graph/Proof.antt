@@ -1,5 +1,5 @@
 -- `check_graph` meets its contract: the rules of the sample, then 5 and 7. Assumes nothing.
-use mathlib.Core.Path.{sym, _∙_}
+use mathlib.Core.Path.{_∙_}
 use Rattle.limits.specs.Tests.{told-no, told-yes}
 use Rattle.limits.specs.Rules.{all-hold, broken, holds, first-broken, first-hold, sample-numbered, graph-rules}
 use Rattle.limits.proofs.check_graph.Statement.{statement}
@@ -24,15 +24,15 @@ returns-2 c =
 
 returns-3 : tie.Need-returns-3
 returns-3 c =
-    λ q told lent e. broken _ _ _ (told-no _ _ (sym e) (c .if3 .taken))
+    λ q told lent e. all-hold
+    ∙ holds _ _ _ (e ∙ c .if3 .taken)
     ∙ holds _ _ _ (told-yes _ _ (c .before .before .graph-maxima-fit .ensures) (c .before .if2 .left))
     ∙ first-hold _ _ _ (sample-numbered _) (c .before .before .before .before .check-sample .ensures q) (c .before .before .before .if1 .left)
     ∙ graph-rules _ _ told lent
 
 returns-4 : tie.Need-returns-4
 returns-4 c =
-    λ q told lent e. all-hold
-    ∙ holds _ _ _ (told-yes _ _ (sym e) (c .if3 .left))
+    λ q told lent e. broken _ _ _ (e ∙ c .if3 .left)
     ∙ holds _ _ _ (told-yes _ _ (c .before .before .graph-maxima-fit .ensures) (c .before .if2 .left))
     ∙ first-hold _ _ _ (sample-numbered _) (c .before .before .before .before .check-sample .ensures q) (c .before .before .before .if1 .left)
     ∙ graph-rules _ _ told lent
