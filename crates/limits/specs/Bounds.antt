@@ -1,9 +1,9 @@
 -- What settings within the limits are at most.
-use mathlib.Core.Path.{_≡_, refl, sym, _∙_}
+use mathlib.Core.Path.{_≡_, sym, _∙_}
 use Prim.Native.Nat.{ℕ, _+_, _*_, _≤_}
 use native.Mathlib.Nat.{mul-le-mul}
 use native.Mathlib.Omega.{arith}
-use mathlib.Core.Bool.{Bool, true, false, _&&_}
+use mathlib.Core.Bool.{Bool, true, _&&_}
 use lib.Dec.{leb}
 use mir.Syntax.{w64}
 use mir.Val.{Fits}
@@ -12,6 +12,7 @@ use Rattle.laws.specs.ListLaws.{and-left, and-right}
 use Rattle.laws.specs.Numbers.{within}
 use Rattle.definition.specs.Refusal.{firstBroken}
 use Rattle.definition.specs.Limits.{GraphMaxima, SearchMaxima, kFits, graphMaximaFit, searchMaximaFit, settingsFit, lengthsRules}
+use Rattle.limits.specs.Rules.{none-broken}
 
 pub record InLimits (asked : ℕ) (g : GraphMaxima) (s : SearchMaxima) : Type 0 where
   pub asked-most : asked ≤ 128
@@ -79,17 +80,11 @@ module _ (asked : ℕ) (g : GraphMaxima) (s : SearchMaxima) (most : InLimits ask
 
 -- ---- settings that the call for lengths accepts
 
-accepts : (k asked : ℕ) (g : GraphMaxima) (s : SearchMaxima) → firstBroken (lengthsRules k asked g s) ≡ 0 → (kFits k ≡ true) × (settingsFit asked g s ≡ true)
-unfolding lengthsRules firstBroken
-accepts k asked g s e = go (kFits k) (settingsFit asked g s) refl refl
-  where
-    go : (a b : Bool) → kFits k ≡ a → settingsFit asked g s ≡ b → (kFits k ≡ true) × (settingsFit asked g s ≡ true)
-    go true true p q = (p, q)
-    go true false p q = let z : _≡_ {A = ℕ} 5 0 = rw (p, q, firstBroken) at e in absurd (omega arith)
-    go false b p q = let z : _≡_ {A = ℕ} 1 0 = rw (p, firstBroken) at e in absurd (omega arith)
-
 pub accepted : (k asked : ℕ) (g : GraphMaxima) (s : SearchMaxima) → firstBroken (lengthsRules k asked g s) ≡ 0 → (k ≤ 128) × InLimits asked g s
-accepted k asked g s e = let p = accepts k asked g s e in (k-most k (p .0), settings-most asked g s (p .1))
+unfolding lengthsRules
+accepted k asked g s e =
+    let p = none-broken (lengthsRules k asked g s) (omega arith, (omega arith, tt)) e in
+    (k-most k (p .0), settings-most asked g s (p .1 .0))
 
 -- n is what the code's check answered
 pub accepted-by : (k asked : ℕ) (g : GraphMaxima) (s : SearchMaxima) (n : ℕ) → n ≡ firstBroken (lengthsRules k asked g s) → n ≤ 0 → (k ≤ 128) × InLimits asked g s

@@ -53,6 +53,21 @@ first-hold (r ∷ rs) ys n d e h = go (r .holds) refl (λ k. first-hold rs ys n 
     go true f ih = rw (f, firstBroken) (ih (rw (f, firstBroken) at e))
     go false f ih = let z : n ≡ r .number = rw (f, firstBroken) at e in let y : 0 < r .number = d .0 in absurd (omega arith)
 
+-- every rule holds
+abbrev pub Holds : List Rule → Type 0
+Holds [] = Unit {0}
+Holds (r ∷ rs) = (r .holds ≡ true) × Holds rs
+
+-- what a caller may take from the answer 0
+pub none-broken : (rs : List Rule) → Numbered rs → firstBroken rs ≡ 0 → Holds rs
+unfolding firstBroken
+none-broken [] d e = tt
+none-broken (r ∷ rs) d e = go (r .holds) refl (none-broken rs (d .1))
+  where
+    go : (b : Bool) → r .holds ≡ b → (firstBroken rs ≡ 0 → Holds rs) → Holds (r ∷ rs)
+    go true f ih = (f, ih (rw (f, firstBroken) at e))
+    go false f ih = let z : r .number ≡ 0 = rw (f, firstBroken) at e in let y : 0 < r .number = d .0 in absurd (omega arith)
+
 -- ---- the rules of each call, parted as the code checks them
 
 pub reference-numbered : (k : ℕ) (reference : List ℕ) → Numbered (referenceRules k reference)
