@@ -1,0 +1,2 @@
+pub mod Penalties
+pub mod Columns

@@ -1,0 +1,12 @@
+-- `lengths_refused` meets its contract. Assumes nothing.
+use mathlib.Core.Path.{refl}
+use Rattle.limits.specs.Lengths.{noWorkspace, refusedLengths}
+use Rattle.limits.proofs.lengths_refused.Statement.{statement}
+use Rattle.limits.proofs.lengths_refused.Tie as tie
+
+returns : tie.Need-returns
+unfolding noWorkspace refusedLengths
+returns c = refl
+
+pub lengths-refused-spec : {M : Type 1} → statement M
+lengths-refused-spec = tie.close (tie.spec returns)

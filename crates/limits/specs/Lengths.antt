@@ -1,0 +1,94 @@
+-- The answer of `lengths` as the definition has it, the workspace told beside it, and all of it in bytes.
+use mathlib.Core.Path.{_≡_, ap, _∙_}
+use Prim.Native.Nat.{ℕ, zero, suc, _+_, _*_, _<_, _≤_}
+use native.Mathlib.Omega.{arith}
+use Rattle.definition.specs.Refusal.{firstBroken}
+use Rattle.definition.specs.Limits.{GraphMaxima, SearchMaxima, toldEdges, toldNodes, toldBases, toldOrigins, lengthsRules}
+use Rattle.definition.specs.Calls.{LengthsAnswer, lengthsOf, lengthsCall}
+use Rattle.limits.specs.Workspaces.{vertexTable, edgeTable, kmerIndex, nodeTable, openTrees, pathTable, pathScores, activeNodes, waitingQueue, pivotalEdges}
+use Rattle.limits.specs.declared.Workspace.{Workspace}
+use Rattle.limits.specs.declared.LengthsTold.{LengthsTold}
+
+abbrev pub answerOf : LengthsTold → LengthsAnswer
+answerOf r =
+    record { refusal = r .refusal; edges = r .edges; nodes = r .nodes; paths = r .paths; bases = r .bases; origins = r .origins }
+
+unfoldable pub workspaceTold : ℕ → GraphMaxima → SearchMaxima → Workspace
+workspaceTold asked g s =
+    record {
+      vertices = vertexTable g;
+      edges = edgeTable g;
+      index = kmerIndex g;
+      nodes = nodeTable g;
+      «open» = openTrees g;
+      paths = pathTable asked s;
+      scores = pathScores asked s;
+      active = activeNodes asked s;
+      queue = waitingQueue s;
+      pivotal = pivotalEdges g;
+    }
+
+unfoldable pub noWorkspace : Workspace
+noWorkspace =
+    record { vertices = 0; edges = 0; index = 0; nodes = 0; «open» = 0; paths = 0; scores = 0; active = 0; queue = 0; pivotal = 0 }
+
+-- "A refused answer holds 0 in every other field", in the workspace too.
+unfoldable pub workspaceOf : ℕ → GraphMaxima → SearchMaxima → ℕ → Workspace
+workspaceOf asked g s zero = workspaceTold asked g s
+workspaceOf asked g s (suc n) = noWorkspace
+
+unfoldable pub workspaceCall : ℕ → ℕ → GraphMaxima → SearchMaxima → Workspace
+workspaceCall k asked g s = workspaceOf asked g s (firstBroken (lengthsRules k asked g s))
+
+-- The contract of `lengths`: every field is told.
+pub record Told (k asked : ℕ) (g : GraphMaxima) (s : SearchMaxima) (r : LengthsTold) : Type 0 where
+  pub answer : answerOf r ≡ lengthsCall k asked g s
+  pub workspace : r .workspace ≡ workspaceCall k asked g s
+
+-- ---- the two kinds of answer
+
+unfoldable pub refusedLengths : ℕ → LengthsTold
+refusedLengths n = record { refusal = n; edges = 0; nodes = 0; paths = 0; bases = 0; origins = 0; workspace = noWorkspace }
+
+unfoldable pub acceptedLengths : ℕ → ℕ → GraphMaxima → SearchMaxima → LengthsTold
+acceptedLengths k asked g s =
+    record {
+      refusal = 0;
+      edges = toldEdges g;
+      nodes = toldNodes g;
+      paths = asked;
+      bases = toldBases k asked s;
+      origins = toldOrigins asked s;
+      workspace = workspaceTold asked g s;
+    }
+
+-- n is what the code's check answered
+module _ (k asked : ℕ) (g : GraphMaxima) (s : SearchMaxima) (r : LengthsTold) where
+  pub told-refused : (n : ℕ) → n ≡ firstBroken (lengthsRules k asked g s) → 0 < n → r ≡ refusedLengths n → Told k asked g s r
+  unfolding lengthsOf lengthsCall workspaceOf workspaceCall refusedLengths
+  told-refused zero c h e = absurd (omega arith)
+  told-refused (suc n) c h e =
+      record {
+        answer = ap answerOf e ∙ ap (lengthsOf k asked g s) c;
+        workspace = ap (λ (t : LengthsTold). t .workspace) e ∙ ap (workspaceOf asked g s) c;
+      }
+
+  pub told-accepted : (n : ℕ) → n ≡ firstBroken (lengthsRules k asked g s) → n ≤ 0 → r ≡ acceptedLengths k asked g s → Told k asked g s r
+  unfolding lengthsOf lengthsCall workspaceOf workspaceCall acceptedLengths
+  told-accepted (suc n) c h e = absurd (omega arith)
+  told-accepted zero c h e =
+      record {
+        answer = ap answerOf e ∙ ap (lengthsOf k asked g s) c;
+        workspace = ap (λ (t : LengthsTold). t .workspace) e ∙ ap (workspaceOf asked g s) c;
+      }
+
+-- ---- in bytes
+
+-- numbers of 4 bytes, scores of 8
+unfoldable pub workspaceBytes : Workspace → ℕ
+workspaceBytes w =
+    4 * w .vertices + 4 * w .edges + 4 * w .index + 4 * w .nodes + 4 * w .«open» + 4 * w .paths + 8 * w .scores + 4 * w .active + 4 * w .queue + 4 * w .pivotal
+
+-- Edge and node rows are numbers of 4 bytes, a path row is a record of 24, a base is a byte, and there are two slices of origins, of 4 bytes a number.
+unfoldable pub toldBytes : LengthsAnswer → Workspace → ℕ
+toldBytes a w = 4 * a .edges + 4 * a .nodes + 24 * a .paths + a .bases + 2 * (4 * a .origins) + workspaceBytes w

@@ -1,0 +1,395 @@
+// Refusals 1 to 7 of document 01 in the table's order, and the call that tells the slice lengths needed.
+ghost use mathlib.Core.Path.{_≡_};
+ghost use mathlib.Core.Bool.{Bool, _&&_};
+ghost use mathlib.Core.List.{List};
+ghost use Prim.Native.Nat.{ℕ, _≤_};
+ghost use lib.IntN.{ℤ};
+ghost use lib.Dec.{eqb};
+ghost use lib.ListN.{length};
+ghost use Rattle.laws.specs.Lists.{lastOr};
+ghost use Rattle.laws.specs.Numbers.{within};
+ghost use Rattle.definition.specs.Refusal.{firstBroken};
+ghost use Rattle.definition.specs.Limits.{isBase, referenceFits, referenceBases, rising, endsFit, graphMaximaFit, searchMaximaFit, settingsFit, originRules, sampleRules, graphRules, listRules, longEnough, lengthsRules};
+ghost use Rattle.limits.specs.Handed.{graphMaximaOf, searchMaximaOf, sampleOf, inputOf};
+ghost use Rattle.limits.specs.Rules.{referenceRules};
+ghost use Rattle.limits.specs.Lengths.{workspaceTold, refusedLengths, acceptedLengths, Told};
+ghost use Rattle.limits.specs.Bounds.{InLimits};
+
+// The caller's maxima for the graph and its trees; the symbolic vertex and edge count, and so do the roots.
+#[repr(C)]
+pub struct GraphMaxima {
+    pub vertices: u32,
+    pub edges: u32,
+    pub nodes: u32,
+}
+
+// The caller's maxima for the search: edges in a path, active trees in a path, pushes.
+#[repr(C)]
+pub struct SearchMaxima {
+    pub path_edges: u32,
+    pub active: u32,
+    pub pushes: u32,
+}
+
+// A limit of the paper, both ends included.
+fn in_range(low: u32, high: u32, n: u32) -> bool
+    ensures { λ r. ⌜ r ≡ within low high n ⌝ }
+{
+    low <= n && n <= high
+}
+
+// The letters that a base is written by, N where it could not be told.
+pub fn is_base(letter: u8) -> bool
+    ensures { λ r. ⌜ r ≡ isBase letter ⌝ }
+{
+    match letter {
+        b'A' | b'C' | b'G' | b'T' | b'N' => true,
+        _ => false,
+    }
+}
+
+// 2: a reference shorter than k has no kmer.
+pub fn reference_fits(k: u32, reference: &[u8]) -> bool
+    ensures { λ r. ⌜ r ≡ referenceFits k (now (reference .entry)) ⌝ }
+{
+    k as usize <= reference.len() && reference.len() <= 1024
+}
+
+// 3: unlike a read, the reference must be bases throughout, since it is threaded whole.
+pub fn reference_bases(reference: &[u8]) -> bool
+    ensures { λ r. ⌜ r ≡ referenceBases (now (reference .entry)) ⌝ }
+{
+    let mut place: usize = 0;
+    while place < reference.len() {
+        if !is_base(reference[place]) {
+            return false;
+        }
+        place += 1;
+    }
+    true
+}
+
+// 4: a read that ended before the one ahead of it would have a negative length.
+pub fn ends_rise(ends: &[u32]) -> bool
+    ensures { λ r. ⌜ r ≡ rising 0 (now (ends .entry)) ⌝ }
+{
+    let mut last: u32 = 0;
+    let mut read: usize = 0;
+    while read < ends.len() {
+        let end = ends[read];
+        if end < last {
+            return false;
+        }
+        last = end;
+        read += 1;
+    }
+    true
+}
+
+// Where the last read ends, which is the number of bases that the ends divide.
+fn last_end(ends: &[u32]) -> u32
+    ensures { λ r. ⌜ r ≡ lastOr 0 (now (ends .entry)) ⌝ }
+{
+    let reads = ends.len();
+    if reads < 1 {
+        return 0;
+    }
+    ends[reads - 1]
+}
+
+// 4, of a call that is given no qualities: the ends divide all the bases, and neither reads nor bases are too many.
+pub fn ends_fit(ends: &[u32], bases: &[u8]) -> bool
+    ensures { λ r. ⌜ r ≡ endsFit (now (ends .entry)) (now (bases .entry)) ⌝ }
+{
+    if !ends_rise(ends) {
+        return false;
+    }
+    let last = last_end(ends) as usize;
+    if last != bases.len() {
+        return false;
+    }
+    if ends.len() > 512 {
+        return false;
+    }
+    bases.len() <= 32768
+}
+
+// 4, of a call that is given qualities: one for each base.
+pub fn reads_fit(ends: &[u32], bases: &[u8], qualities: &[u8]) -> bool
+    ensures { λ r. ⌜ r ≡ (endsFit (now (ends .entry)) (now (bases .entry))
+        && eqb (length (now (qualities .entry))) (length (now (bases .entry)))) ⌝ }
+{
+    if !ends_fit(ends, bases) {
+        return false;
+    }
+    qualities.len() == bases.len()
+}
+
+// 5, of the call for edges and trees.
+pub fn graph_maxima_fit(g: GraphMaxima) -> bool
+    ensures { λ r. ⌜ r ≡ graphMaximaFit (graphMaximaOf g) ⌝ }
+{
+    if !in_range(2, 4096, g.vertices) {
+        return false;
+    }
+    if !in_range(1, 8192, g.edges) {
+        return false;
+    }
+    in_range(1, 16384, g.nodes)
+}
+
+// 5, the search's part.
+pub fn search_maxima_fit(s: SearchMaxima) -> bool
+    ensures { λ r. ⌜ r ≡ searchMaximaFit (searchMaximaOf s) ⌝ }
+{
+    if !in_range(1, 4096, s.path_edges) {
+        return false;
+    }
+    if !in_range(1, 64, s.active) {
+        return false;
+    }
+    in_range(1, 32768, s.pushes)
+}
+
+// 5, of the calls that are given the paths asked.
+pub fn settings_fit(asked: u32, g: GraphMaxima, s: SearchMaxima) -> bool
+    ensures { λ r. ⌜ r ≡ settingsFit asked (graphMaximaOf g) (searchMaximaOf s) ⌝ }
+{
+    if asked > 128 {
+        return false;
+    }
+    if !graph_maxima_fit(g) {
+        return false;
+    }
+    search_maxima_fit(s)
+}
+
+// 1 to 3, which every call that is given a reference checks first.
+fn check_reference(k: u32, reference: &[u8]) -> u32
+    ensures { λ r. ⌜ r ≡ firstBroken (referenceRules k (now (reference .entry))) ⌝ }
+{
+    if !bio_ids::k_fits(k) {
+        return 1;
+    }
+    if !reference_fits(k, reference) {
+        return 2;
+    }
+    if !reference_bases(reference) {
+        return 3;
+    }
+    0
+}
+
+// 1 to 4, of the call for the bytes at an origin.
+pub fn check_origin(k: u32, reference: &[u8], ends: &[u32], bases: &[u8]) -> u32
+    ensures { λ r. ⌜ r ≡ firstBroken (originRules k (now (reference .entry)) (now (ends .entry)) (now (bases .entry))) ⌝ }
+{
+    let refusal = check_reference(k, reference);
+    if refusal > 0 {
+        return refusal;
+    }
+    let divided = ends_fit(ends, bases);
+    if !divided {
+        return 4;
+    }
+    0
+}
+
+// 1 to 4, of a call that threads the sample; the minimum quality may be any byte.
+pub fn check_sample(k: u32, reference: &[u8], ends: &[u32], bases: &[u8], qualities: &[u8]) -> u32
+    ensures { λ r. ⌜ ((quality : ℕ)
+        → r ≡ firstBroken (sampleRules
+        (sampleOf k quality (now (reference .entry)) (now (ends .entry)) (now (bases .entry)) (now (qualities .entry))))) ⌝ }
+{
+    let refusal = check_reference(k, reference);
+    if refusal > 0 {
+        return refusal;
+    }
+    if !reads_fit(ends, bases, qualities) {
+        return 4;
+    }
+    0
+}
+
+// 1 to 7 of the call for edges and trees, which is given no column; `long_enough` says that no lent slice is shorter than told.
+pub fn check_graph(
+    k: u32,
+    reference: &[u8],
+    ends: &[u32],
+    bases: &[u8],
+    qualities: &[u8],
+    g: GraphMaxima,
+    long_enough: bool,
+) -> u32
+    ensures { λ r. ⌜ ((quality : ℕ) (told lent : List ℕ) → longEnough told lent ≡ «long_enough»
+        → r ≡ firstBroken (graphRules
+        (sampleOf k quality (now (reference .entry)) (now (ends .entry)) (now (bases .entry)) (now (qualities .entry)))
+        (graphMaximaOf g) told lent)) ⌝ }
+{
+    let refusal = check_sample(k, reference, ends, bases, qualities);
+    if refusal > 0 {
+        return refusal;
+    }
+    let maxima_good = graph_maxima_fit(g);
+    if !maxima_good {
+        return 5;
+    }
+    if long_enough {
+        return 0;
+    }
+    7
+}
+
+// 1 to 7 of the call for the list; neither the threshold nor recovery has a limit.
+pub fn check_list(
+    k: u32,
+    reference: &[u8],
+    ends: &[u32],
+    bases: &[u8],
+    qualities: &[u8],
+    asked: u32,
+    g: GraphMaxima,
+    s: SearchMaxima,
+    column: &[f64],
+    long_enough: bool,
+) -> u32
+    ensures { λ r. ⌜ ((quality : ℕ) (threshold : ℤ) (recovery : Bool) (told lent : List ℕ) → longEnough told lent ≡ «long_enough»
+        → r ≡ firstBroken (listRules
+        (inputOf
+        (sampleOf k quality (now (reference .entry)) (now (ends .entry)) (now (bases .entry)) (now (qualities .entry)))
+        asked threshold recovery (graphMaximaOf g) (searchMaximaOf s) (now (column .entry)))
+        told lent)) ⌝ }
+{
+    let refusal = check_sample(k, reference, ends, bases, qualities);
+    if refusal > 0 {
+        return refusal;
+    }
+    let settings_good = settings_fit(asked, g, s);
+    if !settings_good {
+        return 5;
+    }
+    let column_good = kbest_haplotype::column_fits(column);
+    if !column_good {
+        return 6;
+    }
+    if !long_enough {
+        return 7;
+    }
+    0
+}
+
+// How many elements each workspace slice needs: numbers of 32 bits, but for the scores, which are f64.
+#[repr(C)]
+pub struct Workspace {
+    pub vertices: usize,
+    pub edges: usize,
+    pub index: usize,
+    pub nodes: usize,
+    pub open: usize,
+    pub paths: usize,
+    pub scores: usize,
+    pub active: usize,
+    pub queue: usize,
+    pub pivotal: usize,
+}
+
+// The answer of `lengths`: a refusal, or how many elements each slice needs; there are two slices of `origins` numbers.
+#[repr(C)]
+pub struct LengthsTold {
+    pub refusal: u32,
+    pub edges: usize,
+    pub nodes: usize,
+    pub paths: usize,
+    pub bases: usize,
+    pub origins: usize,
+    pub workspace: Workspace,
+}
+
+// 1 and 5, of the call for lengths.
+fn check_lengths(k: u32, asked: u32, g: GraphMaxima, s: SearchMaxima) -> u32
+    ensures { λ r. ⌜ r ≡ firstBroken (lengthsRules k asked (graphMaximaOf g) (searchMaximaOf s)) ⌝ }
+{
+    if !bio_ids::k_fits(k) {
+        return 1;
+    }
+    if !settings_fit(asked, g, s) {
+        return 5;
+    }
+    0
+}
+
+// A refused answer holds 0 in every other field.
+fn lengths_refused(refusal: u32) -> LengthsTold
+    ensures { λ r. ⌜ r ≡ refusedLengths refusal ⌝ }
+{
+    let workspace = Workspace {
+        vertices: 0,
+        edges: 0,
+        index: 0,
+        nodes: 0,
+        open: 0,
+        paths: 0,
+        scores: 0,
+        active: 0,
+        queue: 0,
+        pivotal: 0,
+    };
+    LengthsTold {
+        refusal: refusal,
+        edges: 0,
+        nodes: 0,
+        paths: 0,
+        bases: 0,
+        origins: 0,
+        workspace: workspace,
+    }
+}
+
+// The workspace of settings within limits; a path is made by a push or by recovery, which makes no more than are asked.
+fn workspace_told(asked: u32, g: GraphMaxima, s: SearchMaxima) -> Workspace
+    requires { ⌜ InLimits asked (graphMaximaOf g) (searchMaximaOf s) ⌝ }
+    ensures { λ r. ⌜ r ≡ workspaceTold asked (graphMaximaOf g) (searchMaximaOf s) ⌝ }
+{
+    let paths = s.pushes as usize + asked as usize;
+    Workspace {
+        vertices: g.vertices as usize * 12,
+        edges: g.edges as usize * 6,
+        index: g.vertices as usize * 2,
+        nodes: (g.nodes as usize + 1) * 5,
+        open: g.nodes as usize * 2,
+        paths: paths * 8,
+        scores: paths,
+        active: paths * s.active as usize,
+        queue: s.pushes as usize,
+        pivotal: g.edges as usize * 4,
+    }
+}
+
+// The lengths for settings within limits.
+fn lengths_within(k: u32, asked: u32, g: GraphMaxima, s: SearchMaxima) -> LengthsTold
+    requires { ⌜ (k ≤ 128) × InLimits asked (graphMaximaOf g) (searchMaximaOf s) ⌝ }
+    ensures { λ r. ⌜ r ≡ acceptedLengths k asked (graphMaximaOf g) (searchMaximaOf s) ⌝ }
+{
+    let workspace = workspace_told(asked, g, s);
+    let stride = k as usize + s.path_edges as usize;
+    LengthsTold {
+        refusal: 0,
+        edges: g.edges as usize * 6,
+        nodes: g.nodes as usize * 4,
+        paths: asked as usize,
+        bases: asked as usize * stride,
+        origins: asked as usize * s.path_edges as usize,
+        workspace: workspace,
+    }
+}
+
+// The call for lengths: what each slice must hold for these settings, so that a caller can lend it.
+pub fn lengths(k: u32, asked: u32, g: GraphMaxima, s: SearchMaxima) -> LengthsTold
+    ensures { λ r. ⌜ Told k asked (graphMaximaOf g) (searchMaximaOf s) r ⌝ }
+{
+    let refusal = check_lengths(k, asked, g, s);
+    if refusal > 0 {
+        return lengths_refused(refusal);
+    }
+    lengths_within(k, asked, g, s)
+}
