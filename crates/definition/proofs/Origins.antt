@@ -8,10 +8,10 @@ use mathlib.Core.List.{List, [], _∷_, _++_, map, append-nil, append-assoc}
 use mathlib.Core.Option.{Option, none, some}
 use lib.Dec.{leb}
 use lib.ListN.{length, take, drop, getD, length-append, length-map, length-take, length-drop}
-use lib.Seq.{drop-drop, length-take-le, take-all, take-at, take-take}
+use lib.Seq.{drop-drop, length-take-le, take-all, take-at}
 use borrow.Author.Tests.{le-leb, leb-true}
 use Rattle.laws.specs.Lists.{find, lastOr}
-use Rattle.laws.specs.ListLaws.{clash, and-left, and-right, All, nil, cons, Mem, here, there, all-head, all-tail, all-mono, all-map, all-mem, all-find}
+use Rattle.laws.specs.ListLaws.{part-part, clash, and-left, and-right, All, nil, cons, Mem, here, there, all-head, all-tail, all-mono, all-map, all-mem, all-find}
 use Rattle.definition.specs.Refusal.{ok}
 use Rattle.definition.specs.Score.{Scoring}
 use Rattle.definition.specs.Limits.{Sample, GraphMaxima, Input, isBase}
@@ -32,13 +32,6 @@ use Rattle.definition.proofs.Spelling.{Spells, Opened, opened, opened-n
 use Rattle.definition.proofs.Found.{Listing, all-listed, found-good}
 
 -- ---- the bytes at an origin
-
--- a part of a part
-part-part : (m L : ℕ) (off : ℕ) (X : List ℕ) → off + m ≤ L → take m (drop off (take L X)) ≡ take m (drop off X)
-part-part m L zero X h = take-take m L X (omega arith)
-part-part m zero (suc off) X h = absurd (omega arith)
-part-part m (suc L) (suc off) [] h = refl
-part-part m (suc L) (suc off) (x ∷ X) h = part-part m L off X (omega arith)
 
 part-of : (m off at : ℕ) (read bytes : List ℕ) → take (length bytes) (drop at read) ≡ bytes → off + m ≤ length bytes
     → take m (drop (at + off) read) ≡ take m (drop off bytes)

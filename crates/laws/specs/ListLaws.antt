@@ -1,13 +1,14 @@
 -- Laws of lists and of the functions of Lists: what holds of every element, membership, keeping, finding.
 use mathlib.Core.Path.{_≡_, refl, sym, ap, subst, _∙_}
 use mathlib.Core.Logic.{_⊎_, inl, inr}
-use Prim.Native.Nat.{ℕ, suc, _+_, _≤_}
+use Prim.Native.Nat.{ℕ, zero, suc, _+_, _≤_}
 use native.Mathlib.Omega.{arith}
 use mathlib.Core.Bool.{Bool, true, false, _&&_, _||_, cond}
 use mathlib.Core.List.{List, [], _∷_, _++_, map}
 use mathlib.Core.Option.{Option, none, some}
 use lib.Dec.{T}
-use lib.ListN.{length}
+use lib.ListN.{length, take, drop}
+use lib.Seq.{take-take}
 use Rattle.laws.specs.Lists.{keep, find, findLast, sole, total}
 
 -- ---- Booleans
@@ -326,3 +327,13 @@ module _ {A : Type 0} where
   pub append-rest : (xs ys zs : List A) → xs ++ ys ≡ xs ++ zs → ys ≡ zs
   append-rest [] ys zs e = e
   append-rest (x ∷ xs) ys zs e = append-rest xs ys zs (let h : xs ++ ys ≡ xs ++ zs = cc in h)
+
+-- ---- parts
+
+module _ {A : Type 0} where
+  -- a part of a part is a part of the whole
+  pub part-part : (m size off : ℕ) (xs : List A) → off + m ≤ size → take m (drop off (take size xs)) ≡ take m (drop off xs)
+  part-part m size zero xs h = take-take m size xs (omega arith)
+  part-part m zero (suc off) xs h = absurd (omega arith)
+  part-part m (suc size) (suc off) [] h = refl
+  part-part m (suc size) (suc off) (x ∷ xs) h = part-part m size off xs (omega arith)

@@ -16,7 +16,7 @@ use Rattle.definition.specs.Limits.{originRules}
 use Rattle.definition.specs.Threading.{Origin}
 use Rattle.definition.specs.Origins.{sequenceIn, bytesIn}
 use Rattle.definition.specs.Calls.{OriginOutcome, originOf, afterOriginChecks, originCall}
-use Rattle.origins.specs.Reads.{startOf, read-at, no-read, part-part, accepted-by, bounded}
+use Rattle.origins.specs.Reads.{startOf, read-at, no-read, part-at, accepted-by, bounded}
 use Rattle.origins.specs.Parts.{origin, fitted, isRead, startIn, lent, foundAt, bytesOf, Inside, Tells, Located, sliceOf, lentBy, answered, Names}
 use Rattle.origins.specs.declared.Part.{Part}
 use Rattle.origins.specs.declared.Found.{Found}
@@ -99,7 +99,7 @@ module _ (k : ℕ) (reference ends bases : List ℕ) (o : Origin) (small : k ≤
   unfolding originOf
   call-there h =
       ap originOf (bytes-there k reference ends bases o (take size (drop start (lent reference bases inReads))) e (ap (leb (o .place + suc k)) size-is ∙ h))
-      ∙ ap (λ (l : List ℕ). record { refusal = 0; bytes = l }) (part-part (suc k) size start (o .place) (lent reference bases inReads) (leb-true (o .place + suc k) size h))
+      ∙ ap (λ (l : List ℕ). record { refusal = 0; bytes = l }) (part-at (suc k) size start (o .place) (lent reference bases inReads) (leb-true (o .place + suc k) size h))
 
   call-short : leb (o .place + suc k) size ≡ false → originOf (bytesIn k reference ends bases o) ≡ record { refusal = 13; bytes = [] }
   unfolding originOf

@@ -7,10 +7,10 @@ use mathlib.Core.List.{List, [], _∷_}
 use mathlib.Core.Option.{none, some}
 use lib.Dec.{leb, eqb}
 use lib.ListN.{length, take, drop, getD}
-use lib.Seq.{drop-drop, take-take}
+use lib.Seq.{drop-drop}
 use borrow.Author.Tests.{leb-true, eqb-true}
 use Rattle.laws.specs.Lists.{lastOr}
-use Rattle.laws.specs.ListLaws.{and-left, and-right}
+use Rattle.laws.specs.ListLaws.{and-left, and-right, part-part}
 use Rattle.definition.specs.Refusal.{firstBroken}
 use Rattle.definition.specs.Limits.{kFits, referenceFits, referenceBases, rising, endsFit, originRules}
 use Rattle.definition.specs.Origins.{readAt}
@@ -78,15 +78,10 @@ no-read (suc s) b (e ∷ es) bs l = no-read s e es (drop (e - b) bs) (omega arit
 
 -- ---- a part of a part
 
-cut : (m size place : ℕ) (xs : List ℕ) → place + m ≤ size → take m (drop place (take size xs)) ≡ take m (drop place xs)
-cut m size zero xs h = take-take m size xs (omega arith)
-cut m zero (suc place) xs h = absurd (omega arith)
-cut m (suc size) (suc place) [] h = refl
-cut m (suc size) (suc place) (x ∷ xs) h = cut m size place xs (omega arith)
-
-pub part-part : (m size start place : ℕ) (xs : List ℕ) → place + m ≤ size
+-- a part of a part of the read bases
+pub part-at : (m size start place : ℕ) (xs : List ℕ) → place + m ≤ size
     → take m (drop place (take size (drop start xs))) ≡ take m (drop (start + place) xs)
-part-part m size start place xs h = cut m size place (drop start xs) h ∙ ap (take m) (drop-drop place start xs)
+part-at m size start place xs h = part-part m size place (drop start xs) h ∙ ap (take m) (drop-drop place start xs)
 
 -- ---- what is accepted
 
