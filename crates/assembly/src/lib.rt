@@ -6,7 +6,7 @@ ghost use Rattle.laws.specs.Numbers.{eqList};
 ghost use Rattle.laws.specs.Records.{field};
 ghost use Rattle.definition.specs.Threading.{numberOf};
 ghost use Rattle.assembly.specs.Store.{edgeAt, kmersOf};
-ghost use Rattle.assembly.specs.Kmers.{part};
+ghost use Rattle.assembly.specs.Kmers.{part, born};
 ghost use Rattle.assembly.specs.Moves.{gained, addedE, addedV, newEdge};
 ghost use Rattle.assembly.specs.Outs.{Names, Lesser, Slots, Nexts};
 ghost use Rattle.assembly.specs.Sorted.{Orders, Ordered};
@@ -169,6 +169,14 @@ pub fn find_kmer(
     n
 }
 
+// Vertex n, with the kmer at place q of the text.
+pub fn create_vertex(vertices: &mut [u32], n: usize, q: usize)
+    requires { ⌜ (n * 12 + 12 ≤ length (now vertices)) × (q < 2 ^ 32) ⌝ }
+    ensures { λ _. ⌜ now (vertices .exit) ≡ born (now (vertices .entry)) n q ⌝ }
+{
+    vertices[n * VERTEX + AT] = q as u32;
+}
+
 // One more support for edge i, and the mark where there is one.
 pub fn inc_edge(edges: &mut [u32], i: usize, mark: u32)
     requires { ⌜ (i * 6 + 6 ≤ length (now edges)) × (field (now edges) 6 i 2 + 1 < 2 ^ 32) ⌝ }
@@ -269,4 +277,3 @@ pub fn order(vertices: &[u32], edges: &[u32], m: usize, out: &mut [u32])
         }
     }
 }
-

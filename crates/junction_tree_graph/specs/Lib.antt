@@ -1,0 +1,4 @@
+pub mod Steps
+pub mod Backs
+pub mod Starts
+pub mod Stretches
