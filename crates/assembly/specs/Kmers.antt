@@ -140,7 +140,7 @@ unfolding numberOf kmersOf
 number-none k text vs n q u = sym (position-none (λ y. eqList y (part k text q)) (kmerAt k text vs) n (u .none))
 
 -- ---- the kmer that has the number, and the kmers with one more
-position-true : {A : Type 0} (p : A → Bool) (d : A) (l : List A) → position p l < length l → p (getD l (position p l) d) ≡ true
+pub position-true : {A : Type 0} (p : A → Bool) (d : A) (l : List A) → position p l < length l → p (getD l (position p l) d) ≡ true
 position-true p d [] h = absurd (omega arith)
 position-true p d (x ∷ l) h = go (p x) refl (position-true p d l)
   where
@@ -159,11 +159,11 @@ pub length-of : (k : ℕ) (text vs : List ℕ) (n : ℕ) → length (kmersOf k t
 unfolding kmersOf
 length-of k text vs n = length-rows (kmerAt k text vs) n
 
-with-yes : (ks : List (List ℕ)) (x : List ℕ) → numberOf ks x ≡ length ks → withKmer ks x ≡ ks ++ (x ∷ [])
+pub with-yes : (ks : List (List ℕ)) (x : List ℕ) → numberOf ks x ≡ length ks → withKmer ks x ≡ ks ++ (x ∷ [])
 unfolding withKmer
 with-yes ks x h = rw (eq-eqb (numberOf ks x) (length ks) h, withKmer)
 
-with-no : (ks : List (List ℕ)) (x : List ℕ) → numberOf ks x ≢ length ks → withKmer ks x ≡ ks
+pub with-no : (ks : List (List ℕ)) (x : List ℕ) → numberOf ks x ≢ length ks → withKmer ks x ≡ ks
 unfolding withKmer
 with-no ks x h = rw (ne-eqb (numberOf ks x) (length ks) h, withKmer)
 
@@ -306,7 +306,7 @@ with-length k text vs n q w e z =
     ap length (with-yes (kmersOf k text vs n) (part k text q) (sym e ∙ z ∙ sym (length-of k text vs n))) ∙ length-append (kmersOf k text vs n) (part k text q ∷ [])
     ∙ (let y = length-of k text vs n in omega arith)
 
-position-le : {A : Type 0} (p : A → Bool) (l : List A) → position p l ≤ length l
+pub position-le : {A : Type 0} (p : A → Bool) (l : List A) → position p l ≤ length l
 position-le p [] = omega arith
 position-le p (x ∷ l) = go (p x) refl (position-le p l)
   where

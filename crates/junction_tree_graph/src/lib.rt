@@ -14,13 +14,17 @@ ghost use mathlib.Core.List.{_++_};
 ghost use Prim.Native.Nat.{ℕ, _+_, _-_, _*_, _^_, _<_, _≤_};
 ghost use lib.Dec.{eqb};
 ghost use lib.ListN.{length, getD};
-ghost use Rattle.definition.specs.Threading.{step, startAt, thread};
+ghost use Rattle.definition.specs.Limits.{isBase};
+ghost use Rattle.definition.specs.Stretch.{usable};
+ghost use Rattle.definition.specs.Threading.{step, startAt, thread, threadAll};
 ghost use Rattle.assembly.specs.Store.{graphOf};
 ghost use Rattle.assembly.specs.Kmers.{part};
 ghost use Rattle.junction_tree_graph.specs.Steps.{Gets, Got, Extends, Stepped, threadingOf, originOf};
 ghost use Rattle.junction_tree_graph.specs.Backs.{Backs, Backed};
 ghost use Rattle.junction_tree_graph.specs.Starts.{Starts};
 ghost use Rattle.junction_tree_graph.specs.Stretches.{Threads, Threaded, stretchAt};
+ghost use Rattle.junction_tree_graph.specs.Runs.{RunEnd, threadRun};
+ghost use Rattle.junction_tree_graph.specs.Reads.{RunThreads, ReadThreads, ReadsThread, readOf, readsOf};
 
 // The most vertices and edges that threading may make.
 pub struct Most {
@@ -225,6 +229,166 @@ fn thread_sequence(
             return r;
         };
         s = s2;
+        j += 1;
+    }
+    Step::Next(s)
+}
+
+fn is_base_usable(b: u8) -> bool
+    ensures { λ r. ⌜ r ≡ isBase b ⌝ }
+{
+    b == b'A' || b == b'C' || b == b'G' || b == b'T' || b == b'N'
+}
+
+// Whether a read's byte b, of quality q, is usable.
+fn is_usable(quality: u8, b: u8, q: u8) -> bool
+    ensures { λ r. ⌜ r ≡ usable quality b q ⌝ }
+{
+    is_base_usable(b) && quality <= q
+}
+
+// Where the usable run at place p of the bases ends: at the next unusable byte, or at `end`.
+fn run_end(bases: &[u8], qualities: &[u8], quality: u8, p: usize, end: usize) -> usize
+    requires { ⌜ (p ≤ end) × (end ≤ length (now bases)) × (end ≤ length (now qualities)) ⌝ }
+    ensures { λ r. ⌜ RunEnd (usable quality) (now (bases .entry)) (now (qualities .entry)) p end r ⌝ }
+{
+    let mut q = p;
+    while q < end {
+        if !is_usable(quality, bases[q], qualities[q]) {
+            return q;
+        }
+        q += 1;
+    }
+    q
+}
+
+// A usable run of `len` bytes at place a of the text: only runs of at least k bytes are threaded.
+fn thread_run(
+    reference: &[u8],
+    bases: &[u8],
+    vertices: &mut [u32],
+    edges: &mut [u32],
+    k: usize,
+    most: Most,
+    s: At,
+    a: usize,
+    len: usize,
+    sequence: u32,
+    place: usize,
+) -> Step
+    requires { ⌜ RunThreads k (now reference ++ now bases) (now vertices) (now edges) most s a len place ⌝ }
+    ensures { λ r. ⌜ Threaded k (now (reference .entry) ++ now (bases .entry)) (now (vertices .exit)) (now (edges .exit)) most (s .steps + 2 * len) r (threadRun k (stretchAt (now (reference .entry) ++ now (bases .entry)) a len sequence place) (graphOf k (now (reference .entry) ++ now (bases .entry)) (now (vertices .entry)) (s .vertices) (now (edges .entry)) (s .edges))) ⌝ }
+{
+    if len < k {
+        return Step::Next(s);
+    }
+    thread_sequence(
+        reference,
+        bases,
+        vertices,
+        edges,
+        k,
+        most,
+        s,
+        a,
+        len,
+        0,
+        sequence,
+        place,
+    )
+}
+
+// The read that lies from `start` to `end` of the bases: one usable run after the other.
+fn thread_read(
+    reference: &[u8],
+    bases: &[u8],
+    qualities: &[u8],
+    vertices: &mut [u32],
+    edges: &mut [u32],
+    k: usize,
+    quality: u8,
+    most: Most,
+    s0: At,
+    start: usize,
+    end: usize,
+    sequence: u32,
+) -> Step
+    requires { ⌜ ReadThreads k (now reference) (now bases) (now qualities) (now vertices) (now edges) most s0 start end ⌝ }
+    ensures { λ r. ⌜ Threaded k (now (reference .entry) ++ now (bases .entry)) (now (vertices .exit)) (now (edges .exit)) most (2 * (length (now (reference .entry)) + end)) r (threadAll k (readOf k quality (now (bases .entry)) (now (qualities .entry)) sequence start end) (graphOf k (now (reference .entry) ++ now (bases .entry)) (now (vertices .entry)) (s0 .vertices) (now (edges .entry)) (s0 .edges))) ⌝ }
+{
+    let n = reference.len();
+    let mut s = s0;
+    let mut p = start;
+    while p < end {
+        let q = run_end(bases, qualities, quality, p, end);
+        let r = thread_run(
+            reference,
+            bases,
+            vertices,
+            edges,
+            k,
+            most,
+            s,
+            n + p,
+            q - p,
+            sequence,
+            p - start,
+        );
+        let Step::Next(s2) = r else {
+            return r;
+        };
+        s = s2;
+        p = q + 1;
+    }
+    Step::Next(s)
+}
+
+fn wide_end(x: u32) -> usize
+    ensures { λ r. ⌜ r ≡ x ⌝ }
+{
+    x as usize
+}
+
+// All reads in order; read j ends at ends[j].
+fn thread_reads(
+    reference: &[u8],
+    ends: &[u32],
+    bases: &[u8],
+    qualities: &[u8],
+    vertices: &mut [u32],
+    edges: &mut [u32],
+    k: usize,
+    quality: u8,
+    most: Most,
+    s0: At,
+) -> Step
+    requires { ⌜ ReadsThread k (now reference) (now ends) (now bases) (now qualities) (now vertices) (now edges) most s0 ⌝ }
+    ensures { λ r. ⌜ Threaded k (now (reference .entry) ++ now (bases .entry)) (now (vertices .exit)) (now (edges .exit)) most (2 * length (now (reference .entry) ++ now (bases .entry))) r (threadAll k (readsOf k quality (now (ends .entry)) (now (bases .entry)) (now (qualities .entry))) (graphOf k (now (reference .entry) ++ now (bases .entry)) (now (vertices .entry)) (s0 .vertices) (now (edges .entry)) (s0 .edges))) ⌝ }
+{
+    let mut s = s0;
+    let mut start: usize = 0;
+    let mut j: usize = 0;
+    while j < ends.len() {
+        let end = wide_end(ends[j]);
+        let r = thread_read(
+            reference,
+            bases,
+            qualities,
+            vertices,
+            edges,
+            k,
+            quality,
+            most,
+            s,
+            start,
+            end,
+            (j + 1) as u32,
+        );
+        let Step::Next(s2) = r else {
+            return r;
+        };
+        s = s2;
+        start = end;
         j += 1;
     }
     Step::Next(s)
