@@ -69,7 +69,7 @@ no-rows : {A : Type 0} (l : List A) → length l ≡ 0 → l ≡ []
 no-rows [] h = refl
 no-rows (x ∷ l) h = absurd (omega arith)
 
-rows-0 : {A : Type 0} (f : ℕ → A) → rows f 0 ≡ []
+pub rows-0 : {A : Type 0} (f : ℕ → A) → rows f 0 ≡ []
 rows-0 f = no-rows (rows f 0) (length-rows f 0)
 
 rows-suc : {A : Type 0} (f : ℕ → A) (n : ℕ) → rows f (suc n) ≡ rows f n ++ (f n ∷ [])

@@ -6,3 +6,4 @@ pub mod Moves
 pub mod Kmers
 pub mod Outs
 pub mod Sorted
+pub mod Symbolic

@@ -109,21 +109,33 @@ pub gained-mark : (es : List ℕ) (i : ℕ) → i * 6 + 6 ≤ length es → (j :
 unfolding gained
 gained-mark es i h j = field-other es 6 i 2 (field es 6 i 2 + 1) j 3 (omega arith) (omega arith) (omega arith)
 
--- what holds of the tables is a matter of ends alone
-pub good-ends : {k : ℕ} {text vs : List ℕ} {n : ℕ} {es es' : List ℕ} {m : ℕ} → ((j : ℕ) → field es' 6 j 0 ≡ field es 6 j 0) → ((j : ℕ) → field es' 6 j 1 ≡ field es 6 j 1)
-    → Good k text vs n es m → Good k text vs n es' m
-good-ends {k = k} {text = text} {vs = vs} {n = n} {es = es} {es' = es'} {m = m} a b g =
+-- what holds of the tables is a matter of the ends of the rows used
+pub good-front : {k : ℕ} {text vs : List ℕ} {n : ℕ} {es es' : List ℕ} {m : ℕ} → ((j : ℕ) → j < m → field es' 6 j 0 ≡ field es 6 j 0)
+    → ((j : ℕ) → j < m → field es' 6 j 1 ≡ field es 6 j 1) → Good k text vs n es m → Good k text vs n es' m
+good-front {k = k} {text = text} {vs = vs} {n = n} {es = es} {es' = es'} {m = m} a b g =
     record {
-      from-in = λ i h. rw (a i) (g .from-in i h);
-      to-in = λ i h. rw (b i) (g .to-in i h);
-      slot = λ i h. rw (a i, b i) (g .slot i h);
-      full = λ v c h l z. (let w = g .full v c h l z in (w .0, a (field vs 12 v c - 1) ∙ w .1, rw (b (field vs 12 v c - 1)) (w .2)));
+      from-in = λ i h. rw (a i h) (g .from-in i h);
+      to-in = λ i h. rw (b i h) (g .to-in i h);
+      slot = λ i h. rw (a i h, b i h) (g .slot i h);
+      full =
+          λ v c h l z.
+          (let w = g .full v c h l z in
+          let y : field vs 12 v c - 1 < m = (let u = w .0 in omega arith) in
+          (w .0, a (field vs 12 v c - 1) y ∙ w .1, rw (b (field vs 12 v c - 1) y) (w .2)));
       base = g .base;
       fits = g .fits;
-      ins = λ v h. g .ins v h ∙ sym (count-same (λ d. eqb (d .to) v) (edgeAt es) (edgeAt es') m (λ j l. rw (b j)));
-      into = λ v h z. (let w = g .into v h z in (w .0, w .1, b (field vs 12 v 10 - 1) ∙ w .2));
+      ins = λ v h. g .ins v h ∙ sym (count-same (λ d. eqb (d .to) v) (edgeAt es) (edgeAt es') m (λ j l. rw (b j l)));
+      into =
+          λ v h z.
+          (let w = g .into v h z in
+          let y : field vs 12 v 10 - 1 < m = (let u = w .0 in let t = w .1 in omega arith) in
+          (w .0, w .1, b (field vs 12 v 10 - 1) y ∙ w .2));
       zeros = g .zeros;
     }
+
+pub good-ends : {k : ℕ} {text vs : List ℕ} {n : ℕ} {es es' : List ℕ} {m : ℕ} → ((j : ℕ) → field es' 6 j 0 ≡ field es 6 j 0) → ((j : ℕ) → field es' 6 j 1 ≡ field es 6 j 1)
+    → Good k text vs n es m → Good k text vs n es' m
+good-ends a b g = good-front (λ j h. a j) (λ j h. b j) g
 
 pub gained-good : {k : ℕ} {text vs : List ℕ} {n : ℕ} {es : List ℕ} {m : ℕ} (i a : ℕ) → i * 6 + 6 ≤ length es → Good k text vs n es m → Good k text vs n (gained es i a) m
 gained-good {es = es} i a h g = good-ends (λ j. gained-other es i a h j 0 (omega arith) (omega arith) (omega arith)) (λ j. gained-other es i a h j 1 (omega arith) (omega arith) (omega arith)) g
@@ -207,11 +219,11 @@ module _ (es : List ℕ) (m : ℕ) (e : Edge) (a : ℕ) where
   unfolding addedE
   length-addedE = length-putFrom es 6 m 0 (rowOf e a)
 
-  addedE-row : (j d : ℕ) → d < 6 → j ≢ m → field (addedE es m e a) 6 j d ≡ field es 6 j d
+  pub addedE-row : (j d : ℕ) → d < 6 → j ≢ m → field (addedE es m e a) 6 j d ≡ field es 6 j d
   unfolding addedE
   addedE-row j d h p = putFrom-row es 6 m 0 (rowOf e a) j d (omega arith) h p
 
-  addedE-at : m * 6 + 6 ≤ length es → (d : ℕ) → d < 6 → field (addedE es m e a) 6 m d ≡ getD (rowOf e a) (d - 0) 0
+  pub addedE-at : m * 6 + 6 ≤ length es → (d : ℕ) → d < 6 → field (addedE es m e a) 6 m d ≡ getD (rowOf e a) (d - 0) 0
   unfolding addedE
   addedE-at r d h = putFrom-at es 6 m 0 (rowOf e a) d r (omega arith) (omega arith) (omega arith)
 
@@ -219,7 +231,7 @@ module _ (es : List ℕ) (m : ℕ) (e : Edge) (a : ℕ) where
   addedE-new r q =
       rw (addedE-at r 0 (omega arith), addedE-at r 1 (omega arith), addedE-at r 2 (omega arith), addedE-at r 3 (omega arith), addedE-at r 4 (omega arith), addedE-at r 5 (omega arith), ← q)
 
-  addedE-old : (j : ℕ) → j ≢ m → edgeAt (addedE es m e a) j ≡ edgeAt es j
+  pub addedE-old : (j : ℕ) → j ≢ m → edgeAt (addedE es m e a) j ≡ edgeAt es j
   addedE-old j p =
       rw (addedE-row j 0 (omega arith) p, addedE-row j 1 (omega arith) p, addedE-row j 2 (omega arith) p, addedE-row j 3 (omega arith) p, addedE-row j 4 (omega arith) p, addedE-row j 5 (omega arith) p)
 

@@ -8,10 +8,13 @@ ghost use Rattle.definition.specs.Threading.{numberOf};
 ghost use Rattle.assembly.specs.Store.{edgeAt, kmersOf};
 ghost use Rattle.assembly.specs.Kmers.{part, born};
 ghost use Rattle.assembly.specs.Moves.{gained, addedE, addedV, newEdge};
+ghost use Rattle.assembly.specs.Symbolic.{symbolic, linked};
 ghost use Rattle.assembly.specs.Outs.{Names, Lesser, Slots, Nexts};
 ghost use Rattle.assembly.specs.Sorted.{Orders, Ordered};
 
 const VERTEX: usize = 12;
+
+const SYMBOLIC: usize = 4;
 
 const AT: usize = 8;
 
@@ -215,6 +218,27 @@ pub fn add_edge(
     vertices[from * VERTEX + c] = number;
     vertices[to * VERTEX + INS] = ins + 1;
     vertices[to * VERTEX + INTO] = number;
+}
+
+// Row m becomes the symbolic edge, from the sink to vertex n: of support 0, marked, with the place of the reference's last kmer as its origin.
+pub fn add_symbolic_edge(edges: &mut [u32], m: usize, sink: usize, n: usize, place: usize)
+    requires { ⌜ (m * 6 + 6 ≤ length (now edges)) × (sink < 2 ^ 32) × (n < 2 ^ 32) × (place < 2 ^ 32) ⌝ }
+    ensures { λ _. ⌜ now (edges .exit) ≡ addedE (now (edges .entry)) m (symbolic sink n place) 1 ⌝ }
+{
+    edges[m * EDGE + FROM] = sink as u32;
+    edges[m * EDGE + TO] = n as u32;
+    edges[m * EDGE + SUPPORT] = 0;
+    edges[m * EDGE + MARK] = 1;
+    edges[m * EDGE + SEQUENCE] = 0;
+    edges[m * EDGE + PLACE] = place as u32;
+}
+
+// The sink's slot 4, which no base has, names the symbolic edge: from here on it is among the out-edges.
+pub fn link_symbolic_edge(vertices: &mut [u32], sink: usize, m: usize)
+    requires { ⌜ (sink * 12 + 12 ≤ length (now vertices)) × (m < 8192) ⌝ }
+    ensures { λ _. ⌜ now (vertices .exit) ≡ linked (now (vertices .entry)) sink m ⌝ }
+{
+    vertices[sink * VERTEX + SYMBOLIC] = (m + 1) as u32;
 }
 
 // Of the best out-edge so far and a slot (numbers plus 1, 0 for none), the one of lesser target, where the slot's is at least t.

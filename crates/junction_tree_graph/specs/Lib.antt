@@ -6,3 +6,6 @@ pub mod Spelling
 pub mod Runs
 pub mod Reads
 pub mod Usable
+pub mod Bounds
+pub mod Built
+pub mod Answers

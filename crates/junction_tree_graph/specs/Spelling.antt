@@ -56,14 +56,14 @@ parts-join k text a h =
 
 -- ---- the kmers with one more
 module _ (ks : List (List ℕ)) (x : List ℕ) where
-  with-keeps : (v : ℕ) → v < length ks → (v < length (withKmer ks x)) × (getD (withKmer ks x) v [] ≡ getD ks v [])
+  pub with-keeps : (v : ℕ) → v < length ks → (v < length (withKmer ks x)) × (getD (withKmer ks x) v [] ≡ getD ks v [])
   with-keeps v h = go (ℕ-discrete (numberOf ks x) (length ks))
     where
       go : Dec (numberOf ks x ≡ length ks) → (v < length (withKmer ks x)) × (getD (withKmer ks x) v [] ≡ getD ks v [])
       go (yes e) = rw (with-yes ks x e) ((let z = length-append ks (x ∷ []) in omega arith), List·getD-append ks (x ∷ []) [] v h)
       go (no e) = rw (with-no ks x e) (h, refl)
 
-  with-has : (numberOf ks x < length (withKmer ks x)) × (getD (withKmer ks x) (numberOf ks x) [] ≡ x)
+  pub with-has : (numberOf ks x < length (withKmer ks x)) × (getD (withKmer ks x) (numberOf ks x) [] ≡ x)
   unfolding numberOf
   with-has = go (ℕ-discrete (numberOf ks x) (length ks))
     where
@@ -88,7 +88,7 @@ module _ (ks : List (List ℕ)) (x : List ℕ) where
       go (no e) = rw (with-no ks x e) (h v (rw (with-no ks x e) at l))
 
 -- ---- a fact of all ends
-all-put : (P : Ends → Type 0) (x : Edge) (es : List Edge) → P (x .ends) → All (λ (e : Edge). P (e .ends)) es → All (λ (e : Edge). P (e .ends)) (put x es)
+pub all-put : (P : Ends → Type 0) (x : Edge) (es : List Edge) → P (x .ends) → All (λ (e : Edge). P (e .ends)) es → All (λ (e : Edge). P (e .ends)) (put x es)
 all-put P x [] h a = rw (put-nil x) (cons h nil)
 all-put P x (e ∷ es) h (cons p a) = go (compareEnds (x .ends) (e .ends)) refl (all-put P x es h a)
   where
@@ -97,7 +97,7 @@ all-put P x (e ∷ es) h (cons p a) = go (compareEnds (x .ends) (e .ends)) refl 
     go Ordering·eq c ih = rw (put-eq x e es c) (cons {x = merge e x} (rw (merge-ends e x) p) a)
     go Ordering·gt c ih = rw (put-gt x e es c) (cons p ih)
 
-all-backward : (P : Ends → Type 0) (n v : ℕ) (es : List Edge) → All (λ (e : Edge). P (e .ends)) es → All (λ (e : Edge). P (e .ends)) (backward n v es)
+pub all-backward : (P : Ends → Type 0) (n v : ℕ) (es : List Edge) → All (λ (e : Edge). P (e .ends)) es → All (λ (e : Edge). P (e .ends)) (backward n v es)
 unfolding backward oneStep entering
 all-backward P zero v es a = a
 all-backward P (suc n) v es a = go (sole (entering es v)) refl (λ u l b. all-backward P n u l b)

@@ -1,4 +1,5 @@
 use assembly::add_edge;
+use assembly::add_symbolic_edge;
 use assembly::byte_at;
 use assembly::create_vertex;
 use assembly::edge_from;
@@ -16,7 +17,7 @@ ghost use lib.Dec.{eqb};
 ghost use lib.ListN.{length, getD};
 ghost use Rattle.definition.specs.Limits.{isBase};
 ghost use Rattle.definition.specs.Stretch.{usable};
-ghost use Rattle.definition.specs.Threading.{step, startAt, thread, threadAll};
+ghost use Rattle.definition.specs.Threading.{step, startAt, thread, threadAll, threaded};
 ghost use Rattle.assembly.specs.Store.{graphOf};
 ghost use Rattle.assembly.specs.Kmers.{part};
 ghost use Rattle.junction_tree_graph.specs.Steps.{Gets, Got, Extends, Stepped, threadingOf, originOf};
@@ -25,8 +26,10 @@ ghost use Rattle.junction_tree_graph.specs.Starts.{Starts};
 ghost use Rattle.junction_tree_graph.specs.Stretches.{Threads, Threaded, stretchAt};
 ghost use Rattle.junction_tree_graph.specs.Runs.{RunEnd, threadRun};
 ghost use Rattle.junction_tree_graph.specs.Reads.{RunThreads, ReadThreads, ReadsThread, readOf, readsOf};
+ghost use Rattle.junction_tree_graph.specs.Built.{sampleOf, Begins, Builds};
+ghost use Rattle.junction_tree_graph.specs.Answers.{refusalOf, BuiltOf};
 
-// The most vertices and edges that threading may make.
+// The most vertices and edges: of the caller's maxima the symbolic vertex and edge count, of those that threading keeps to they do not.
 pub struct Most {
     pub vertices: usize,
     pub edges: usize,
@@ -42,6 +45,18 @@ pub struct At {
 
 pub enum Step {
     Next(At),
+    Refused(u32),
+}
+
+// A graph in the tables: how many kmers and threaded edges it has. The symbolic vertex has the next number, and the symbolic edge is the next row.
+pub struct Built {
+    pub vertices: usize,
+    pub edges: usize,
+    pub sink: usize,
+}
+
+pub enum Answer {
+    Done(Built),
     Refused(u32),
 }
 
@@ -392,4 +407,111 @@ fn thread_reads(
         j += 1;
     }
     Step::Next(s)
+}
+
+// The number of a refusal.
+fn refusal(r: Step) -> u32
+    ensures { λ n. ⌜ n ≡ refusalOf r ⌝ }
+{
+    match r {
+        Step::Next(_) => 0,
+        Step::Refused(n) => n,
+    }
+}
+
+// The reference first, then the reads in order.
+fn build(
+    k: usize,
+    quality: u8,
+    reference: &[u8],
+    ends: &[u32],
+    bases: &[u8],
+    qualities: &[u8],
+    vertices: &mut [u32],
+    edges: &mut [u32],
+    most: Most,
+) -> Step
+    requires { ⌜ Begins (sampleOf k quality (now reference) (now ends) (now bases) (now qualities)) (now vertices) (now edges) most ⌝ }
+    ensures { λ r. ⌜ Threaded k (now (reference .entry) ++ now (bases .entry)) (now (vertices .exit)) (now (edges .exit)) most (2 * length (now (reference .entry) ++ now (bases .entry))) r (threaded (sampleOf k quality (now (reference .entry)) (now (ends .entry)) (now (bases .entry)) (now (qualities .entry)))) ⌝ }
+{
+    let s0 = At {
+        vertices: 0,
+        edges: 0,
+        here: 0,
+        steps: 0,
+    };
+    let r = thread_sequence(
+        reference,
+        bases,
+        vertices,
+        edges,
+        k,
+        most,
+        s0,
+        0,
+        reference.len(),
+        1,
+        0,
+        0,
+    );
+    let Step::Next(s) = r else {
+        return r;
+    };
+    thread_reads(
+        reference,
+        ends,
+        bases,
+        qualities,
+        vertices,
+        edges,
+        k,
+        quality,
+        most,
+        s,
+    )
+}
+
+// The graph of a sample, with the symbolic edge, in tables of exactly the lengths told; or 8, just where it does not fit the maxima.
+pub fn build_graph(
+    k: usize,
+    quality: u8,
+    reference: &[u8],
+    ends: &[u32],
+    bases: &[u8],
+    qualities: &[u8],
+    vertices: &mut [u32],
+    edges: &mut [u32],
+    maxima: Most,
+) -> Answer
+    requires { ⌜ Builds (sampleOf k quality (now reference) (now ends) (now bases) (now qualities)) (maxima .vertices) (maxima .edges) (now vertices) (now edges) ⌝ }
+    ensures { λ r. ⌜ BuiltOf (sampleOf k quality (now (reference .entry)) (now (ends .entry)) (now (bases .entry)) (now (qualities .entry))) (maxima .vertices) (maxima .edges) (now (vertices .exit)) (now (edges .exit)) r ⌝ }
+{
+    let most = Most {
+        vertices: maxima.vertices - 1,
+        edges: maxima.edges - 1,
+    };
+    let r = build(
+        k,
+        quality,
+        reference,
+        ends,
+        bases,
+        qualities,
+        vertices,
+        edges,
+        most,
+    );
+    let Step::Next(s) = r else {
+        return Answer::Refused(refusal(r));
+    };
+    let n = s.vertices;
+    let m = s.edges;
+    let place = reference.len() - k;
+    let sink = find_kmer(reference, bases, vertices, n, k, place);
+    add_symbolic_edge(edges, m, sink, n, place);
+    Answer::Done(Built {
+        vertices: n,
+        edges: m,
+        sink: sink,
+    })
 }
