@@ -7,3 +7,4 @@ pub mod Kmers
 pub mod Outs
 pub mod Sorted
 pub mod Symbolic
+pub mod Paths

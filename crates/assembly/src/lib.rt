@@ -1,7 +1,12 @@
+// The graph in two lent tables of numbers, zero where not used yet; a kmer is its place in the text, the reference with the read bases after it.
+// vertices, 12 numbers each: 0 to 7 the out-edges, by the code b / 2 % 8 of the base b that the target ends in (A 0, C 1, T 2, G 3, N 7), each an
+// edge's number plus 1, or 0; 8 the kmer's place; 9 how many edges enter; 10 one of those, plus 1; 11 free.
+// edges, in the order of birth, 6 numbers each: from, to, support, mark, the origin's sequence and place.
 ghost use mathlib.Core.Path.{_≡_};
 ghost use mathlib.Core.List.{_++_};
 ghost use Prim.Native.Nat.{ℕ, _+_, _-_, _*_, _^_, _<_, _≤_};
-ghost use lib.ListN.{length, getD};
+ghost use lib.ListN.{length, getD, take};
+ghost use lib.Seq.{paste};
 ghost use Rattle.laws.specs.Numbers.{eqList};
 ghost use Rattle.laws.specs.Records.{field};
 ghost use Rattle.definition.specs.Threading.{numberOf};
@@ -10,6 +15,7 @@ ghost use Rattle.assembly.specs.Kmers.{part, born};
 ghost use Rattle.assembly.specs.Moves.{gained, addedE, addedV, newEdge};
 ghost use Rattle.assembly.specs.Symbolic.{symbolic, linked};
 ghost use Rattle.assembly.specs.Outs.{Names, Lesser, Slots, Nexts};
+ghost use Rattle.assembly.specs.Paths.{basesOf, Spells};
 ghost use Rattle.assembly.specs.Sorted.{Orders, Ordered};
 
 const VERTEX: usize = 12;
@@ -38,7 +44,7 @@ const PLACE: usize = 5;
 
 // ---- reading a vertex
 
-fn wide(x: u32) -> usize
+pub fn wide(x: u32) -> usize
     ensures { λ r. ⌜ r ≡ x ⌝ }
 {
     x as usize
@@ -299,5 +305,50 @@ pub fn order(vertices: &[u32], edges: &[u32], m: usize, out: &mut [u32])
             p += 1;
             t = edges[i * EDGE + TO] as usize + 1;
         }
+    }
+}
+
+// Byte i of the path that leaves vertex 0 over the edges that `path` names.
+fn path_base(
+    reference: &[u8],
+    bases: &[u8],
+    vertices: &[u32],
+    edges: &[u32],
+    k: usize,
+    path: &[u32],
+    e: usize,
+    i: usize,
+) -> u8
+    requires { ⌜ Spells k (now reference ++ now bases) (now vertices) (now edges) (now path) e × (i < k + e) ⌝ }
+    ensures { λ r. ⌜ r ≡ getD (basesOf k (now (reference .entry) ++ now (bases .entry)) (now (vertices .entry)) (now (edges .entry)) (take e (now (path .entry)))) i 0 ⌝ }
+{
+    if i < k {
+        return byte_at(reference, bases, kmer_place(vertices, 0) + i);
+    }
+    let j = wide(path[i - k]);
+    let v = edge_to(edges, j);
+    byte_at(reference, bases, kmer_place(vertices, v) + k - 1)
+}
+
+// The k + e bases of a path of e edges, written from place `at` of `out` on.
+pub fn path_bases(
+    reference: &[u8],
+    bases: &[u8],
+    vertices: &[u32],
+    edges: &[u32],
+    k: usize,
+    path: &[u32],
+    e: usize,
+    out: &mut [u8],
+    at: usize,
+)
+    requires { ⌜ Spells k (now reference ++ now bases) (now vertices) (now edges) (now path) e × (at + (k + e) ≤ length (now out)) ⌝ }
+    ensures { λ _. ⌜ now (out .exit) ≡ paste (now (out .entry)) at (basesOf k (now (reference .entry) ++ now (bases .entry)) (now (vertices .entry)) (now (edges .entry)) (take e (now (path .entry)))) (k + e) ⌝ }
+{
+    let n = k + e;
+    let mut i: usize = 0;
+    while i < n {
+        out[at + i] = path_base(reference, bases, vertices, edges, k, path, e, i);
+        i += 1;
     }
 }

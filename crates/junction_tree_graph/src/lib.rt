@@ -1,3 +1,4 @@
+// Threading: the reference, then the usable stretches of the reads, each kmer by kmer; the symbolic vertex and edge last.
 use assembly::add_edge;
 use assembly::add_symbolic_edge;
 use assembly::byte_at;
@@ -9,6 +10,7 @@ use assembly::inc_edge;
 use assembly::incoming_count;
 use assembly::incoming_edge;
 use assembly::out_edge;
+use assembly::wide;
 ghost use mathlib.Core.Path.{_≡_};
 ghost use mathlib.Core.Bool.{not};
 ghost use mathlib.Core.List.{_++_};
@@ -60,7 +62,7 @@ pub enum Answer {
     Refused(u32),
 }
 
-fn wide(x: u8) -> usize
+fn wide_byte(x: u8) -> usize
     ensures { λ r. ⌜ r ≡ x ⌝ }
 {
     x as usize
@@ -120,7 +122,7 @@ fn extend_chain_by_one(
 {
     let here = s.here;
     let m = s.edges;
-    let b = wide(byte_at(reference, bases, q + k - 1));
+    let b = wide_byte(byte_at(reference, bases, q + k - 1));
     let c = b / 2 % 8;
     let slot = out_edge(vertices, here, c);
     if slot > 0 {
@@ -358,12 +360,6 @@ fn thread_read(
     Step::Next(s)
 }
 
-fn wide_end(x: u32) -> usize
-    ensures { λ r. ⌜ r ≡ x ⌝ }
-{
-    x as usize
-}
-
 // All reads in order; read j ends at ends[j].
 fn thread_reads(
     reference: &[u8],
@@ -384,7 +380,7 @@ fn thread_reads(
     let mut start: usize = 0;
     let mut j: usize = 0;
     while j < ends.len() {
-        let end = wide_end(ends[j]);
+        let end = wide(ends[j]);
         let r = thread_read(
             reference,
             bases,
