@@ -1,0 +1,10 @@
+pub mod Ends
+pub mod Puts
+pub mod Table
+pub mod Store
+pub mod Moves
+pub mod Kmers
+pub mod Outs
+pub mod Sorted
+pub mod Symbolic
+pub mod Paths

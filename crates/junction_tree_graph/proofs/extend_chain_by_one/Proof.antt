@@ -1,0 +1,156 @@
+use mathlib.Core.Path.{_≡_, refl, sym, _∙_}
+use Prim.Native.Nat.{_-_, _≤_, _*_, _+_, _/_, _%_}
+use native.Mathlib.Omega.{arith}
+use lib.ListN.{length, getD, length-append}
+use Rattle.assembly.specs.Store.{code}
+use Rattle.junction_tree_graph.specs.Steps.{originOf, ext-gets, ext-in, ext-gain, ext-known, ext-full, ext-stop, ext-adds, ext-new}
+use borrow.Author.Needs.{needs}
+use Rattle.junction_tree_graph.proofs.extend_chain_by_one.Statement.{statement}
+use Rattle.junction_tree_graph.proofs.extend_chain_by_one.Tie as tie
+use Rattle.junction_tree_graph.proofs.extend_chain_by_one.Reads as reads
+use Rattle.junction_tree_graph.proofs.extend_chain_by_one.Lts as lts
+use Rattle.assembly.proofs.add_edge.Reads as add-edge-reads
+use Rattle.assembly.proofs.byte_at.Reads as byte-at-reads
+use Rattle.assembly.proofs.edge_to.Reads as edge-to-reads
+use Rattle.assembly.proofs.inc_edge.Reads as inc-edge-reads
+use Rattle.assembly.proofs.out_edge.Reads as out-edge-reads
+use Rattle.junction_tree_graph.proofs.get_or_create_kmer_vertex.Reads as get-or-create-kmer-vertex-reads
+use Rattle.junction_tree_graph.proofs.wide_byte.Reads as wide-byte-reads
+
+-- src/lib.rt:125:49
+add-byte-at : tie.Need-add-byte-at
+add-byte-at c = search needs
+
+-- src/lib.rt:125:49
+sub-byte-at : tie.Need-sub-byte-at
+sub-byte-at c = search needs
+
+-- src/lib.rt:125:23
+byte-at-requires : tie.Need-byte-at-requires
+byte-at-requires c κs = let a = (c .before .before .before .before .args) in let p = (c .before .before .before .before .pre) .inside in let h = (c .before .before .before .before .pre) .some in omega (arith, length-append (a .reference .now) (a .bases .now))
+
+-- src/lib.rt:125:9
+wide-byte-requires : tie.Need-wide-byte-requires
+wide-byte-requires c κs = search needs
+
+-- src/lib.rt:127:9
+out-edge-requires : tie.Need-out-edge-requires
+out-edge-requires c κs = search needs
+
+-- src/lib.rt:129:17
+sub-i : tie.Need-sub-i
+sub-i c = search needs
+
+-- src/lib.rt:130:13
+edge-to-requires : tie.Need-edge-to-requires
+unfolding code
+edge-to-requires c κs = ext-gain (c .before .before .before .before .before .before .before .before .before .before .pre) ((c .before .before .before .before .wide-byte) .result) ((c .before .before .before .before .wide-byte) .ensures ∙ (c .before .before .before .before .before .byte-at) .ensures) _ ((c .before .before .out-edge) .ensures) ((c .before .if1) .taken) .0
+
+-- src/lib.rt:131:9
+inc-edge-requires : tie.Need-inc-edge-requires
+unfolding code
+inc-edge-requires c κs = ext-gain (c .before .before .before .before .before .before .before .before .before .before .before .before .pre) ((c .before .before .before .before .before .before .wide-byte) .result) ((c .before .before .before .before .before .before .wide-byte) .ensures ∙ (c .before .before .before .before .before .before .before .byte-at) .ensures) _ ((c .before .before .before .before .out-edge) .ensures) ((c .before .before .before .if1) .taken)
+
+-- src/lib.rt:136:20
+add-t33 : tie.Need-add-t33
+add-t33 c = search needs
+
+-- src/lib.rt:132:9
+same-length : tie.Need-same-length
+same-length c = search needs
+
+-- src/lib.rt:132:9
+same-length-2 : tie.Need-same-length-2
+same-length-2 c = search needs
+
+-- src/lib.rt:132:9
+returns : tie.Need-returns
+unfolding code
+returns c = let a = (c .before .before .before .before .before .before .before .before .before .before .before .before .before .before .before .before .args) in ext-known (c .before .before .before .before .before .before .before .before .before .before .before .before .before .before .before .before .pre) ((c .before .before .before .before .before .before .before .before .before .before .wide-byte) .result) ((c .before .before .before .before .before .before .before .before .before .before .wide-byte) .ensures ∙ (c .before .before .before .before .before .before .before .before .before .before .before .byte-at) .ensures) (a .mark) (originOf (a .sequence) (a .place)) _ ((c .before .before .before .before .before .before .before .before .out-edge) .ensures) ((c .before .before .before .before .before .before .before .if1) .taken) _ ((c .before .before .before .before .before .edge-to) .ensures) _ ((c .before .before .before .inc-edge) .ensures)
+
+-- src/lib.rt:140:9
+same-length-3 : tie.Need-same-length-3
+same-length-3 c = search needs
+
+-- src/lib.rt:140:9
+returns-2 : tie.Need-returns-2
+unfolding code
+returns-2 c = let a = (c .before .before .before .before .before .before .before .before .before .before .before .args) in ext-full (c .before .before .before .before .before .before .before .before .before .before .before .pre) ((c .before .before .before .before .before .wide-byte) .result) ((c .before .before .before .before .before .wide-byte) .ensures ∙ (c .before .before .before .before .before .before .byte-at) .ensures) _ ((c .before .before .before .out-edge) .ensures) ((c .before .before .if1) .left) (a .mark) (originOf (a .sequence) (a .place)) ((c .if2) .taken)
+
+-- src/lib.rt:142:9
+get-or-create-kmer-vertex-requires : tie.Need-get-or-create-kmer-vertex-requires
+unfolding code
+get-or-create-kmer-vertex-requires c κs = ext-gets (c .before .before .before .before .before .before .before .before .before .before .before .before .pre) ((c .before .before .before .before .before .before .wide-byte) .result) ((c .before .before .before .before .before .before .wide-byte) .ensures ∙ (c .before .before .before .before .before .before .before .byte-at) .ensures)
+
+-- src/lib.rt:143:20
+enum-known-r : tie.Need-enum-known-r
+enum-known-r c = search needs
+
+-- src/lib.rt:144:9
+enum-told : tie.Need-enum-told
+enum-told c = search needs
+
+-- src/lib.rt:144:9
+same-length-4 : tie.Need-same-length-4
+same-length-4 c = search needs
+
+-- src/lib.rt:144:9
+returns-3 : tie.Need-returns-3
+unfolding code
+returns-3 c = let a = (c .before .before .before .before .before .before .before .before .before .before .before .before .before .before .before .before .before .args) in ext-stop (c .before .before .before .before .before .before .before .before .before .before .before .before .before .before .before .before .before .pre) ((c .before .before .before .before .before .before .before .before .before .before .before .wide-byte) .result) ((c .before .before .before .before .before .before .before .before .before .before .before .wide-byte) .ensures ∙ (c .before .before .before .before .before .before .before .before .before .before .before .before .byte-at) .ensures) _ ((c .before .before .before .before .before .before .before .before .before .out-edge) .ensures) ((c .before .before .before .before .before .before .before .before .if1) .left) (a .mark) (originOf (a .sequence) (a .place)) _ _ _ _ _ ((c .before .before .before .before .get-or-create-kmer-vertex) .ensures) ((c .enum-told) .given .1)
+
+-- src/lib.rt:147:5
+add-edge-requires : tie.Need-add-edge-requires
+unfolding code
+add-edge-requires c κs = ext-adds (c .before .before .before .before .before .before .before .before .before .before .before .before .before .before .before .before .before .before .before .before .pre) ((c .before .before .before .before .before .before .before .before .before .before .before .before .before .before .wide-byte) .result) ((c .before .before .before .before .before .before .before .before .before .before .before .before .before .before .wide-byte) .ensures ∙ (c .before .before .before .before .before .before .before .before .before .before .before .before .before .before .before .byte-at) .ensures) _ ((c .before .before .before .before .before .before .before .before .before .before .before .before .out-edge) .ensures) ((c .before .before .before .before .before .before .before .before .before .before .before .if1) .left) ((c .before .before .before .before .before .before .before .before .before .if2) .left) _ _ _ ((c .before .before .before .before .before .before .before .get-or-create-kmer-vertex) .ensures) ((c .before .before .before .r) .given .1)
+
+-- src/lib.rt:150:16
+add-t24 : tie.Need-add-t24
+add-t24 c = search needs
+
+-- src/lib.rt:152:16
+add-t23 : tie.Need-add-t23
+add-t23 c = let p = (c .before .before .before .before .before .before .before .before .before .before .before .before .before .before .before .before .before .before .before .before .before .before .before .before .before .before .pre) .steps in omega arith
+
+-- src/lib.rt:107:1
+same-length-5 : tie.Need-same-length-5
+same-length-5 c = search needs
+
+-- src/lib.rt:107:1
+same-length-6 : tie.Need-same-length-6
+same-length-6 c = search needs
+
+-- src/lib.rt:107:1
+returns-4 : tie.Need-returns-4
+unfolding code
+returns-4 c = let a = (c .before .before .before .before .before .before .before .before .before .before .before .before .before .before .before .before .before .before .before .before .before .before .before .before .before .before .args) in ext-new (c .before .before .before .before .before .before .before .before .before .before .before .before .before .before .before .before .before .before .before .before .before .before .before .before .before .before .pre) ((c .before .before .before .before .before .before .before .before .before .before .before .before .before .before .before .before .before .before .before .before .wide-byte) .result) ((c .before .before .before .before .before .before .before .before .before .before .before .before .before .before .before .before .before .before .before .before .wide-byte) .ensures ∙ (c .before .before .before .before .before .before .before .before .before .before .before .before .before .before .before .before .before .before .before .before .before .byte-at) .ensures) _ ((c .before .before .before .before .before .before .before .before .before .before .before .before .before .before .before .before .before .before .out-edge) .ensures) ((c .before .before .before .before .before .before .before .before .before .before .before .before .before .before .before .before .before .if1) .left) ((c .before .before .before .before .before .before .before .before .before .before .before .before .before .before .before .if2) .left) _ _ _ ((c .before .before .before .before .before .before .before .before .before .before .before .before .before .get-or-create-kmer-vertex) .ensures) ((c .before .before .before .before .before .before .before .before .before .r) .given .1) (a .mark) (a .sequence) (a .place) _ _ ((c .before .before .before .before .before .add-edge) .ensures .0) ((c .before .before .before .before .before .add-edge) .ensures .1)
+
+pub extend-chain-by-one-spec : {M : Type 1} → statement M
+extend-chain-by-one-spec =
+    tie.close
+    (tie.spec
+    add-byte-at
+    sub-byte-at
+    byte-at-requires
+    wide-byte-requires
+    out-edge-requires
+    sub-i
+    edge-to-requires
+    inc-edge-requires
+    add-t33
+    same-length
+    same-length-2
+    returns
+    same-length-3
+    returns-2
+    get-or-create-kmer-vertex-requires
+    enum-known-r
+    enum-told
+    same-length-4
+    returns-3
+    add-edge-requires
+    add-t24
+    add-t23
+    same-length-5
+    same-length-6
+    returns-4)

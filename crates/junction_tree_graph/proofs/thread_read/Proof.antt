@@ -1,0 +1,110 @@
+use mathlib.Core.Path.{_≡_, refl, sym, _∙_}
+use Prim.Native.Nat.{_+_, _-_}
+use native.Mathlib.Omega.{arith}
+use lib.ListN.{length-append}
+use Rattle.junction_tree_graph.specs.Reads.{ReadLeft, read-start, read-end, read-run, read-next, read-stop}
+use borrow.Author.Needs.{needs}
+use Rattle.junction_tree_graph.proofs.thread_read.Statement.{statement}
+use Rattle.junction_tree_graph.proofs.thread_read.Tie as tie
+use Rattle.junction_tree_graph.proofs.thread_read.Reads as reads
+use Rattle.junction_tree_graph.proofs.thread_read.Lts as lts
+use Rattle.junction_tree_graph.proofs.run_end.Reads as run-end-reads
+use Rattle.junction_tree_graph.proofs.thread_run.Reads as thread-run-reads
+
+abbrev Inv-loop : tie.InvT-loop
+Inv-loop reference bases qualities vertices₀ edges₀ k quality most start end sequence n s₀ p₀ vertices edges s p = ReadLeft k quality reference bases qualities most sequence start end vertices₀ edges₀ s₀ vertices edges s p
+
+abbrev μ-loop : tie.MeasureT-loop
+μ-loop reference bases qualities vertices₀ edges₀ k quality most start end sequence n s₀ p₀ vertices edges s p = end + 1 - p
+
+-- src/lib.rt:311:5
+loop-holds : tie.Need-loop-holds Inv-loop μ-loop
+loop-holds c = let a = (c .before .before .before .before .before .args) in read-start (c .before .before .before .before .before .pre) (a .quality) (a .sequence)
+
+-- src/lib.rt:312:13
+run-end-requires : tie.Need-run-end-requires Inv-loop μ-loop
+run-end-requires c κs = ((let l = (c .loop-test) .taken in omega arith), (c .before .before .before .before .before .before .before .pre) .in-b, (c .before .before .before .before .before .before .before .pre) .in-q)
+
+-- src/lib.rt:321:13
+add-thread-run : tie.Need-add-thread-run Inv-loop μ-loop
+add-thread-run c = let a = (c .before .before .before .before .before .before .before .before .before .before .args) in let l = (c .before .before .before .loop-test) .taken in let b = (c .before .before .before .before .before .before .before .before .before .before .pre) .in-b in let h = (c .before .before .before .before .before .before .before .before .before .before .pre) .small in let z = length-append (a .reference .now) (a .bases .now) in omega arith
+
+-- src/lib.rt:322:13
+sub-thread-run : tie.Need-sub-thread-run Inv-loop μ-loop
+sub-thread-run c = let r = (c .before .before .run-end) .ensures .from in omega arith
+
+-- src/lib.rt:324:13
+sub-thread-run-2 : tie.Need-sub-thread-run-2 Inv-loop μ-loop
+sub-thread-run-2 c = let b = (c .before .before .before .before .loop) .inv .from in omega arith
+
+-- src/lib.rt:313:13
+thread-run-requires : tie.Need-thread-run-requires Inv-loop μ-loop
+thread-run-requires c κs = let a = (c .before .before .before .before .before .before .before .before .before .before .args) in read-run (c .before .before .before .before .before .before .before .before .before .before .pre) (a .quality) (a .sequence) ((c .before .before .before .before .loop) .inv) ((c .before .before .before .loop-test) .taken) ((c .before .before .run-end) .ensures)
+
+-- src/lib.rt:326:24
+enum-known-r : tie.Need-enum-known-r Inv-loop μ-loop
+enum-known-r c = search needs
+
+-- src/lib.rt:327:13
+enum-told : tie.Need-enum-told Inv-loop μ-loop
+enum-told c = search needs
+
+-- src/lib.rt:327:13
+same-length : tie.Need-same-length Inv-loop μ-loop
+same-length c = (c .before .before .before .before .before .before .thread-run) .kept .1 .1 .0 ∙ (c .before .before .before .before .before .before .before .before .before .before .before .loop) .inv .same-v
+
+-- src/lib.rt:327:13
+same-length-2 : tie.Need-same-length-2 Inv-loop μ-loop
+same-length-2 c = (c .before .before .before .before .before .before .thread-run) .kept .1 .1 .1 .0 ∙ (c .before .before .before .before .before .before .before .before .before .before .before .loop) .inv .same-e
+
+-- src/lib.rt:327:13
+returns : tie.Need-returns Inv-loop μ-loop
+returns c = let a = (c .before .before .before .before .before .before .before .before .before .before .before .before .before .before .before .before .before .args) in read-stop (c .before .before .before .before .before .before .before .before .before .before .before .before .before .before .before .before .before .pre) (a .quality) (a .sequence) ((c .before .before .before .before .before .before .before .before .before .before .before .loop) .inv) ((c .before .before .before .before .before .before .before .before .before .before .loop-test) .taken) ((c .before .before .before .before .before .before .before .before .before .run-end) .ensures) _ _ _ _ _ ((c .before .before .before .before .before .before .thread-run) .ensures) ((c .enum-told) .given .1)
+
+-- src/lib.rt:330:13
+add-p : tie.Need-add-p Inv-loop μ-loop
+add-p c = let r = (c .before .before .before .before .before .before .before .before .before .before .run-end) .ensures .to in let b = (c .before .before .before .before .before .before .before .before .before .before .before .before .before .before .before .before .before .before .pre) .in-b in let h = (c .before .before .before .before .before .before .before .before .before .before .before .before .before .before .before .before .before .before .pre) .small in let a = (c .before .before .before .before .before .before .before .before .before .before .before .before .before .before .before .before .before .before .args) in let z = length-append (a .reference .now) (a .bases .now) in omega arith
+
+-- src/lib.rt:311:5
+loop-less : tie.Need-loop-less Inv-loop μ-loop
+loop-less c = let r = (c .before .before .before .before .before .before .before .before .before .before .run-end) .ensures .from in let l = (c .before .before .before .before .before .before .before .before .before .before .before .loop-test) .taken in omega arith
+
+-- src/lib.rt:311:5
+loop-again : tie.Need-loop-again Inv-loop μ-loop
+loop-again c = let a = (c .before .before .before .before .before .before .before .before .before .before .before .before .before .before .before .before .before .before .args) in read-next (c .before .before .before .before .before .before .before .before .before .before .before .before .before .before .before .before .before .before .pre) (a .quality) (a .sequence) ((c .before .before .before .before .before .before .before .before .before .before .before .before .loop) .inv) ((c .before .before .before .before .before .before .before .before .before .before .before .loop-test) .taken) ((c .before .before .before .before .before .before .before .before .before .before .run-end) .ensures) _ _ _ _ ((c .before .before .before .before .before .before .before .thread-run) .ensures) ((c .before .r) .given .1) ((c .before .before .before .before .before .before .before .thread-run) .kept .1 .1 .0) ((c .before .before .before .before .before .before .before .thread-run) .kept .1 .1 .1 .0)
+
+-- src/lib.rt:291:1
+same-length-3 : tie.Need-same-length-3 Inv-loop μ-loop
+same-length-3 c = (c .before .loop) .inv .same-v
+
+-- src/lib.rt:291:1
+same-length-4 : tie.Need-same-length-4 Inv-loop μ-loop
+same-length-4 c = (c .before .loop) .inv .same-e
+
+-- src/lib.rt:291:1
+returns-2 : tie.Need-returns-2 Inv-loop μ-loop
+returns-2 c = let a = (c .before .before .before .before .before .before .before .args) in read-end (c .before .before .before .before .before .before .before .pre) (a .quality) (a .sequence) ((c .before .loop) .inv) ((c .loop-test) .left)
+
+pub thread-read-spec : {M : Type 1} → statement M
+thread-read-spec =
+    tie.close
+    (tie.spec
+    Inv-loop
+    μ-loop
+    loop-holds
+    run-end-requires
+    add-thread-run
+    sub-thread-run
+    sub-thread-run-2
+    thread-run-requires
+    enum-known-r
+    enum-told
+    same-length
+    same-length-2
+    returns
+    add-p
+    loop-less
+    loop-again
+    same-length-3
+    same-length-4
+    returns-2)

@@ -1,0 +1,115 @@
+use mathlib.Core.Path.{_≡_, refl, sym, _∙_}
+use Prim.Native.Nat.{_+_, _-_}
+use native.Mathlib.Omega.{arith}
+use lib.ListN.{length}
+use Rattle.junction_tree_graph.specs.Reads.{ReadsLeft, reads-start, reads-end, reads-read, reads-next, reads-stop}
+use borrow.Author.Needs.{needs}
+use Rattle.junction_tree_graph.proofs.thread_reads.Statement.{statement}
+use Rattle.junction_tree_graph.proofs.thread_reads.Tie as tie
+use Rattle.junction_tree_graph.proofs.thread_reads.Reads as reads
+use Rattle.junction_tree_graph.proofs.thread_reads.Lts as lts
+use Rattle.assembly.proofs.wide.Reads as wide-reads
+use Rattle.junction_tree_graph.proofs.thread_read.Reads as thread-read-reads
+
+abbrev Inv-loop : tie.InvT-loop
+Inv-loop reference ends bases qualities vertices₀ edges₀ k quality most s₀ start₀ j₀ vertices edges s start j = ReadsLeft k quality reference ends bases qualities most vertices₀ edges₀ s₀ vertices edges s start j
+
+abbrev μ-loop : tie.MeasureT-loop
+μ-loop reference ends bases qualities vertices₀ edges₀ k quality most s₀ start₀ j₀ vertices edges s start j = length ends - j
+
+-- src/lib.rt:382:5
+loop-holds : tie.Need-loop-holds Inv-loop μ-loop
+loop-holds c = reads-start (c .before .before .before .before .before .before .pre) ((c .before .before .before .before .before .before .args) .quality)
+
+-- src/lib.rt:383:24
+mul-wide : tie.Need-mul-wide Inv-loop μ-loop
+mul-wide c = search needs
+
+-- src/lib.rt:383:24
+shared-slice-read-wide : tie.Need-shared-slice-read-wide Inv-loop μ-loop
+shared-slice-read-wide c = search needs
+
+-- src/lib.rt:383:13
+wide-requires : tie.Need-wide-requires Inv-loop μ-loop
+wide-requires c κs = search needs
+
+-- src/lib.rt:396:14
+add-thread-read : tie.Need-add-thread-read Inv-loop μ-loop
+add-thread-read c = let h = (c .before .before .before .before .before .before .before .before .before .before .before .before .pre) .few in let l = (c .before .before .before .before .loop-test) .taken in omega arith
+
+-- src/lib.rt:396:13
+cast-thread-read : tie.Need-cast-thread-read Inv-loop μ-loop
+cast-thread-read c = let h = (c .before .before .before .before .before .before .before .before .before .before .before .before .pre) .few in let l = (c .before .before .before .before .loop-test) .taken in omega arith
+
+-- src/lib.rt:384:13
+thread-read-requires : tie.Need-thread-read-requires Inv-loop μ-loop
+thread-read-requires c κs = let a = (c .before .before .before .before .before .before .before .before .before .before .before .before .args) in reads-read (c .before .before .before .before .before .before .before .before .before .before .before .before .pre) (a .quality) ((c .before .before .before .before .before .loop) .inv) ((c .before .before .before .before .loop-test) .taken) _ ((c .before .before .wide) .ensures)
+
+-- src/lib.rt:398:24
+enum-known-r : tie.Need-enum-known-r Inv-loop μ-loop
+enum-known-r c = search needs
+
+-- src/lib.rt:399:13
+enum-told : tie.Need-enum-told Inv-loop μ-loop
+enum-told c = search needs
+
+-- src/lib.rt:399:13
+same-length : tie.Need-same-length Inv-loop μ-loop
+same-length c = (c .before .before .before .before .before .before .thread-read) .kept .1 .1 .1 .0 ∙ (c .before .before .before .before .before .before .before .before .before .before .before .before .loop) .inv .same-v
+
+-- src/lib.rt:399:13
+same-length-2 : tie.Need-same-length-2 Inv-loop μ-loop
+same-length-2 c = (c .before .before .before .before .before .before .thread-read) .kept .1 .1 .1 .1 .0 ∙ (c .before .before .before .before .before .before .before .before .before .before .before .before .loop) .inv .same-e
+
+-- src/lib.rt:399:13
+returns : tie.Need-returns Inv-loop μ-loop
+returns c = let a = (c .before .before .before .before .before .before .before .before .before .before .before .before .before .before .before .before .before .before .before .args) in reads-stop (c .before .before .before .before .before .before .before .before .before .before .before .before .before .before .before .before .before .before .before .pre) (a .quality) ((c .before .before .before .before .before .before .before .before .before .before .before .before .loop) .inv) ((c .before .before .before .before .before .before .before .before .before .before .before .loop-test) .taken) _ ((c .before .before .before .before .before .before .before .before .before .wide) .ensures) _ _ _ _ _ ((c .before .before .before .before .before .before .thread-read) .ensures) ((c .enum-told) .given .1)
+
+-- src/lib.rt:403:9
+add-j : tie.Need-add-j Inv-loop μ-loop
+add-j c = let h = (c .before .before .before .before .before .before .before .before .before .before .before .before .before .before .before .before .before .before .before .before .pre) .few in let l = (c .before .before .before .before .before .before .before .before .before .before .before .before .loop-test) .taken in omega arith
+
+-- src/lib.rt:382:5
+loop-less : tie.Need-loop-less Inv-loop μ-loop
+loop-less c = let l = (c .before .before .before .before .before .before .before .before .before .before .before .before .loop-test) .taken in omega arith
+
+-- src/lib.rt:382:5
+loop-again : tie.Need-loop-again Inv-loop μ-loop
+loop-again c = let a = (c .before .before .before .before .before .before .before .before .before .before .before .before .before .before .before .before .before .before .before .before .args) in reads-next (c .before .before .before .before .before .before .before .before .before .before .before .before .before .before .before .before .before .before .before .before .pre) (a .quality) ((c .before .before .before .before .before .before .before .before .before .before .before .before .before .loop) .inv) ((c .before .before .before .before .before .before .before .before .before .before .before .before .loop-test) .taken) _ ((c .before .before .before .before .before .before .before .before .before .before .wide) .ensures) _ _ _ _ ((c .before .before .before .before .before .before .before .thread-read) .ensures) ((c .before .r) .given .1) ((c .before .before .before .before .before .before .before .thread-read) .kept .1 .1 .1 .0) ((c .before .before .before .before .before .before .before .thread-read) .kept .1 .1 .1 .1 .0)
+
+-- src/lib.rt:364:1
+same-length-3 : tie.Need-same-length-3 Inv-loop μ-loop
+same-length-3 c = (c .before .loop) .inv .same-v
+
+-- src/lib.rt:364:1
+same-length-4 : tie.Need-same-length-4 Inv-loop μ-loop
+same-length-4 c = (c .before .loop) .inv .same-e
+
+-- src/lib.rt:364:1
+returns-2 : tie.Need-returns-2 Inv-loop μ-loop
+returns-2 c = reads-end (c .before .before .before .before .before .before .before .before .pre) ((c .before .before .before .before .before .before .before .before .args) .quality) ((c .before .loop) .inv) ((c .loop-test) .left)
+
+pub thread-reads-spec : {M : Type 1} → statement M
+thread-reads-spec =
+    tie.close
+    (tie.spec
+    Inv-loop
+    μ-loop
+    loop-holds
+    mul-wide
+    shared-slice-read-wide
+    wide-requires
+    add-thread-read
+    cast-thread-read
+    thread-read-requires
+    enum-known-r
+    enum-told
+    same-length
+    same-length-2
+    returns
+    add-j
+    loop-less
+    loop-again
+    same-length-3
+    same-length-4
+    returns-2)

@@ -1,0 +1,31 @@
+use Rattle.junction_tree_graph.specs.Reads.{run-threads, run-skip, run-done}
+use borrow.Author.Needs.{needs}
+use Rattle.junction_tree_graph.proofs.thread_run.Statement.{statement}
+use Rattle.junction_tree_graph.proofs.thread_run.Tie as tie
+use Rattle.junction_tree_graph.proofs.thread_run.Reads as reads
+use Rattle.junction_tree_graph.proofs.thread_run.Lts as lts
+use Rattle.junction_tree_graph.proofs.thread_sequence.Reads as thread-sequence-reads
+
+-- src/lib.rt:283:9
+returns : tie.Need-returns
+returns c = let a = (c .before .before .before .before .before .args) in run-skip (c .before .before .before .before .before .pre) (a .sequence) ((c .if1) .taken)
+
+-- src/lib.rt:285:5
+thread-sequence-requires : tie.Need-thread-sequence-requires
+thread-sequence-requires c κs = run-threads (c .before .before .before .before .before .before .before .pre) ((c .before .before .if1) .left)
+
+-- src/lib.rt:266:1
+same-length : tie.Need-same-length
+same-length c = search needs
+
+-- src/lib.rt:266:1
+same-length-2 : tie.Need-same-length-2
+same-length-2 c = search needs
+
+-- src/lib.rt:266:1
+returns-2 : tie.Need-returns-2
+returns-2 c = let a = (c .before .before .before .before .before .before .before .before .before .before .before .before .args) in run-done (c .before .before .before .before .before .before .before .before .before .before .before .before .pre) (a .sequence) ((c .before .before .before .before .before .before .before .if1) .left) ((c .before .before .before .before .thread-sequence) .last .1 .1 .0) ((c .before .before .before .before .thread-sequence) .last .1 .1 .1 .0) ((c .before .before .before .before .thread-sequence) .result) ((c .before .before .before .before .thread-sequence) .ensures)
+
+pub thread-run-spec : {M : Type 1} → statement M
+thread-run-spec =
+    tie.close (tie.spec returns thread-sequence-requires same-length same-length-2 returns-2)

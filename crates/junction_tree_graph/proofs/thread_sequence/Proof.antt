@@ -1,0 +1,147 @@
+use mathlib.Core.Path.{_≡_, refl, sym, _∙_}
+use mathlib.Core.Bool.{not}
+use mathlib.Core.List.{_++_}
+use Prim.Native.Nat.{_-_, _≤_, _*_, _+_}
+use native.Mathlib.Omega.{arith}
+use lib.Dec.{eqb}
+use Rattle.junction_tree_graph.specs.Stretches.{Left, left-start, start-stop, start-next, left-extends, left-stop, left-next, left-end}
+use borrow.Author.Needs.{needs}
+use Rattle.junction_tree_graph.proofs.thread_sequence.Statement.{statement}
+use Rattle.junction_tree_graph.proofs.thread_sequence.Tie as tie
+use Rattle.junction_tree_graph.proofs.thread_sequence.Reads as reads
+use Rattle.junction_tree_graph.proofs.thread_sequence.Lts as lts
+use Rattle.junction_tree_graph.proofs.extend_chain_by_one.Reads as extend-chain-by-one-reads
+use Rattle.junction_tree_graph.proofs.start_sequence.Reads as start-sequence-reads
+
+abbrev Inv-loop : tie.InvT-loop
+Inv-loop reference bases vertices₀ edges₀ k most a len mark sequence place last s₀ j₀ vertices edges s j = Left (not (eqb mark 0)) k (reference ++ bases) most a sequence place last vertices₀ edges₀ s₀ vertices edges s j
+
+abbrev μ-loop : tie.MeasureT-loop
+μ-loop reference bases vertices₀ edges₀ k most a len mark sequence place last s₀ j₀ vertices edges s j = last - j
+
+-- src/lib.rt:203:16
+sub-last : tie.Need-sub-last Inv-loop μ-loop
+sub-last c = let h = (c .before .before .before .before .pre) .long in omega arith
+
+-- src/lib.rt:204:9
+start-sequence-requires : tie.Need-start-sequence-requires Inv-loop μ-loop
+start-sequence-requires c κs = (c .before .before .before .before .before .before .pre) .starts
+
+-- src/lib.rt:205:20
+enum-known-r0 : tie.Need-enum-known-r0 Inv-loop μ-loop
+enum-known-r0 c = search needs
+
+-- src/lib.rt:206:9
+enum-told : tie.Need-enum-told Inv-loop μ-loop
+enum-told c = search needs
+
+-- src/lib.rt:206:9
+same-length : tie.Need-same-length Inv-loop μ-loop
+same-length c = (c .before .before .before .before .before .before .start-sequence) .kept .1 .1 .0
+
+-- src/lib.rt:206:9
+same-length-2 : tie.Need-same-length-2 Inv-loop μ-loop
+same-length-2 c = (c .before .before .before .before .before .before .start-sequence) .kept .1 .1 .1 .0
+
+-- src/lib.rt:206:9
+returns : tie.Need-returns Inv-loop μ-loop
+returns c = let a = (c .before .before .before .before .before .before .before .before .before .before .before .before .before .args) in start-stop ((c .before .before .before .before .before .before .before .before .before .before .before .before .before .pre)) (not (eqb (a .mark) 0)) (a .sequence) _ _ _ _ _ ((c .before .before .before .before .before .before .start-sequence) .ensures) ((c .enum-told) .given .1)
+
+-- src/lib.rt:210:5
+loop-holds : tie.Need-loop-holds Inv-loop μ-loop
+loop-holds c = let a = (c .before .before .before .before .before .before .before .before .before .before .before .before .before .before .args) in left-start _ _ _ _ _ _ _ _ _ _ _ (start-next ((c .before .before .before .before .before .before .before .before .before .before .before .before .before .before .pre)) (not (eqb (a .mark) 0)) (a .sequence) _ _ _ _ ((c .before .before .before .before .before .before .before .start-sequence) .ensures) ((c .before .r0) .given .1) .fine)
+
+-- src/lib.rt:219:13
+add-extend-chain-by-one : tie.Need-add-extend-chain-by-one Inv-loop μ-loop
+add-extend-chain-by-one c = let h = (c .before .before .before .before .before .before .before .before .before .before .before .before .before .before .before .before .before .before .pre) .inside in let g = (c .before .before .before .before .before .before .before .before .before .before .before .before .before .before .before .before .before .before .pre) .starts .small in let l = (c .before .before .loop-test) .taken in omega arith
+
+-- src/lib.rt:219:13
+add-extend-chain-by-one-2 : tie.Need-add-extend-chain-by-one-2 Inv-loop μ-loop
+add-extend-chain-by-one-2 c = let h = (c .before .before .before .before .before .before .before .before .before .before .before .before .before .before .before .before .before .before .pre) .inside in let g = (c .before .before .before .before .before .before .before .before .before .before .before .before .before .before .before .before .before .before .pre) .starts .small in let l = (c .before .before .loop-test) .taken in omega arith
+
+-- src/lib.rt:222:14
+add-extend-chain-by-one-3 : tie.Need-add-extend-chain-by-one-3 Inv-loop μ-loop
+add-extend-chain-by-one-3 c = let h = (c .before .before .before .before .before .before .before .before .before .before .before .before .before .before .before .before .before .before .pre) .place in let l = (c .before .before .loop-test) .taken in omega arith
+
+-- src/lib.rt:222:13
+cast-extend-chain-by-one : tie.Need-cast-extend-chain-by-one Inv-loop μ-loop
+cast-extend-chain-by-one c = let h = (c .before .before .before .before .before .before .before .before .before .before .before .before .before .before .before .before .before .before .pre) .place in let l = (c .before .before .loop-test) .taken in omega arith
+
+-- src/lib.rt:211:13
+extend-chain-by-one-requires : tie.Need-extend-chain-by-one-requires Inv-loop μ-loop
+extend-chain-by-one-requires c κs = let a = (c .before .before .before .before .before .before .before .before .before .before .before .before .before .before .before .before .before .before .args) in left-extends ((c .before .before .before .before .before .before .before .before .before .before .before .before .before .before .before .before .before .before .pre)) (not (eqb (a .mark) 0)) (a .sequence) (start-next ((c .before .before .before .before .before .before .before .before .before .before .before .before .before .before .before .before .before .before .pre)) (not (eqb (a .mark) 0)) (a .sequence) _ _ _ _ ((c .before .before .before .before .before .before .before .before .before .before .before .start-sequence) .ensures) ((c .before .before .before .before .before .r0) .given .1)) ((c .before .before .before .loop) .inv) ((c .before .before .loop-test) .taken)
+
+-- src/lib.rt:224:24
+enum-known-r : tie.Need-enum-known-r Inv-loop μ-loop
+enum-known-r c = search needs
+
+-- src/lib.rt:225:13
+enum-told-2 : tie.Need-enum-told-2 Inv-loop μ-loop
+enum-told-2 c = search needs
+
+-- src/lib.rt:225:13
+same-length-3 : tie.Need-same-length-3 Inv-loop μ-loop
+same-length-3 c = (c .before .before .before .before .before .before .extend-chain-by-one) .kept .1 .1 .0 ∙ (c .before .before .before .before .before .before .before .before .before .before .loop) .inv .same-v ∙ (c .before .before .before .before .before .before .before .before .before .before .before .before .before .before .before .before .before .before .start-sequence) .kept .1 .1 .0
+
+-- src/lib.rt:225:13
+same-length-4 : tie.Need-same-length-4 Inv-loop μ-loop
+same-length-4 c = (c .before .before .before .before .before .before .extend-chain-by-one) .kept .1 .1 .1 .0 ∙ (c .before .before .before .before .before .before .before .before .before .before .loop) .inv .same-e ∙ (c .before .before .before .before .before .before .before .before .before .before .before .before .before .before .before .before .before .before .start-sequence) .kept .1 .1 .1 .0
+
+-- src/lib.rt:225:13
+returns-2 : tie.Need-returns-2 Inv-loop μ-loop
+returns-2 c = let a = (c .before .before .before .before .before .before .before .before .before .before .before .before .before .before .before .before .before .before .before .before .before .before .before .before .before .args) in left-stop ((c .before .before .before .before .before .before .before .before .before .before .before .before .before .before .before .before .before .before .before .before .before .before .before .before .before .pre)) (not (eqb (a .mark) 0)) (a .sequence) (start-next ((c .before .before .before .before .before .before .before .before .before .before .before .before .before .before .before .before .before .before .before .before .before .before .before .before .before .pre)) (not (eqb (a .mark) 0)) (a .sequence) _ _ _ _ ((c .before .before .before .before .before .before .before .before .before .before .before .before .before .before .before .before .before .before .start-sequence) .ensures) ((c .before .before .before .before .before .before .before .before .before .before .before .before .r0) .given .1)) ((c .before .before .before .before .before .before .before .before .before .before .loop) .inv) ((c .before .before .before .before .before .before .before .before .before .loop-test) .taken) _ _ _ _ _ ((c .before .before .before .before .before .before .extend-chain-by-one) .ensures) ((c .enum-told2) .given .1)
+
+-- src/lib.rt:228:9
+add-j : tie.Need-add-j Inv-loop μ-loop
+add-j c = let f = (c .before .before .before .before .before .before .before .before .before .before .before .before .before .before .before .before .before .before .before .before .before .before .before .before .before .before .fits) .len in let l = (c .before .before .before .before .before .before .before .before .before .before .loop-test) .taken in omega arith
+
+-- src/lib.rt:210:5
+loop-less : tie.Need-loop-less Inv-loop μ-loop
+loop-less c = let l = (c .before .before .before .before .before .before .before .before .before .before .loop-test) .taken in omega arith
+
+-- src/lib.rt:210:5
+loop-again : tie.Need-loop-again Inv-loop μ-loop
+loop-again c = let a = (c .before .before .before .before .before .before .before .before .before .before .before .before .before .before .before .before .before .before .before .before .before .before .before .before .before .before .args) in left-next ((c .before .before .before .before .before .before .before .before .before .before .before .before .before .before .before .before .before .before .before .before .before .before .before .before .before .before .pre)) (not (eqb (a .mark) 0)) (a .sequence) (start-next ((c .before .before .before .before .before .before .before .before .before .before .before .before .before .before .before .before .before .before .before .before .before .before .before .before .before .before .pre)) (not (eqb (a .mark) 0)) (a .sequence) _ _ _ _ ((c .before .before .before .before .before .before .before .before .before .before .before .before .before .before .before .before .before .before .before .start-sequence) .ensures) ((c .before .before .before .before .before .before .before .before .before .before .before .before .before .r0) .given .1)) ((c .before .before .before .before .before .before .before .before .before .before .before .loop) .inv) ((c .before .before .before .before .before .before .before .before .before .before .loop-test) .taken) _ _ _ _ ((c .before .before .before .before .before .before .before .extend-chain-by-one) .ensures) ((c .before .r) .given .1) ((c .before .before .before .before .before .before .before .extend-chain-by-one) .kept .1 .1 .0) ((c .before .before .before .before .before .before .before .extend-chain-by-one) .kept .1 .1 .1 .0)
+
+-- src/lib.rt:186:1
+same-length-5 : tie.Need-same-length-5 Inv-loop μ-loop
+same-length-5 c = (c .before .loop) .inv .same-v ∙ (c .before .before .before .before .before .before .before .before .before .start-sequence) .kept .1 .1 .0
+
+-- src/lib.rt:186:1
+same-length-6 : tie.Need-same-length-6 Inv-loop μ-loop
+same-length-6 c = (c .before .loop) .inv .same-e ∙ (c .before .before .before .before .before .before .before .before .before .start-sequence) .kept .1 .1 .1 .0
+
+-- src/lib.rt:186:1
+returns-3 : tie.Need-returns-3 Inv-loop μ-loop
+returns-3 c = let a = (c .before .before .before .before .before .before .before .before .before .before .before .before .before .before .before .before .args) in left-end ((c .before .before .before .before .before .before .before .before .before .before .before .before .before .before .before .before .pre)) (not (eqb (a .mark) 0)) (a .sequence) (start-next ((c .before .before .before .before .before .before .before .before .before .before .before .before .before .before .before .before .pre)) (not (eqb (a .mark) 0)) (a .sequence) _ _ _ _ ((c .before .before .before .before .before .before .before .before .before .start-sequence) .ensures) ((c .before .before .before .r0) .given .1)) ((c .before .loop) .inv) ((c .loop-test) .left)
+
+pub thread-sequence-spec : {M : Type 1} → statement M
+thread-sequence-spec =
+    tie.close
+    (tie.spec
+    Inv-loop
+    μ-loop
+    sub-last
+    start-sequence-requires
+    enum-known-r0
+    enum-told
+    same-length
+    same-length-2
+    returns
+    loop-holds
+    add-extend-chain-by-one
+    add-extend-chain-by-one-2
+    add-extend-chain-by-one-3
+    cast-extend-chain-by-one
+    extend-chain-by-one-requires
+    enum-known-r
+    enum-told-2
+    same-length-3
+    same-length-4
+    returns-2
+    add-j
+    loop-less
+    loop-again
+    same-length-5
+    same-length-6
+    returns-3)

@@ -1,0 +1,51 @@
+-- What the enums of the code answer, case by case. Assumes nothing.
+use mathlib.Core.Path.{_≡_, refl, sym, ap, _∙_}
+use mathlib.Core.List.{List, _++_}
+use Prim.Native.Nat.{ℕ, _+_, _-_, _*_, _^_, _<_, _≤_}
+use native.Mathlib.Omega.{arith}
+use lib.ListN.{length}
+use Rattle.definition.specs.Limits.{Sample}
+use Rattle.definition.specs.Threading.{threaded, numberOf}
+use Rattle.laws.specs.Records.{field}
+use Rattle.assembly.specs.Store.{kmersOf}
+use Rattle.assembly.specs.Moves.{addedE}
+use Rattle.assembly.specs.Kmers.{part}
+use Rattle.assembly.specs.Symbolic.{symbolic}
+use Rattle.junction_tree_graph.specs.declared.At.{At}
+use Rattle.junction_tree_graph.specs.declared.Step.{Step}
+use Rattle.junction_tree_graph.specs.declared.Step.the-variants.{Next, Refused}
+use Rattle.junction_tree_graph.specs.declared.Answer.{Answer}
+use Rattle.junction_tree_graph.specs.declared.Answer.the-variants as answer
+use Rattle.junction_tree_graph.specs.Stretches.{OverG, CameG, Threaded}
+use Rattle.junction_tree_graph.specs.Built.{Builds, BuiltAt, NotBuilt, mostOf, textOf, build-stop, sink-asks, symbolic-asks, built-at}
+
+abbrev pub refusalOf : Step → ℕ
+refusalOf (Next s) = 0
+refusalOf (Refused n) = n
+
+abbrev pub BuiltOf : Sample → ℕ → ℕ → List ℕ → List ℕ → Answer → Type 0
+BuiltOf s v e vs es (answer.Done b) = BuiltAt s v e vs es (b .vertices) (b .edges) (b .sink)
+BuiltOf s v e vs es (answer.Refused n) = NotBuilt s v e n
+
+-- ---- the whole build in the code's words
+module _ {s : Sample} {v e : ℕ} {vs es : List ℕ} (x : Builds s v e vs es) (vs' es' : List ℕ) (r : Step)
+    (h : Threaded (s .k) (textOf s) vs' es' (mostOf v e) (2 * length (textOf s)) r (threaded s)) where
+  pub answer-stop : (n : ℕ) → r ≡ Refused n → (m : ℕ) → m ≡ refusalOf r → NotBuilt s v e m
+  answer-stop n d m f =
+      let o : OverG (mostOf v e) n (threaded s) = rw d at h in
+      let z : m ≡ n = f ∙ ap refusalOf d in
+      rw z (build-stop x n o)
+
+  module _ (t : At) (d : r ≡ Next t) where
+    came : CameG (s .k) (textOf s) vs' es' (mostOf v e) t (2 * length (textOf s)) (threaded s)
+    came = rw d at h
+
+    pub answer-asks : (length (s .reference) - s .k + s .k ≤ length (textOf s)) × (t .vertices * 12 ≤ length vs') × ((u : ℕ) → u < t .vertices → field vs' 12 u 8 + s .k ≤ length (textOf s))
+    answer-asks = sink-asks x came
+
+    module _ (le : length es' ≡ length es) (sink : ℕ) (hs : sink ≡ numberOf (kmersOf (s .k) (textOf s) vs' (t .vertices)) (part (s .k) (textOf s) (length (s .reference) - s .k))) where
+      pub answer-symbolic : (t .edges * 6 + 6 ≤ length es') × (sink < 2 ^ 32) × (t .vertices < 2 ^ 32) × (length (s .reference) - s .k < 2 ^ 32)
+      answer-symbolic = symbolic-asks x came le sink hs
+
+      pub answer-done : (fs : List ℕ) → fs ≡ addedE es' (t .edges) (symbolic sink (t .vertices) (length (s .reference) - s .k)) 1 → BuiltAt s v e vs' fs (t .vertices) (t .edges) sink
+      answer-done fs f = built-at x came le sink hs (omega arith) fs f
