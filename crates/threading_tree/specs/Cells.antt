@@ -1,0 +1,185 @@
+-- The lent lists, as the table's columns; what each function asks and ensures.
+use mathlib.Core.Path.{_≡_, refl, sym, ap, _∙_}
+use mathlib.Core.Logic.{_⊎_, inl, inr, ⊎-elim}
+use Prim.Native.Nat.{ℕ, zero, suc, _+_, _-_, _*_, _^_, _<_, _≤_, compare, Ordering, Ordering·lt, Ordering·eq, Ordering·gt}
+use mathlib.Core.Bool.{Bool, true, false, cond}
+use mathlib.Core.List.{List, [], _∷_, _++_}
+use native.Mathlib.Omega.{arith}
+use native.Mathlib.Nat.{mul-le-mul-right, suc-mul}
+use lib.ListN.{length, getD, set}
+use lib.Dec.{eqb}
+use Rattle.definition.specs.Threading.{Ends, compareEnds}
+use Rattle.threading_tree.specs.Ends.{ends, Less, lt-less, less-lt, less-gt, same-eq, eq-same, ends-path, lt-ne, gt-lt, compare-named}
+use Rattle.threading_tree.specs.Nodes.{Nodes, nil, node, seekN, Above, Rising, Fields, Cell, Links}
+use Rattle.threading_tree.specs.Rows.{seekN-lt, seekN-eq, seekN-gt}
+use Rattle.threading_tree.specs.declared.Place.{Place}
+use Rattle.threading_tree.specs.declared.Place.the-variants.{Here, Gap}
+
+-- ---- a comparison as a number
+
+abbrev pub rank : Ordering → ℕ
+rank Ordering·lt = 0
+rank Ordering·eq = 1
+rank Ordering·gt = 2
+
+pub rank-lt : (e f : Ends) → rank (compareEnds e f) ≡ 0 → compareEnds e f ≡ Ordering·lt
+rank-lt e f h = go (compareEnds e f) refl h
+  where
+    go : (o : Ordering) → compareEnds e f ≡ o → rank o ≡ 0 → compareEnds e f ≡ Ordering·lt
+    go Ordering·lt z y = z
+    go Ordering·eq z y = absurd (omega arith)
+    go Ordering·gt z y = absurd (omega arith)
+
+pub rank-eq : (e f : Ends) → rank (compareEnds e f) ≡ 1 → compareEnds e f ≡ Ordering·eq
+rank-eq e f h = go (compareEnds e f) refl h
+  where
+    go : (o : Ordering) → compareEnds e f ≡ o → rank o ≡ 1 → compareEnds e f ≡ Ordering·eq
+    go Ordering·lt z y = absurd (omega arith)
+    go Ordering·eq z y = z
+    go Ordering·gt z y = absurd (omega arith)
+
+pub rank-gt : (e f : Ends) → (rank (compareEnds e f) ≡ 0 → ⊥) → (rank (compareEnds e f) ≡ 1 → ⊥) → compareEnds e f ≡ Ordering·gt
+rank-gt e f h k = go (compareEnds e f) refl
+  where
+    go : (o : Ordering) → compareEnds e f ≡ o → compareEnds e f ≡ Ordering·gt
+    go Ordering·lt z = absurd (h (rw z))
+    go Ordering·eq z = absurd (k (rw z))
+    go Ordering·gt z = z
+
+pub rank-is-0 : (a b c d : ℕ) → Less (ends a b) (ends c d) → 0 ≡ rank (compareEnds (ends a b) (ends c d))
+rank-is-0 a b c d h = rw (less-lt (ends a b) (ends c d) h)
+
+pub rank-is-1 : (a b c d : ℕ) → a ≡ c → b ≡ d → 1 ≡ rank (compareEnds (ends a b) (ends c d))
+rank-is-1 a b c d h k = rw (same-eq (ends a b) (ends c d) h k)
+
+pub rank-is-2 : (a b c d : ℕ) → Less (ends c d) (ends a b) → 2 ≡ rank (compareEnds (ends a b) (ends c d))
+rank-is-2 a b c d h = rw (less-gt (ends a b) (ends c d) h)
+
+-- ---- a row of siblings, over three lists
+
+pub record Sibling (from to next : List ℕ) (l i : ℕ) (e : Ends) : Type 0 where
+  pub is : l ≡ i
+  pub some : 0 < i
+  pub in-from : i < length from
+  pub in-to : i < length to
+  pub in-next : i < length next
+  pub from-is : getD from i 0 ≡ e .from
+  pub to-is : getD to i 0 ≡ e .to
+
+unfoldable pub Row : List ℕ → List ℕ → List ℕ → ℕ → Nodes → Type 0
+Row from to next l nil = l ≡ 0
+Row from to next l (node i e c b x) = Sibling from to next l i e × Row from to next (getD next i 0) x
+
+-- what the search asks: the link leads to a row in rising order
+pub record Rowed (from to next : List ℕ) (l : ℕ) : Type 0 where
+  pub row : Nodes
+  pub leads : Row from to next l row
+  pub rising : Rising row
+
+-- what it ensures: it found the place in that row
+pub record Sought (from to next : List ℕ) (l : ℕ) (e : Ends) (r : Place) : Type 0 where
+  pub is : (t : Nodes) → Row from to next l t → r ≡ seekN e 0 t
+
+-- the search at a later sibling goes on as the whole would
+pub record Seeking (from to next : List ℕ) (start : ℕ) (e : Ends) (prev at : ℕ) : Type 0 where
+  pub row : Nodes
+  pub leads : Row from to next at row
+  pub rising : Rising row
+  pub run : (t : Nodes) → Row from to next start t → seekN e prev row ≡ seekN e 0 t
+
+module _ (from to next : List ℕ) where
+  -- a link leads to one row only: a search in two rows of one link is the same
+  seek-one : (e : Ends) (prev l : ℕ) (s t : Nodes) → Row from to next l s → Row from to next l t → seekN e prev s ≡ seekN e prev t
+  unfolding Row
+  seek-one e prev l nil nil p q = refl
+  seek-one e prev l nil (node i d c b x) p q = let h = q .0 .some in let k = q .0 .is in absurd (omega arith)
+  seek-one e prev l (node i d c b x) nil p q = let h = p .0 .some in let k = p .0 .is in absurd (omega arith)
+  seek-one e prev l (node i d c b x) (node i' d' c' b' x') p q = go (compareEnds e d) refl (seek-one e i (getD next i 0) x x' (p .1) (rw (sym ii) at (q .1)))
+    where
+      ii : i ≡ i'
+      ii = sym (p .0 .is) ∙ q .0 .is
+      dd : d ≡ d'
+      dd = ends-path _ _ _ _ (sym (p .0 .from-is) ∙ ap (λ (j : ℕ). getD from j 0) ii ∙ q .0 .from-is) (sym (p .0 .to-is) ∙ ap (λ (j : ℕ). getD to j 0) ii ∙ q .0 .to-is)
+      go : (o : Ordering) → compareEnds e d ≡ o → seekN e i x ≡ seekN e i x' → seekN e prev (node i d c b x) ≡ seekN e prev (node i' d' c' b' x')
+      go Ordering·lt z ih = seekN-lt e prev i d c b x z ∙ ap (λ (j : ℕ). Gap prev j) ii ∙ sym (seekN-lt e prev i' d' c' b' x' (rw dd at z))
+      go Ordering·eq z ih = seekN-eq e prev i d c b x z ∙ ap Here ii ∙ sym (seekN-eq e prev i' d' c' b' x' (rw dd at z))
+      go Ordering·gt z ih = seekN-gt e prev i d c b x z ∙ ih ∙ ap (λ (j : ℕ). seekN e j x') ii ∙ sym (seekN-gt e prev i' d' c' b' x' (rw dd at z))
+
+  module _ (start : ℕ) (e : Ends) where
+    pub seeking-start : Rowed from to next start → Seeking from to next start e 0 start
+    seeking-start h = record { row = h .row; leads = h .leads; rising = h .rising; run = λ t k. seek-one e 0 start (h .row) t (h .leads) k }
+
+    pub seeking-end : (prev at : ℕ) → Seeking from to next start e prev at → at ≡ 0 → Sought from to next start e (Gap prev 0)
+    unfolding Row seekN
+    seeking-end prev at v h = record { is = λ t k. go (v .row) (v .leads) ∙ v .run t k }
+      where
+        go : (w : Nodes) → Row from to next at w → Gap prev 0 ≡ seekN e prev w
+        go nil l = refl
+        go (node i d c b x) l = let y = l .0 .some in let z = l .0 .is in absurd (omega arith)
+
+    -- the sibling that a link that is not 0 leads to
+    pub record Met (prev at : ℕ) : Type 0 where
+      pub in-from : at < length from
+      pub in-to : at < length to
+      pub in-next : at < length next
+      pub before : compareEnds e (ends (getD from at 0) (getD to at 0)) ≡ Ordering·lt → Sought from to next start e (Gap prev at)
+      pub there : compareEnds e (ends (getD from at 0) (getD to at 0)) ≡ Ordering·eq → Sought from to next start e (Here at)
+      pub on : compareEnds e (ends (getD from at 0) (getD to at 0)) ≡ Ordering·gt → Seeking from to next start e at (getD next at 0)
+      -- the next sibling, if there is one, has a later edge
+      pub later : 0 < getD next at 0 → Less (ends (getD from at 0) (getD to at 0)) (ends (getD from (getD next at 0) 0) (getD to (getD next at 0) 0))
+
+    pub seeking-met : (prev at : ℕ) → Seeking from to next start e prev at → (at ≡ 0 → ⊥) → Met prev at
+    unfolding Row Rising Above
+    seeking-met prev at v ne = go (v .row) (v .leads) (v .rising) (v .run)
+      where
+        head-of : (i : ℕ) (d : Ends) (x : Nodes) → Above d x → Row from to next (getD next i 0) x → getD from i 0 ≡ d .from → getD to i 0 ≡ d .to → 0 < getD next i 0
+            → Less (ends (getD from i 0) (getD to i 0)) (ends (getD from (getD next i 0) 0) (getD to (getD next i 0) 0))
+        head-of i d nil h l p q y = absurd (omega arith)
+        head-of i d (node j f c b x) h l p q y =
+            let z : Less d f = lt-less d f (h .0) in
+            let f1 : getD from (getD next i 0) 0 ≡ f .from = ap (λ (w : ℕ). getD from w 0) (l .0 .is) ∙ l .0 .from-is in
+            let f2 : getD to (getD next i 0) 0 ≡ f .to = ap (λ (w : ℕ). getD to w 0) (l .0 .is) ∙ l .0 .to-is in
+            rw (p, q, f1, f2) z
+        go : (w : Nodes) → Row from to next at w → Rising w → ((t : Nodes) → Row from to next start t → seekN e prev w ≡ seekN e 0 t) → Met prev at
+        go nil l r k = absurd (ne l)
+        go (node i d c b x) l r k =
+            rw (l .0 .is)
+            (record {
+              in-from = l .0 .in-from;
+              in-to = l .0 .in-to;
+              in-next = l .0 .in-next;
+              before = λ z. record { is = λ t y. sym (seekN-lt e prev i d c b x (compare-named e _ d Ordering·lt dd z)) ∙ k t y };
+              there = λ z. record { is = λ t y. sym (seekN-eq e prev i d c b x (compare-named e _ d Ordering·eq dd z)) ∙ k t y };
+              on = λ z. record { row = x; leads = l .1; rising = r .2; run = λ t y. sym (seekN-gt e prev i d c b x (compare-named e _ d Ordering·gt dd z)) ∙ k t y };
+              later = head-of i d x (r .0) (l .1) (l .0 .from-is) (l .0 .to-is);
+            })
+          where
+            dd : ends (getD from i 0) (getD to i 0) ≡ d
+            dd = ends-path _ _ _ _ (l .0 .from-is) (l .0 .to-is)
+
+-- ---- the search ends: what is left falls as the edges rise
+
+lex : (W a b c d : ℕ) → b < W → a < c → a * W + b < c * W + d
+lex W a b c d h k = let p : suc a * W ≤ c * W = mul-le-mul-right W k in let q : suc a * W ≡ a * W + W = suc-mul a W in omega arith
+
+within : (W c d : ℕ) → c < W → d < W → c * W + d ≤ W * W
+within W c d h k = let p : suc c * W ≤ W * W = mul-le-mul-right W h in let q : suc c * W ≡ c * W + W = suc-mul c W in omega arith
+
+falls : (M x y : ℕ) → x < y → y ≤ M → suc (M - y) < suc (M - x)
+falls M x y h k = omega arith
+
+less-lex : (W a b c d : ℕ) → b < W → Less (ends a b) (ends c d) → a * W + b < c * W + d
+less-lex W a b c d h (inl k) = lex W a b c d h k
+less-lex W a b c d h (inr k) = let p : a * W ≡ c * W = ap (λ (x : ℕ). x * W) (k .0) in let q = k .1 in omega arith
+
+unfoldable pub left : ℕ → List ℕ → List ℕ → ℕ → ℕ
+left W from to zero = 0
+left W from to (suc at) = suc (W * W - (getD from (suc at) 0 * W + getD to (suc at) 0))
+
+pub left-falls : (W : ℕ) (from to : List ℕ) (at x : ℕ) → (at ≡ 0 → ⊥) → getD to at 0 < W → getD from x 0 < W → getD to x 0 < W
+    → (0 < x → Less (ends (getD from at 0) (getD to at 0)) (ends (getD from x 0) (getD to x 0))) → left W from to x < left W from to at
+unfolding left
+left-falls W from to zero x ne b c d h = absurd (ne refl)
+left-falls W from to (suc at) zero ne b c d h = omega arith
+left-falls W from to (suc at) (suc x) ne b c d h =
+    falls (W * W) _ _ (less-lex W (getD from (suc at) 0) (getD to (suc at) 0) (getD from (suc x) 0) (getD to (suc x) 0) b (h (omega arith))) (within W (getD from (suc x) 0) (getD to (suc x) 0) c d)
