@@ -12,6 +12,7 @@ use Rattle.definition.specs.Threading.{Ends, compareEnds}
 use Rattle.threading_tree.specs.Ends.{ends, Less, lt-less, less-lt, less-gt, same-eq, eq-same, ends-path, lt-ne, gt-lt, compare-named}
 use Rattle.threading_tree.specs.Nodes.{Nodes, nil, node, seekN, Above, Rising, Fields, Cell, Links}
 use Rattle.threading_tree.specs.Rows.{seekN-lt, seekN-eq, seekN-gt}
+use Rattle.threading_tree.specs.Slots.{cols, Slot}
 use Rattle.threading_tree.specs.declared.Place.{Place}
 use Rattle.threading_tree.specs.declared.Place.the-variants.{Here, Gap}
 
@@ -55,106 +56,100 @@ rank-is-1 a b c d h k = rw (same-eq (ends a b) (ends c d) h k)
 pub rank-is-2 : (a b c d : ℕ) → Less (ends c d) (ends a b) → 2 ≡ rank (compareEnds (ends a b) (ends c d))
 rank-is-2 a b c d h = rw (less-gt (ends a b) (ends c d) h)
 
--- ---- a row of siblings, over three lists
+-- ---- a row of siblings
 
-pub record Sibling (from to next : List ℕ) (l i : ℕ) (e : Ends) : Type 0 where
+pub record Sibling (ns : List ℕ) (l i : ℕ) (e : Ends) : Type 0 where
   pub is : l ≡ i
   pub some : 0 < i
-  pub in-from : i < length from
-  pub in-to : i < length to
-  pub in-next : i < length next
-  pub from-is : getD from i 0 ≡ e .from
-  pub to-is : getD to i 0 ≡ e .to
+  pub slot : Slot i ns
+  pub from-is : cols ns .from i ≡ e .from
+  pub to-is : cols ns .to i ≡ e .to
 
-unfoldable pub Row : List ℕ → List ℕ → List ℕ → ℕ → Nodes → Type 0
-Row from to next l nil = l ≡ 0
-Row from to next l (node i e c b x) = Sibling from to next l i e × Row from to next (getD next i 0) x
+unfoldable pub Row : List ℕ → ℕ → Nodes → Type 0
+Row ns l nil = l ≡ 0
+Row ns l (node i e c b x) = Sibling ns l i e × Row ns (cols ns .next i) x
 
 -- what the search asks: the link leads to a row in rising order
-pub record Rowed (from to next : List ℕ) (l : ℕ) : Type 0 where
+pub record Rowed (ns : List ℕ) (l : ℕ) : Type 0 where
   pub row : Nodes
-  pub leads : Row from to next l row
+  pub leads : Row ns l row
   pub rising : Rising row
 
 -- what it ensures: it found the place in that row
-pub record Sought (from to next : List ℕ) (l : ℕ) (e : Ends) (r : Place) : Type 0 where
-  pub is : (t : Nodes) → Row from to next l t → r ≡ seekN e 0 t
+pub record Sought (ns : List ℕ) (l : ℕ) (e : Ends) (r : Place) : Type 0 where
+  pub is : (t : Nodes) → Row ns l t → r ≡ seekN e 0 t
 
 -- the search at a later sibling goes on as the whole would
-pub record Seeking (from to next : List ℕ) (start : ℕ) (e : Ends) (prev at : ℕ) : Type 0 where
+pub record Seeking (ns : List ℕ) (start : ℕ) (e : Ends) (prev at : ℕ) : Type 0 where
   pub row : Nodes
-  pub leads : Row from to next at row
+  pub leads : Row ns at row
   pub rising : Rising row
-  pub run : (t : Nodes) → Row from to next start t → seekN e prev row ≡ seekN e 0 t
+  pub run : (t : Nodes) → Row ns start t → seekN e prev row ≡ seekN e 0 t
 
-module _ (from to next : List ℕ) where
+module _ (ns : List ℕ) where
   -- a link leads to one row only: a search in two rows of one link is the same
-  seek-one : (e : Ends) (prev l : ℕ) (s t : Nodes) → Row from to next l s → Row from to next l t → seekN e prev s ≡ seekN e prev t
+  seek-one : (e : Ends) (prev l : ℕ) (s t : Nodes) → Row ns l s → Row ns l t → seekN e prev s ≡ seekN e prev t
   unfolding Row
   seek-one e prev l nil nil p q = refl
   seek-one e prev l nil (node i d c b x) p q = let h = q .0 .some in let k = q .0 .is in absurd (omega arith)
   seek-one e prev l (node i d c b x) nil p q = let h = p .0 .some in let k = p .0 .is in absurd (omega arith)
-  seek-one e prev l (node i d c b x) (node i' d' c' b' x') p q = go (compareEnds e d) refl (seek-one e i (getD next i 0) x x' (p .1) (rw (sym ii) at (q .1)))
+  seek-one e prev l (node i d c b x) (node i' d' c' b' x') p q = go (compareEnds e d) refl (seek-one e i (cols ns .next i) x x' (p .1) (rw (sym ii) at (q .1)))
     where
       ii : i ≡ i'
       ii = sym (p .0 .is) ∙ q .0 .is
       dd : d ≡ d'
-      dd = ends-path _ _ _ _ (sym (p .0 .from-is) ∙ ap (λ (j : ℕ). getD from j 0) ii ∙ q .0 .from-is) (sym (p .0 .to-is) ∙ ap (λ (j : ℕ). getD to j 0) ii ∙ q .0 .to-is)
+      dd = ends-path _ _ _ _ (sym (p .0 .from-is) ∙ ap (λ (j : ℕ). cols ns .from j) ii ∙ q .0 .from-is) (sym (p .0 .to-is) ∙ ap (λ (j : ℕ). cols ns .to j) ii ∙ q .0 .to-is)
       go : (o : Ordering) → compareEnds e d ≡ o → seekN e i x ≡ seekN e i x' → seekN e prev (node i d c b x) ≡ seekN e prev (node i' d' c' b' x')
       go Ordering·lt z ih = seekN-lt e prev i d c b x z ∙ ap (λ (j : ℕ). Gap prev j) ii ∙ sym (seekN-lt e prev i' d' c' b' x' (rw dd at z))
       go Ordering·eq z ih = seekN-eq e prev i d c b x z ∙ ap Here ii ∙ sym (seekN-eq e prev i' d' c' b' x' (rw dd at z))
       go Ordering·gt z ih = seekN-gt e prev i d c b x z ∙ ih ∙ ap (λ (j : ℕ). seekN e j x') ii ∙ sym (seekN-gt e prev i' d' c' b' x' (rw dd at z))
 
   module _ (start : ℕ) (e : Ends) where
-    pub seeking-start : Rowed from to next start → Seeking from to next start e 0 start
+    pub seeking-start : Rowed ns start → Seeking ns start e 0 start
     seeking-start h = record { row = h .row; leads = h .leads; rising = h .rising; run = λ t k. seek-one e 0 start (h .row) t (h .leads) k }
 
-    pub seeking-end : (prev at : ℕ) → Seeking from to next start e prev at → at ≡ 0 → Sought from to next start e (Gap prev 0)
+    pub seeking-end : (prev at : ℕ) → Seeking ns start e prev at → at ≡ 0 → Sought ns start e (Gap prev 0)
     unfolding Row seekN
     seeking-end prev at v h = record { is = λ t k. go (v .row) (v .leads) ∙ v .run t k }
       where
-        go : (w : Nodes) → Row from to next at w → Gap prev 0 ≡ seekN e prev w
+        go : (w : Nodes) → Row ns at w → Gap prev 0 ≡ seekN e prev w
         go nil l = refl
         go (node i d c b x) l = let y = l .0 .some in let z = l .0 .is in absurd (omega arith)
 
     -- the sibling that a link that is not 0 leads to
     pub record Met (prev at : ℕ) : Type 0 where
-      pub in-from : at < length from
-      pub in-to : at < length to
-      pub in-next : at < length next
-      pub before : compareEnds e (ends (getD from at 0) (getD to at 0)) ≡ Ordering·lt → Sought from to next start e (Gap prev at)
-      pub there : compareEnds e (ends (getD from at 0) (getD to at 0)) ≡ Ordering·eq → Sought from to next start e (Here at)
-      pub on : compareEnds e (ends (getD from at 0) (getD to at 0)) ≡ Ordering·gt → Seeking from to next start e at (getD next at 0)
+      pub slot : Slot at ns
+      pub before : compareEnds e (ends (cols ns .from at) (cols ns .to at)) ≡ Ordering·lt → Sought ns start e (Gap prev at)
+      pub there : compareEnds e (ends (cols ns .from at) (cols ns .to at)) ≡ Ordering·eq → Sought ns start e (Here at)
+      pub on : compareEnds e (ends (cols ns .from at) (cols ns .to at)) ≡ Ordering·gt → Seeking ns start e at (cols ns .next at)
       -- the next sibling, if there is one, has a later edge
-      pub later : 0 < getD next at 0 → Less (ends (getD from at 0) (getD to at 0)) (ends (getD from (getD next at 0) 0) (getD to (getD next at 0) 0))
+      pub later : 0 < cols ns .next at → Less (ends (cols ns .from at) (cols ns .to at)) (ends (cols ns .from (cols ns .next at)) (cols ns .to (cols ns .next at)))
 
-    pub seeking-met : (prev at : ℕ) → Seeking from to next start e prev at → (at ≡ 0 → ⊥) → Met prev at
+    pub seeking-met : (prev at : ℕ) → Seeking ns start e prev at → (at ≡ 0 → ⊥) → Met prev at
     unfolding Row Rising Above
     seeking-met prev at v ne = go (v .row) (v .leads) (v .rising) (v .run)
       where
-        head-of : (i : ℕ) (d : Ends) (x : Nodes) → Above d x → Row from to next (getD next i 0) x → getD from i 0 ≡ d .from → getD to i 0 ≡ d .to → 0 < getD next i 0
-            → Less (ends (getD from i 0) (getD to i 0)) (ends (getD from (getD next i 0) 0) (getD to (getD next i 0) 0))
+        head-of : (i : ℕ) (d : Ends) (x : Nodes) → Above d x → Row ns (cols ns .next i) x → cols ns .from i ≡ d .from → cols ns .to i ≡ d .to → 0 < cols ns .next i
+            → Less (ends (cols ns .from i) (cols ns .to i)) (ends (cols ns .from (cols ns .next i)) (cols ns .to (cols ns .next i)))
         head-of i d nil h l p q y = absurd (omega arith)
         head-of i d (node j f c b x) h l p q y =
             let z : Less d f = lt-less d f (h .0) in
-            let f1 : getD from (getD next i 0) 0 ≡ f .from = ap (λ (w : ℕ). getD from w 0) (l .0 .is) ∙ l .0 .from-is in
-            let f2 : getD to (getD next i 0) 0 ≡ f .to = ap (λ (w : ℕ). getD to w 0) (l .0 .is) ∙ l .0 .to-is in
+            let f1 : cols ns .from (cols ns .next i) ≡ f .from = ap (λ (w : ℕ). cols ns .from w) (l .0 .is) ∙ l .0 .from-is in
+            let f2 : cols ns .to (cols ns .next i) ≡ f .to = ap (λ (w : ℕ). cols ns .to w) (l .0 .is) ∙ l .0 .to-is in
             rw (p, q, f1, f2) z
-        go : (w : Nodes) → Row from to next at w → Rising w → ((t : Nodes) → Row from to next start t → seekN e prev w ≡ seekN e 0 t) → Met prev at
+        go : (w : Nodes) → Row ns at w → Rising w → ((t : Nodes) → Row ns start t → seekN e prev w ≡ seekN e 0 t) → Met prev at
         go nil l r k = absurd (ne l)
         go (node i d c b x) l r k =
             rw (l .0 .is)
             (record {
-              in-from = l .0 .in-from;
-              in-to = l .0 .in-to;
-              in-next = l .0 .in-next;
+              slot = l .0 .slot;
               before = λ z. record { is = λ t y. sym (seekN-lt e prev i d c b x (compare-named e _ d Ordering·lt dd z)) ∙ k t y };
               there = λ z. record { is = λ t y. sym (seekN-eq e prev i d c b x (compare-named e _ d Ordering·eq dd z)) ∙ k t y };
               on = λ z. record { row = x; leads = l .1; rising = r .2; run = λ t y. sym (seekN-gt e prev i d c b x (compare-named e _ d Ordering·gt dd z)) ∙ k t y };
               later = head-of i d x (r .0) (l .1) (l .0 .from-is) (l .0 .to-is);
             })
           where
-            dd : ends (getD from i 0) (getD to i 0) ≡ d
+            dd : ends (cols ns .from i) (cols ns .to i) ≡ d
             dd = ends-path _ _ _ _ (l .0 .from-is) (l .0 .to-is)
 
 -- ---- the search ends: what is left falls as the edges rise
@@ -172,14 +167,43 @@ less-lex : (W a b c d : ℕ) → b < W → Less (ends a b) (ends c d) → a * W 
 less-lex W a b c d h (inl k) = lex W a b c d h k
 less-lex W a b c d h (inr k) = let p : a * W ≡ c * W = ap (λ (x : ℕ). x * W) (k .0) in let q = k .1 in omega arith
 
-unfoldable pub left : ℕ → List ℕ → List ℕ → ℕ → ℕ
-left W from to zero = 0
-left W from to (suc at) = suc (W * W - (getD from (suc at) 0 * W + getD to (suc at) 0))
+unfoldable pub left : ℕ → List ℕ → ℕ → ℕ
+left W ns zero = 0
+left W ns (suc at) = suc (W * W - (cols ns .from (suc at) * W + cols ns .to (suc at)))
 
-pub left-falls : (W : ℕ) (from to : List ℕ) (at x : ℕ) → (at ≡ 0 → ⊥) → getD to at 0 < W → getD from x 0 < W → getD to x 0 < W
-    → (0 < x → Less (ends (getD from at 0) (getD to at 0)) (ends (getD from x 0) (getD to x 0))) → left W from to x < left W from to at
+pub left-falls : (W : ℕ) (ns : List ℕ) (at x : ℕ) → (at ≡ 0 → ⊥) → cols ns .to at < W → cols ns .from x < W → cols ns .to x < W
+    → (0 < x → Less (ends (cols ns .from at) (cols ns .to at)) (ends (cols ns .from x) (cols ns .to x))) → left W ns x < left W ns at
 unfolding left
-left-falls W from to zero x ne b c d h = absurd (ne refl)
-left-falls W from to (suc at) zero ne b c d h = omega arith
-left-falls W from to (suc at) (suc x) ne b c d h =
-    falls (W * W) _ _ (less-lex W (getD from (suc at) 0) (getD to (suc at) 0) (getD from (suc x) 0) (getD to (suc x) 0) b (h (omega arith))) (within W (getD from (suc x) 0) (getD to (suc x) 0) c d)
+left-falls W ns zero x ne b c d h = absurd (ne refl)
+left-falls W ns (suc at) zero ne b c d h = omega arith
+left-falls W ns (suc at) (suc x) ne b c d h =
+    falls (W * W) _ _ (less-lex W (cols ns .from (suc at)) (cols ns .to (suc at)) (cols ns .from (suc x)) (cols ns .to (suc x)) b (h (omega arith))) (within W (cols ns .from (suc x)) (cols ns .to (suc x)) c d)
+
+-- ---- one turn of the search, as the code makes it: the sibling's edge is (c, d), the order of (a, b) against it is o, and nx is the next link
+
+module _ (ns : List ℕ) (start a b prev at c d o : ℕ) (v : Seeking ns start (ends a b) prev at) (ne : at ≡ 0 → ⊥) (hc : c ≡ cols ns .from at)
+    (hd : d ≡ cols ns .to at) (ho : o ≡ rank (compareEnds (ends a b) (ends c d))) where
+  told : o ≡ rank (compareEnds (ends a b) (ends (cols ns .from at) (cols ns .to at)))
+  told = ho ∙ ap (λ (z : Ends). rank (compareEnds (ends a b) z)) (ends-path c d (cols ns .from at) (cols ns .to at) hc hd)
+
+  edge : Ends
+  edge = ends (cols ns .from at) (cols ns .to at)
+
+  pub stops-before : o ≡ 0 → Sought ns start (ends a b) (Gap prev at)
+  unfolding edge
+  stops-before z = seeking-met ns start (ends a b) prev at v ne .before (rank-lt (ends a b) edge (sym told ∙ z))
+
+  pub stops-there : o ≡ 1 → Sought ns start (ends a b) (Here at)
+  unfolding edge
+  stops-there z = seeking-met ns start (ends a b) prev at v ne .there (rank-eq (ends a b) edge (sym told ∙ z))
+
+  module _ (nx : ℕ) (hn : nx ≡ cols ns .next at) where
+    pub goes-on : (o ≡ 0 → ⊥) → (o ≡ 1 → ⊥) → Seeking ns start (ends a b) at nx
+    unfolding edge
+    goes-on p q = rw hn (seeking-met ns start (ends a b) prev at v ne .on (rank-gt (ends a b) edge (λ z. p (told ∙ z)) (λ z. q (told ∙ z))))
+
+    pub gets-less : (W : ℕ) → ((i : ℕ) → getD ns i 0 < W) → left W ns nx < left W ns at
+    gets-less W h =
+        rw hn
+        (left-falls W ns at (cols ns .next at) ne (h (at * 5 + 1)) (h (cols ns .next at * 5 + 0)) (h (cols ns .next at * 5 + 1))
+        (seeking-met ns start (ends a b) prev at v ne .later))
