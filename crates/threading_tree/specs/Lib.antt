@@ -5,3 +5,4 @@ pub mod Rows
 pub mod Good
 pub mod Slots
 pub mod Cells
+pub mod Take

@@ -36,7 +36,7 @@ here-same h = cc
 gap-after : {u v u' v' : ℕ} → Gap u v ≡ Gap u' v' → u ≡ u'
 gap-after h = cc
 
-gap-before : {u v u' v' : ℕ} → Gap u v ≡ Gap u' v' → v ≡ v'
+pub gap-before : {u v u' v' : ℕ} → Gap u v ≡ Gap u' v' → v ≡ v'
 gap-before h = cc
 
 -- what a search that found says of the slot

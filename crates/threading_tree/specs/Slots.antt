@@ -58,7 +58,7 @@ module _ (x : List ℕ) (s m : ℕ) where
   unfolding raised
   raised-else l j h n = field-other x 5 s 2 (field x 5 s 2 + m) l j (omega arith) h n
 
-  raised-count : (l : ℕ) → (l ≡ s → ⊥) → field (raised x s m) 5 l 2 ≡ field x 5 l 2
+  pub raised-count : (l : ℕ) → (l ≡ s → ⊥) → field (raised x s m) 5 l 2 ≡ field x 5 l 2
   unfolding raised
   raised-count l n = row-other x 5 s 2 (field x 5 s 2 + m) l 2 (omega arith) (omega arith) n
 
@@ -103,7 +103,7 @@ module _ (x : List ℕ) (k a b m v : ℕ) where
   unfolding placed
   placed-row l j h n = putFrom-row x 5 k 0 (a ∷ b ∷ m ∷ 0 ∷ v ∷ []) l j (omega arith) h n
 
-  placed-off : (l : ℕ) → (l ≡ k → ⊥) → Agree (cols x) (cols (placed x k a b m v)) l
+  pub placed-off : (l : ℕ) → (l ≡ k → ⊥) → Agree (cols x) (cols (placed x k a b m v)) l
   placed-off l n =
       record {
         from = placed-row l 0 (omega arith) n;

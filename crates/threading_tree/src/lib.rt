@@ -5,6 +5,7 @@ ghost use Rattle.definition.specs.Threading.{compareEnds};
 ghost use Rattle.threading_tree.specs.Ends.{ends};
 ghost use Rattle.threading_tree.specs.Slots.{cols, Slot, raised, placed, linked};
 ghost use Rattle.threading_tree.specs.Cells.{rank, Rowed, Sought};
+ghost use Rattle.threading_tree.specs.Take.{Ready, Taken};
 
 // Where a child stands in the row of its siblings, or where it is to stand: after which slot (0: first) and before which (0: last).
 pub enum Place {
@@ -122,4 +123,42 @@ pub fn find_child(nodes: &[u32], start: usize, a: u32, b: u32) -> Place
         at = next_sibling(nodes, at);
     }
     Place::Gap(prev, 0)
+}
+
+// How many nodes there are, and the slot where an open tree stands.
+pub struct Stand {
+    pub nodes: usize,
+    pub at: usize,
+}
+
+pub enum Step {
+    Next(Stand),
+    Refused(u32),
+}
+
+// The node in slot `s` takes the edge (a, b) with the multiplicity m: it gains m, and so does its child for that edge, which is made where it is not
+// there. The answer is the child's slot, or 9 where the table has no room for it, and then nothing has changed.
+pub fn add_edge(nodes: &mut [u32], n: usize, cap: usize, s: usize, a: u32, b: u32, m: u32) -> Step
+    requires { ⌜ Ready cap n s m (ends a b) (now nodes) ⌝ }
+    ensures { λ r. ⌜ Taken cap n s m (ends a b) (now (nodes .entry)) (now (nodes .exit)) r ⌝ }
+{
+    let start = first_child(nodes, s);
+    let place = find_child(nodes, start, a, b);
+    match place {
+        Place::Here(j) => {
+            increment_count(nodes, s, m);
+            increment_count(nodes, j, m);
+            Step::Next(Stand { nodes: n, at: j })
+        }
+        Place::Gap(u, v) => {
+            if n >= cap {
+                return Step::Refused(9);
+            }
+            let k = n + 1;
+            put_node(nodes, k, a, b, m, v);
+            increment_count(nodes, s, m);
+            link_node(nodes, s, u, k);
+            Step::Next(Stand { nodes: k, at: k })
+        }
+    }
 }
