@@ -6,3 +6,10 @@ pub mod Good
 pub mod Slots
 pub mod Cells
 pub mod Take
+pub mod Open
+pub mod Forest
+pub mod Commute
+pub mod Walks
+pub mod All
+pub mod Apart
+pub mod Fit

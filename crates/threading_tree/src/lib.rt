@@ -1,11 +1,14 @@
 ghost use mathlib.Core.Path.{_≡_};
 ghost use Prim.Native.Nat.{ℕ, _+_, _*_, _-_, _^_, _<_, _≤_};
 ghost use lib.ListN.{length};
+ghost use Rattle.laws.specs.Records.{field};
 ghost use Rattle.definition.specs.Threading.{compareEnds};
 ghost use Rattle.threading_tree.specs.Ends.{ends};
 ghost use Rattle.threading_tree.specs.Slots.{cols, Slot, raised, placed, linked};
 ghost use Rattle.threading_tree.specs.Cells.{rank, Rowed, Sought};
 ghost use Rattle.threading_tree.specs.Take.{Ready, Taken};
+ghost use Rattle.threading_tree.specs.Open.{Openable, OpenedAt};
+ghost use Rattle.threading_tree.specs.All.{Walking, TookAll};
 
 // Where a child stands in the row of its siblings, or where it is to stand: after which slot (0: first) and before which (0: last).
 pub enum Place {
@@ -161,4 +164,58 @@ pub fn add_edge(nodes: &mut [u32], n: usize, cap: usize, s: usize, a: u32, b: u3
             Step::Next(Stand { nodes: k, at: k })
         }
     }
+}
+
+// The tree of the vertex v is opened: its root, in slot `root` or made where that is 0, gains 1. The answer is the root's slot.
+pub fn get_and_increment_root(nodes: &mut [u32], n: usize, cap: usize, v: u32, root: usize) -> Step
+    requires { ⌜ Openable cap n v root (now nodes) ⌝ }
+    ensures { λ r. ⌜ OpenedAt cap n v root (now (nodes .entry)) (now (nodes .exit)) r ⌝ }
+{
+    if root != 0 {
+        increment_count(nodes, root, 1);
+        return Step::Next(Stand { nodes: n, at: root });
+    }
+    add_edge(nodes, n, cap, 0, v, v, 1)
+}
+
+// ---- the active trees of a walk: where they stand, and how many stand there
+
+fn active_slot(active: &[u32], i: usize) -> usize
+    requires { ⌜ i * 2 + 2 ≤ length (now active) ⌝ }
+    ensures { λ r. ⌜ r ≡ field (now (active .entry)) 2 i 0 ⌝ }
+{
+    active[i * 2 + 0] as usize
+}
+
+fn active_count(active: &[u32], i: usize) -> u32
+    requires { ⌜ i * 2 + 2 ≤ length (now active) ⌝ }
+    ensures { λ r. ⌜ r ≡ field (now (active .entry)) 2 i 1 ⌝ }
+{
+    active[i * 2 + 1]
+}
+
+pub enum Grown {
+    Nodes(usize),
+    Refused(u32),
+}
+
+// Every active tree of a walk takes the edge (a, b): the first `w` pairs of `active` are the slots where active trees stand, and how many stand there.
+pub fn add_edge_to_junction_tree_nodes(nodes: &mut [u32], active: &mut [u32], w: usize, n: usize, cap: usize, a: u32, b: u32) -> Grown
+    requires { ⌜ Walking cap n w (ends a b) (now nodes) (now active) ⌝ }
+    ensures { λ r. ⌜ TookAll cap n w (ends a b) (now (nodes .entry)) (now (nodes .exit)) (now (active .entry)) (now (active .exit)) r ⌝ }
+{
+    let mut k = n;
+    let mut i: usize = 0;
+    while i < w {
+        let s = active_slot(active, i);
+        let m = active_count(active, i);
+        let r = add_edge(nodes, k, cap, s, a, b, m);
+        let Step::Next(st) = r else {
+            return Grown::Refused(9);
+        };
+        active[i * 2 + 0] = st.at as u32;
+        k = st.nodes;
+        i += 1;
+    }
+    Grown::Nodes(k)
 }
