@@ -13,3 +13,4 @@ pub mod Walks
 pub mod All
 pub mod Apart
 pub mod Fit
+pub mod Join

@@ -9,6 +9,7 @@ ghost use Rattle.threading_tree.specs.Cells.{rank, Rowed, Sought};
 ghost use Rattle.threading_tree.specs.Take.{Ready, Taken};
 ghost use Rattle.threading_tree.specs.Open.{Openable, OpenedAt};
 ghost use Rattle.threading_tree.specs.All.{Walking, TookAll};
+ghost use Rattle.threading_tree.specs.Join.{Sited, Joinable, JoinedTo};
 
 // Where a child stands in the row of its siblings, or where it is to stand: after which slot (0: first) and before which (0: last).
 pub enum Place {
@@ -218,4 +219,52 @@ pub fn add_edge_to_junction_tree_nodes(nodes: &mut [u32], active: &mut [u32], w:
         i += 1;
     }
     Grown::Nodes(k)
+}
+
+// How many nodes there are, how many pairs of `active` are used, and the slot of the root that was opened.
+pub struct Held {
+    pub nodes: usize,
+    pub groups: usize,
+    pub root: usize,
+}
+
+pub enum Joined {
+    Holds(Held),
+    Refused(u32),
+}
+
+// The first of the first `w` pairs of `active` that stands at slot `at`, or `w`.
+fn find_active(active: &[u32], w: usize, at: usize) -> usize
+    requires { ⌜ w * 2 ≤ length (now active) ⌝ }
+    ensures { λ r. ⌜ Sited (now (active .entry)) w at r ⌝ }
+{
+    let mut i: usize = 0;
+    while i < w {
+        if active_slot(active, i) == at {
+            return i;
+        }
+        i += 1;
+    }
+    i
+}
+
+// The tree of v is opened in a walk with `w` pairs: its root joins them, or its pair gains one. `root` is the slot of its root, or 0.
+pub fn add_tree_if_necessary(nodes: &mut [u32], active: &mut [u32], w: usize, n: usize, cap: usize, v: u32, root: usize) -> Joined
+    requires { ⌜ Joinable cap n v root w (now nodes) (now active) ⌝ }
+    ensures { λ r. ⌜ JoinedTo cap n v root w (now (nodes .entry)) (now (nodes .exit)) (now (active .entry)) (now (active .exit)) r ⌝ }
+{
+    let r = get_and_increment_root(nodes, n, cap, v, root);
+    let Step::Next(st) = r else {
+        return Joined::Refused(9);
+    };
+    let at = st.at;
+    let i = find_active(active, w, at);
+    if i < w {
+        let more = active_count(active, i) + 1;
+        active[i * 2 + 1] = more;
+        return Joined::Holds(Held { nodes: st.nodes, groups: w, root: at });
+    }
+    active[w * 2 + 0] = at as u32;
+    active[w * 2 + 1] = 1;
+    Joined::Holds(Held { nodes: st.nodes, groups: w + 1, root: at })
 }
