@@ -162,7 +162,7 @@ raise-many [] i = refl
 raise-many (g ∷ gs) zero = refl
 raise-many (g ∷ gs) (suc i) = ap suc (raise-many gs i)
 
-not-empty : (v : ℕ) → ends v v ∷ [] ≡ [] → ⊥
+pub not-empty : (v : ℕ) → ends v v ∷ [] ≡ [] → ⊥
 not-empty v h = let z : _≡_ {A = ℕ} 0 1 = cc in omega arith
 
 -- ---- the code's answers

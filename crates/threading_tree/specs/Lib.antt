@@ -14,3 +14,6 @@ pub mod All
 pub mod Apart
 pub mod Fit
 pub mod Join
+pub mod Listed
+pub mod Back
+pub mod Held
