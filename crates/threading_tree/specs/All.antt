@@ -218,21 +218,21 @@ module _ (cap w : ℕ) (e : Ends) (x y op : List ℕ) (n i : ℕ) (t : Nodes) (g
         run = ap (λ (v : Nodes). growN e (u .rest) v) z ∙ u .run;
         ahead = ahead-on (field op 2 i 1) e (suc n) (u .group .path) (u .tree) (u .good .rising) op i (st .at) (suc i) (u .rest) (omega arith) (u .ahead);
         behind =
-          behind-on (field op 2 i 1) e (suc n) (u .group .path) (u .tree) (u .good .rising) op i (st .at) 0 (u .done) (omega arith) (onward e (u .group))
-          (record {
-            at = rw (field-same op 2 i 0 (st .at) (omega arith)) new;
-            mult-is = field-other op 2 i 0 (st .at) i 1 (omega arith) (omega arith) (λ y. omega arith) ∙ u .now .mult-is;
-            some = u .now .some;
-          })
-          (u .behind);
+            behind-on (field op 2 i 1) e (suc n) (u .group .path) (u .tree) (u .good .rising) op i (st .at) 0 (u .done) (omega arith) (onward e (u .group))
+            (record {
+              at = rw (field-same op 2 i 0 (st .at) (omega arith)) new;
+              mult-is = field-other op 2 i 0 (st .at) i 1 (omega arith) (omega arith) (λ y. omega arith) ∙ u .now .mult-is;
+              some = u .now .some;
+            })
+            (u .behind);
         split = append-assoc (u .done) (onward e (u .group) ∷ []) (map (onward e) (u .rest)) ∙ u .split;
         passed = length-append (u .done) (onward e (u .group) ∷ []) ∙ (let r : length (u .done) + 1 ≡ suc i = omega arith in r);
         left = u .left;
         counts = λ l.
-          let c0 = u .counts l in
-          let mi = u .now .mult-is in
-          let c1 = k .counts l in
-          omega arith;
+            let c0 = u .counts l in
+            let mi = u .now .mult-is in
+            let c1 = k .counts l in
+            omega arith;
       }
 
   -- the table is full
@@ -255,6 +255,7 @@ module _ (cap w : ℕ) (e : Ends) (x y op : List ℕ) (n i : ℕ) (t : Nodes) (g
       append-nil : (ps : List Group) → ps ++ [] ≡ ps
       append-nil [] = refl
       append-nil (a ∷ ps) = ap (λ (q : List Group). a ∷ q) (append-nil ps)
+
       go : (rs : List Group) → growN e rs (s .tree) ≡ growN e gs t → s .done ++ map (onward e) rs ≡ map (onward e) gs → i + length rs ≡ w
           → ((l : ℕ) → cols y .count l + total rs ≤ cols x .count l + total gs) → Grew cap e x y op t gs n
       go [] a c d f =
@@ -302,7 +303,11 @@ module _ (cap n₀ w : ℕ) (e : Ends) (x op₀ : List ℕ) (p : Walking cap n�
           let mi = u .now .mult-is in
           rw (hs, hm)
           (record {
-            tree = u .tree; path = u .group .path; good = u .good; at = u .now .at; room = k .room;
+            tree = u .tree;
+            path = u .group .path;
+            good = u .good;
+            at = u .now .at;
+            room = k .room;
             wide = wide-kept y (p .wide) (k .nodes);
             spare = λ l q. let c = u .counts l in let d = p .spare l q in omega arith;
             ends = p .ends;

@@ -36,13 +36,16 @@ module _ (m : ℕ) (e : Ends) (k q s : ℕ) (f : Ends) where
       lower : ((f ≡ e) × (k ≡ s)) ⊎ ((eqEnds f e ≡ false) × At (node i h c b x) q (f ∷ []) s) → At (node i h c b x) q (f ∷ []) s
       lower (inl w) = absurd (ne (w .0))
       lower (inr w) = w .1
+
       same : ((f ≡ h) × (i ≡ s)) ⊎ ((eqEnds f h ≡ false) × At x q (f ∷ []) s) → At (node i h c b x) q (f ∷ []) s
       same (inl w) = at-first i c q s h f b x (w .0) (w .1)
       same (inr w) = along (w .0) (w .1)
+
       upper : (At (reachN m e k x) q (f ∷ []) s → At x q (f ∷ []) s) → ((f ≡ h) × (i ≡ s)) ⊎ ((eqEnds f h ≡ false) × At (reachN m e k x) q (f ∷ []) s)
           → At (node i h c b x) q (f ∷ []) s
       upper ih (inl w) = at-first i c q s h f b x (w .0) (w .1)
       upper ih (inr w) = along (w .0) (ih (w .1))
+
       go : (o : Ordering) → compareEnds e h ≡ o → (At (reachN m e k x) q (f ∷ []) s → At x q (f ∷ []) s) → At (node i h c b x) q (f ∷ []) s
       go Ordering·lt z ih = lower (at-split (rw (reachN-lt m e k i h c b x z) at a))
       go Ordering·eq z ih = same (at-split (rw (reachN-eq m e k i h c b x z) at a))
@@ -56,10 +59,12 @@ module _ (m : ℕ) (e : Ends) (k q s : ℕ) (f : Ends) where
       same : ((f ≡ h) × (i ≡ s)) ⊎ ((eqEnds f h ≡ false) × At x q (f ∷ []) s) → At (node i h c b x) q (f ∷ []) s
       same (inl w) = at-first i c q s h f b x (w .0) (w .1)
       same (inr w) = along (w .0) (w .1)
+
       upper : (At (takeN m e k x (d ∷ p)) q (f ∷ []) s → At x q (f ∷ []) s) → ((f ≡ h) × (i ≡ s)) ⊎ ((eqEnds f h ≡ false) × At (takeN m e k x (d ∷ p)) q (f ∷ []) s)
           → At (node i h c b x) q (f ∷ []) s
       upper ih (inl w) = at-first i c q s h f b x (w .0) (w .1)
       upper ih (inr w) = along (w .0) (ih (w .1))
+
       go : (o : Bool) → eqEnds d h ≡ o → (At (takeN m e k x (d ∷ p)) q (f ∷ []) s → At x q (f ∷ []) s) → At (node i h c b x) q (f ∷ []) s
       go true z ih = same (at-split (rw (takeN-down m e k i h c b x d p z) at a))
       go false z ih = upper ih (at-split (rw (takeN-along m e k i h c b x d p z) at a))

@@ -97,8 +97,10 @@ module _ (ns : List ℕ) where
     where
       ii : i ≡ i'
       ii = sym (p .0 .is) ∙ q .0 .is
+
       dd : d ≡ d'
       dd = ends-path _ _ _ _ (sym (p .0 .from-is) ∙ ap (λ (j : ℕ). cols ns .from j) ii ∙ q .0 .from-is) (sym (p .0 .to-is) ∙ ap (λ (j : ℕ). cols ns .to j) ii ∙ q .0 .to-is)
+
       go : (o : Ordering) → compareEnds e d ≡ o → seekN e i x ≡ seekN e i x' → seekN e prev (node i d c b x) ≡ seekN e prev (node i' d' c' b' x')
       go Ordering·lt z ih = seekN-lt e prev i d c b x z ∙ ap (λ (j : ℕ). Gap prev j) ii ∙ sym (seekN-lt e prev i' d' c' b' x' (rw dd at z))
       go Ordering·eq z ih = seekN-eq e prev i d c b x z ∙ ap Here ii ∙ sym (seekN-eq e prev i' d' c' b' x' (rw dd at z))
@@ -137,6 +139,7 @@ module _ (ns : List ℕ) where
             let f1 : cols ns .from (cols ns .next i) ≡ f .from = ap (λ (w : ℕ). cols ns .from w) (l .0 .is) ∙ l .0 .from-is in
             let f2 : cols ns .to (cols ns .next i) ≡ f .to = ap (λ (w : ℕ). cols ns .to w) (l .0 .is) ∙ l .0 .to-is in
             rw (p, q, f1, f2) z
+
         go : (w : Nodes) → Row ns at w → Rising w → ((t : Nodes) → Row ns start t → seekN e prev w ≡ seekN e 0 t) → Met prev at
         go nil l r k = absurd (ne l)
         go (node i d c b x) l r k =

@@ -59,8 +59,10 @@ reach-take e (down {i = i} {c = c} {f = f} {b = b} {x = x} {p = p} a) r = go (co
   where
     B : Branches
     B = erase b
+
     X : Branches
     X = erase x
+
     go : (o : Ordering) → compareEnds e f ≡ o → takeAt (reach e (branch f c B X)) (f ∷ p) e ≡ reach e (takeAt (branch f c B X) (f ∷ p) e)
     go Ordering·lt h =
         rw (reach-lt e f c B X h, takeAt-along e e 1 bare (branch f c B X) f p (eqEnds-ne f e (λ z. lt-ne e f h (sym z))), takeAt-down e f c B X f p (eqEnds-self f))
@@ -75,8 +77,10 @@ reach-take e (along {i = i} {c = c} {f = f} {d = d} {b = b} {x = x} {p = p} n a)
   where
     B : Branches
     B = erase b
+
     X : Branches
     X = erase x
+
     go : (o : Ordering) → compareEnds e f ≡ o → takeAt (reach e X) (d ∷ p) e ≡ reach e (takeAt X (d ∷ p) e) → takeAt (reach e (branch f c B X)) (d ∷ p) e ≡ reach e (takeAt (branch f c B X) (d ∷ p) e)
     go Ordering·lt h ih =
         rw (reach-lt e f c B X h, takeAt-along e e 1 bare (branch f c B X) d p (eqEnds-ne d e (λ z. lt-ne e d (lt-trans e f d h (at-above f d a (r .0))) (sym z))), takeAt-along e f c B X d p n)
@@ -140,10 +144,13 @@ forest-take e v (along {i = i} {c = c} {f = f} {d = d} {b = b} {x = x} {p = p} n
   where
     U : Ends
     U = ends (u .vertex) (u .vertex)
+
     fu : f ≡ U
     fu = branch-ends h
+
     later : compare (u .vertex) v ≡ Ordering·lt
     later = sym (compareEnds-same (u .vertex) v) ∙ (rw (fu, z) at (at-above f d a (r .0)))
+
     go : (o : Ordering) → compare v (u .vertex) ≡ o → forest (atTree v (growth p e) ts) ≡ takeAt (forest ts) (d ∷ p) e → forest (atTree v (growth p e) (u ∷ ts)) ≡ takeAt (forest (u ∷ ts)) (d ∷ p) e
     go Ordering·lt y ih = absurd (let p = cmp-lt _ _ y in let q = cmp-lt _ _ later in omega arith)
     go Ordering·eq y ih = absurd (let p = cmp-eq _ _ y in let q = cmp-lt _ _ later in omega arith)

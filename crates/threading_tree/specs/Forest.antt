@@ -70,6 +70,7 @@ take-more m e k (node i f c b x) (d ∷ p) = go (eqEnds d f) refl (take-more m e
     counts : (q : List Ends) → cond (isEmpty q) (c + suc m) c ≡ cond (isEmpty q) (suc (cond (isEmpty q) (c + m) c)) (cond (isEmpty q) (c + m) c)
     counts [] = add-suc c m
     counts (y ∷ q) = refl
+
     go : (o : Bool) → eqEnds d f ≡ o → erase (takeN (suc m) e k b p) ≡ takeAt (erase (takeN m e k b p)) p e → erase (takeN (suc m) e k x (d ∷ p)) ≡ takeAt (erase (takeN m e k x (d ∷ p))) (d ∷ p) e
         → erase (takeN (suc m) e k (node i f c b x) (d ∷ p)) ≡ takeAt (erase (takeN m e k (node i f c b x) (d ∷ p))) (d ∷ p) e
     go true h ihb ihx = rw (h, takeN, h, takeAt, ihb, counts p)

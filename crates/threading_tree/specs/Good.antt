@@ -236,6 +236,7 @@ module _ (f g : Fields) (n m : ℕ) (e : Ends) (s : ℕ) {t : Nodes} (p : List E
       kid-of : Stopped (v .own) p f e (suc n) n u 0 (f .kid s) (kidsAt a) → 0 < u → (x : Ends) × (v .own u ≡ p ++ x ∷ [])
       kid-of (head q z) y = absurd (omega arith)
       kid-of (inside x p1 p2 p3 p4 p5 p6 z) y = (x, p3)
+
       link : Stopped (v .own) p f e (suc n) n u 0 (f .kid s) (kidsAt a) → g .kid s ≡ headLink e (suc n) (f .kid s) (kidsAt a)
       link (head q z) = w .first q ∙ sym z
       link (inside x p1 p2 p3 p4 p5 p6 z) = w .later p1 ∙ sym z

@@ -107,16 +107,38 @@ pub held-again : {w : Walk} {cap n g b : ℕ} {root : ℕ → ℕ} {x op : List 
 unfolding Standing Apart spread
 held-again op' po h =
     record {
-      tree = h .tree; groups = []; good = h .good; rooted = h .rooted; unrooted = h .unrooted; standing = tt; many = refl; apart = tt;
-      same = record { trees = h .same .trees; opened = same }; room = h .room; wide = h .wide; in-open = po; under = h .under;
+      tree = h .tree;
+      groups = [];
+      good = h .good;
+      rooted = h .rooted;
+      unrooted = h .unrooted;
+      standing = tt;
+      many = refl;
+      apart = tt;
+      same = record { trees = h .same .trees; opened = same };
+      room = h .room;
+      wide = h .wide;
+      in-open = po;
+      under = h .under;
     }
 
 -- a larger bound of the counts
 pub held-under : {w : Walk} {cap n g b : ℕ} {root : ℕ → ℕ} {x op : List ℕ} (b' : ℕ) → b ≤ b' → HeldWalk w cap n g b root x op → HeldWalk w cap n g b' root x op
 held-under b' le h =
     record {
-      tree = h .tree; groups = h .groups; good = h .good; rooted = h .rooted; unrooted = h .unrooted; standing = h .standing; many = h .many; apart = h .apart; same = h .same;
-      room = h .room; wide = h .wide; in-open = h .in-open; under = λ l q. let a = h .under l q in omega arith;
+      tree = h .tree;
+      groups = h .groups;
+      good = h .good;
+      rooted = h .rooted;
+      unrooted = h .unrooted;
+      standing = h .standing;
+      many = h .many;
+      apart = h .apart;
+      same = h .same;
+      room = h .room;
+      wide = h .wide;
+      in-open = h .in-open;
+      under = λ l q. let a = h .under l q in omega arith;
     }
 
 -- roots told by another function that says the same
@@ -124,8 +146,19 @@ pub held-roots : {w : Walk} {cap n g b : ℕ} {root : ℕ → ℕ} {x op : List 
     → HeldWalk w cap n g b root' x op
 held-roots {root = root} root' e h =
     record {
-      tree = h .tree; groups = h .groups; good = h .good; rooted = λ v. rw (e v) (h .rooted v); unrooted = λ v z. h .unrooted v (sym (e v) ∙ z); standing = h .standing;
-      many = h .many; apart = h .apart; same = h .same; room = h .room; wide = h .wide; in-open = h .in-open; under = h .under;
+      tree = h .tree;
+      groups = h .groups;
+      good = h .good;
+      rooted = λ v. rw (e v) (h .rooted v);
+      unrooted = λ v z. h .unrooted v (sym (e v) ∙ z);
+      standing = h .standing;
+      many = h .many;
+      apart = h .apart;
+      same = h .same;
+      room = h .room;
+      wide = h .wide;
+      in-open = h .in-open;
+      under = h .under;
     }
 
 -- ---- an edge is taken (add_edge_to_junction_tree_nodes)
@@ -150,8 +183,14 @@ module _ (w : Walk) (cap n g b : ℕ) (root : ℕ → ℕ) (x op : List ℕ) (h 
       let io = h .in-open in
       let fw = held-few in
       record {
-        tree = h .tree; groups = h .groups; good = h .good; standing = h .standing; many = h .many;
-        in-open = omega arith; room = h .room; wide = h .wide;
+        tree = h .tree;
+        groups = h .groups;
+        good = h .good;
+        standing = h .standing;
+        many = h .many;
+        in-open = omega arith;
+        room = h .room;
+        wide = h .wide;
         spare = λ l q. let u = h .under l q in omega arith;
         ends = pk;
       }
@@ -186,7 +225,7 @@ module _ (w : Walk) (cap n g b : ℕ) (root : ℕ → ℕ) (x op : List ℕ) (h 
         let q : Over cap e (h .tree) (h .groups) m = k .is (h .tree) (h .groups) (h .good) (h .standing) (h .many) in
         let s = walk-takes e w (h .tree) (h .groups) op (h .good .rising) (h .standing) (h .same) in
         let z : length (nodes (takeEdge e w .trees)) ≡ size (growN e (h .groups) (h .tree))
-            = forest-nodes (takeEdge e w .trees) ∙ ap sizeB (sym (s .trees)) ∙ size-erase (growN e (h .groups) (h .tree)) in
+        = forest-nodes (takeEdge e w .trees) ∙ ap sizeB (sym (s .trees)) ∙ size-erase (growN e (h .groups) (h .tree)) in
         let o = q .over in
         (q .number, omega arith)
 
@@ -198,11 +237,15 @@ module _ (w : Walk) (cap n g b : ℕ) (root : ℕ → ℕ) (x op : List ℕ) (h 
       let t = same-total w (h .tree) (h .groups) (h .same) in
       record {
         openable =
-          record {
-            tree = h .tree; good = h .good; rooted = h .rooted v; room = h .room; wide = h .wide;
-            spare = λ l q. let u = h .under l q in omega arith;
-            ends = pk;
-          };
+            record {
+              tree = h .tree;
+              good = h .good;
+              rooted = h .rooted v;
+              room = h .room;
+              wide = h .wide;
+              spare = λ l q. let u = h .under l q in omega arith;
+              ends = pk;
+            };
         groups = h .groups;
         standing = h .standing;
         many = h .many;
@@ -237,8 +280,10 @@ module _ (w : Walk) (cap n g b : ℕ) (root : ℕ → ℕ) (x op : List ℕ) (h 
         rooted : (u : ℕ) → Dec (u ≡ v) → At (opened v n (h .tree)) 0 (ends v v ∷ []) (s .root) → RootAt (root' u) u (opened v n (h .tree))
         rooted u (yes z) a = rw (z, at) (λ y. a)
         rooted u (no z) a = rw (off u z) (λ y. at-take 1 (ends v v) (suc n) [] (h .rooted u y) (h .good .rising))
+
         other : (u : ℕ) → (u ≡ v → ⊥) → ends u u ≡ ends v v → ⊥
         other u z y = z (ap (λ (d : Ends). d .from) y)
+
         unrooted : (u : ℕ) → Dec (u ≡ v) → 0 < s .root → root' u ≡ 0 → (i : ℕ) → At (opened v n (h .tree)) 0 (ends u u ∷ []) i → ⊥
         unrooted u (yes z) f e i a = let y : root' v ≡ 0 = rw z at e in omega arith
         unrooted u (no z) f e i a =
@@ -250,7 +295,7 @@ module _ (w : Walk) (cap n g b : ℕ) (root : ℕ → ℕ) (x op : List ℕ) (h 
         let q : Turns cap n v x y op op' (h .tree) m = k .is (h .tree) (h .groups) (h .good) (h .rooted v) (h .standing) (h .many) (h .apart) in
         let s = same-opened v (suc n) w (h .tree) (h .groups) (h .same) in
         let z : length (nodes (openTree v w .trees)) ≡ size (opened v n (h .tree))
-            = forest-nodes (openTree v w .trees) ∙ ap sizeB (sym (s .trees)) ∙ size-erase (reachN 1 (ends v v) (suc n) (h .tree))
-              ∙ ap size (sym (takeN-here 1 (ends v v) (suc n) (h .tree))) in
+        = forest-nodes (openTree v w .trees) ∙ ap sizeB (sym (s .trees)) ∙ size-erase (reachN 1 (ends v v) (suc n) (h .tree))
+        ∙ ap size (sym (takeN-here 1 (ends v v) (suc n) (h .tree))) in
         let o = q .over in
         (q .number, omega arith)

@@ -100,13 +100,14 @@ stand-raise : (t : Nodes) (op : List ℕ) (p : List Ends) (k i : ℕ) (gs : List
 unfolding Standing raise
 stand-raise t op p k zero (g ∷ gs) (first z) h s =
     let e : k + 0 ≡ k = omega arith in
-    rw e
-    (record {
-      at = rw (field-other op 2 k 1 (field op 2 k 1 + 1) k 0 (omega arith) (omega arith) (λ y. omega arith)) (s .0 .at);
-      mult-is = field-same op 2 k 1 (field op 2 k 1 + 1) (rw e at h) ∙ add-one (field op 2 k 1) ∙ ap suc (s .0 .mult-is);
-      some = omega arith;
-    },
-    mult-kept t op k (field op 2 k 1 + 1) (suc k) gs (omega arith) (s .1))
+    rw e (
+      record {
+        at = rw (field-other op 2 k 1 (field op 2 k 1 + 1) k 0 (omega arith) (omega arith) (λ y. omega arith)) (s .0 .at);
+        mult-is = field-same op 2 k 1 (field op 2 k 1 + 1) (rw e at h) ∙ add-one (field op 2 k 1) ∙ ap suc (s .0 .mult-is);
+        some = omega arith;
+      },
+      mult-kept t op k (field op 2 k 1 + 1) (suc k) gs (omega arith) (s .1),
+    )
 stand-raise t op p k (suc i) (g ∷ gs) (after z) h s =
     let e : k + suc i ≡ suc k + i = omega arith in
     (kept t op (k + suc i) 1 (field op 2 (k + suc i) 1 + 1) k g (omega arith) (λ y. omega arith) (s .0), rw e (stand-raise t op p (suc k) i gs z (omega arith) (s .1)))
@@ -123,9 +124,10 @@ stand-new t op p a k j [] e ho at s =
     let l : length (putField op 2 j 0 a) ≡ length op = length-set op (j * 2 + 0) a in
     let w : field (joined op j a) 2 j 0 ≡ a = field-other (putField op 2 j 0 a) 2 j 1 1 j 0 (omega arith) (omega arith) (λ y. omega arith) ∙ field-same op 2 j 0 a (omega arith) in
     (record { at = rw (z, w) at; mult-is = rw z (field-same (putField op 2 j 0 a) 2 j 1 1 (omega arith)); some = omega arith }, tt)
-stand-new t op p a k j (g ∷ gs) e ho at s =
-    (kept t (putField op 2 j 0 a) j 1 1 k g (omega arith) (λ z. omega arith) (kept t op j 0 a k g (omega arith) (λ z. omega arith) (s .0)),
-    stand-new t op p a (suc k) j gs (omega arith) ho at (s .1))
+stand-new t op p a k j (g ∷ gs) e ho at s = (
+  kept t (putField op 2 j 0 a) j 1 1 k g (omega arith) (λ z. omega arith) (kept t op j 0 a k g (omega arith) (λ z. omega arith) (s .0)),
+  stand-new t op p a (suc k) j gs (omega arith) ho at (s .1),
+)
 
 -- the group at a place whose slot is the root's
 has-at : (f : Fields) (n : ℕ) (t : Nodes) (g : Good f n t) (op : List ℕ) (p : List Ends) (a : ℕ) → At t 0 p a → (k i : ℕ) (gs : List Group)
@@ -183,8 +185,8 @@ module _ (cap n v root w : ℕ) (x op : List ℕ) (p : Joinable cap n v root w x
     join-turned k z =
         record {
           is = λ t gs g ro s l a.
-            let q : Full cap n 1 (ends v v) x y t [] k = rw z at (o .is t g ro) in
-            record { number = refl; over = q .over; same = q .same; same-open = refl };
+              let q : Full cap n 1 (ends v v) x y t [] k = rw z at (o .is t g ro) in
+              record { number = refl; over = q .over; same = q .same; same-open = refl };
           counts = o .counts;
           beyond = o .beyond;
           beyond-open = λ i q. refl;
@@ -203,6 +205,7 @@ module _ (cap n v root w : ℕ) (x op : List ℕ) (p : Joinable cap n v root w x
         where
           cols' : (t : Nodes) → Good (cols x) n t → RootAt root v t → Fields
           cols' t g ro = cols y
+
           positive : (k : ℕ) → (k ≡ 0 → ⊥) → 0 < k
           positive k h = omega arith
 
@@ -249,7 +252,7 @@ module _ (cap n v root w : ℕ) (x op : List ℕ) (p : Joinable cap n v root w x
                 let q = went t g ro in
                 let so = stand-opened v n t (g .rising) op 0 gs s in
                 let has : HasAt (ends v v ∷ []) gs i
-                    = has-at (cols y) (st .nodes) (opened v n t) (q .good) op (ends v v ∷ []) (st .at) (root-at t g ro) 0 i gs (omega arith) (rw (zero-add i) (f .there h)) so in
+                = has-at (cols y) (st .nodes) (opened v n t) (q .good) op (ends v v ∷ []) (st .at) (root-at t g ro) 0 i gs (omega arith) (rw (zero-add i) (f .there h)) so in
                 let ri = raised-in h in
                 record {
                   good = q .good;
@@ -276,8 +279,8 @@ module _ (cap n v root w : ℕ) (x op : List ℕ) (p : Joinable cap n v root w x
             let m = p .many in
             let ro2 = q .room in
             let e =
-                groups-fewer (cols y) (st .nodes) (opened v n t) (q .good) op (ends v v ∷ []) (st .at) (root-at t g ro) (not-empty v) (p .groups)
-                (none-there h t (p .groups) g ro (p .standing) (p .many)) (p .apart) (stand-opened v n t (g .rising) op 0 (p .groups) (p .standing)) in
+            groups-fewer (cols y) (st .nodes) (opened v n t) (q .good) op (ends v v ∷ []) (st .at) (root-at t g ro) (not-empty v) (p .groups)
+            (none-there h t (p .groups) g ro (p .standing) (p .many)) (p .apart) (stand-opened v n t (g .rising) op 0 (p .groups) (p .standing)) in
             omega arith
 
         pub join-room : w ≤ i → w * 2 + 2 ≤ length op
@@ -296,8 +299,8 @@ module _ (cap n v root w : ℕ) (x op : List ℕ) (p : Joinable cap n v root w x
               counts = o .counts;
               beyond = o .beyond;
               beyond-open = λ j q.
-                let a = new-in h in
-                getD-set-other (putField op 2 w 0 (st .at)) (w * 2 + 1) j 1 0 (λ e. omega arith) ∙ getD-set-other op (w * 2 + 0) j (st .at) 0 (λ e. omega arith);
+                  let a = new-in h in
+                  getD-set-other (putField op 2 w 0 (st .at)) (w * 2 + 1) j 1 0 (λ e. omega arith) ∙ getD-set-other op (w * 2 + 0) j (st .at) 0 (λ e. omega arith);
             }
           where
             one : (t : Nodes) (gs : List Group) → Good (cols x) n t → RootAt root v t → Standing t op 0 gs → length gs ≡ w → Apart gs

@@ -17,3 +17,5 @@ pub mod Join
 pub mod Listed
 pub mod Back
 pub mod Held
+pub mod Front
+pub mod Write

@@ -227,6 +227,7 @@ at-landed m e k q (node i f c b x) = go (compareEnds e f) refl (at-landed m e k 
   where
     same : (f : Ends) → e ≡ f → At (node i f (c + m) b x) q (e ∷ []) i
     same f z = rw z (down here)
+
     go : (o : Ordering) → compareEnds e f ≡ o → At (reachN m e k x) q (e ∷ []) (landed e k x) → At (reachN m e k (node i f c b x)) q (e ∷ []) (landed e k (node i f c b x))
     go Ordering·lt h ih = rw (h, reachN, landed) (down here)
     go Ordering·eq h ih = rw (h, reachN, landed) (same f (eq-same e f h))

@@ -86,12 +86,12 @@ module _ (cap n v root : ℕ) (x : List ℕ) (h : Openable cap n v root x) where
         rw z
         (record {
           is = λ t g w.
-            let q = root-seek t g w in
-            record {
-              good = good-bumped (cols x) (cols (raised x root 1)) n 1 (ends v v) 0 [] g here root q (bumped-root x root 1 ne root-slot);
-              at = sym (landed-here 1 (ends v v) (suc n) root 0 t q);
-              room = h .room;
-            };
+              let q = root-seek t g w in
+              record {
+                good = good-bumped (cols x) (cols (raised x root 1)) n 1 (ends v v) 0 [] g here root q (bumped-root x root 1 ne root-slot);
+                at = sym (landed-here 1 (ends v v) (suc n) root 0 t q);
+                room = h .room;
+              };
           counts = root-under x root 1 ne root-slot;
           beyond = raised-beyond x root 1 cap root-live;
         })

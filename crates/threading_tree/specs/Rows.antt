@@ -57,6 +57,7 @@ seek-here own Q e n f j prev l (node i d c b x) h v o = go (compareEnds e d) ref
     found p q =
         rw (← q, p)
         (record { some = v .0 .some; live = v .0 .live; from = v .0 .from; to = v .0 .to; path = o .0 })
+
     go : (w : Ordering) → compareEnds e d ≡ w → (seekN e i x ≡ Here j → Found own Q e n f j) → Found own Q e n f j
     go Ordering·lt z ih = absurd (gap-here (sym (seekN-lt e prev i d c b x z) ∙ h))
     go Ordering·eq z ih = found (eq-same e d z) (here-same (sym (seekN-eq e prev i d c b x z) ∙ h))
@@ -97,11 +98,13 @@ module _ (own : ℕ → List Ends) (Q : List Ends) (m : ℕ) (e : Ends) (k n n' 
     where
       under : Links g n' (f .kid i) b
       under = frame own Q n n' f g more bumped-off (Q ++ d ∷ []) (f .kid i) b (v .1) (o .1) (below-not d)
+
       there : i ≡ j → e ≡ d → Links g n' l (node i d (c + m) b x)
       there z y =
           let a : Gained f g m i = rw z (w .child) in
           let q : g .kid i ≡ f .kid i = rw z (w .kid-child) in
           (cell-gained n' more a (v .0), rw q under, rw (a .next) (row-same (f .next i) x (v .2) (o .2) (rw y (r .0))))
+
       go : (y : Ordering) → compareEnds e d ≡ y → (seekN e i x ≡ Here j → Links g n' (f .next i) (reachN m e k x)) → Links g n' l (reachN m e k (node i d c b x))
       go Ordering·lt z ih = absurd (gap-here (sym (seekN-lt e prev i d c b x z) ∙ h))
       go Ordering·eq z ih = rw (reachN-eq m e k i d c b x z) (there (here-same (sym (seekN-eq e prev i d c b x z) ∙ h)) (eq-same e d z))
@@ -142,10 +145,12 @@ seek-gap own Q f e k n u v prev l (node i d c b x) h w o = go (compareEnds e d) 
   where
     stay : compareEnds e d ≡ Ordering·gt → headLink e k l (node i d c b x) ≡ l
     stay z = rw (z, headLink)
+
     up : compareEnds e d ≡ Ordering·gt → Stopped own Q f e k n u i (f .next i) x → Stopped own Q f e k n u prev l (node i d c b x)
     up z (head p q) =
         inside d (rw p (w .0 .some)) (rw p (w .0 .live)) (rw p (o .0)) (rw p (w .0 .from)) (rw p (w .0 .to)) (λ a y. y .0) (stay z)
     up z (inside y p1 p2 p3 p4 p5 p6 q) = inside y p1 p2 p3 p4 p5 (λ a r. p6 a (r .1)) (stay z)
+
     go : (y : Ordering) → compareEnds e d ≡ y → (seekN e i x ≡ Gap u v → Stopped own Q f e k n u i (f .next i) x) → Stopped own Q f e k n u prev l (node i d c b x)
     go Ordering·lt z ih = head (sym (gap-after (sym (seekN-lt e prev i d c b x z) ∙ h))) (rw (z, headLink))
     go Ordering·eq z ih = absurd (gap-here (sym h ∙ seekN-eq e prev i d c b x z))
@@ -193,12 +198,14 @@ module _ (own : ℕ → List Ends) (Q : List Ends) (m : ℕ) (e : Ends) (k n s u
       kept : compareEnds e d ≡ Ordering·lt → u ≡ prev → Past f prev (node i d c b x) → Links g k l (node i d c b x)
       kept z q (none y) = row-kept e l (node i d c b x) p o (z, above-less e d x z (r .0)) (inl (q ∙ y))
       kept z q (some a y1 y2 y3) = row-kept a l (node i d c b x) p o y3 (inr (ap (f .from) q ∙ y1, ap (f .to) q ∙ y2))
+
       -- the slot passed: its link is that of the changed row
       link : Stopped own Q f e k n u i (f .next i) x → g .next i ≡ headLink e k (f .next i) x
       link (head q z) = sym (z ∙ sym (w .after (rw q (p .0 .some))) ∙ ap (g .next) q)
       link (inside a p1 p2 p3 p4 p5 p6 z) =
           let q : Agree f g i = added-beside i d (p .0 .live) (o .0) (λ y. lt-ne d a (p6 d (r .0)) (ends-path _ _ _ _ (sym (p .0 .from) ∙ ap (f .from) y ∙ p4) (sym (p .0 .to) ∙ ap (f .to) y ∙ p5))) in
           q .next ∙ sym z
+
       pass : Stopped own Q f e k n u i (f .next i) x → Cell g k l i d c × (g .kid i ≡ f .kid i)
       pass (head q z) =
           let y : 0 < u = rw q (p .0 .some) in
@@ -211,8 +218,10 @@ module _ (own : ℕ → List Ends) (Q : List Ends) (m : ℕ) (e : Ends) (k n s u
       pass (inside a p1 p2 p3 p4 p5 p6 z) =
           let q : Agree f g i = added-beside i d (p .0 .live) (o .0) (λ y. lt-ne d a (p6 d (r .0)) (ends-path _ _ _ _ (sym (p .0 .from) ∙ ap (f .from) y ∙ p4) (sym (p .0 .to) ∙ ap (f .to) y ∙ p5))) in
           (cell-same k more q (p .0), q .kid)
+
       under : Links g k (f .kid i) b
       under = frame own Q n k f g more added-off (Q ++ d ∷ []) (f .kid i) b (p .1) (o .1) (under-not d)
+
       go : (y : Ordering) → compareEnds e d ≡ y → (seekN e i x ≡ Gap u v → Past f i x → Links g k (headLink e k (f .next i) x) (reachN m e k x))
           → Links g k (headLink e k l (node i d c b x)) (reachN m e k (node i d c b x))
       go Ordering·lt z ih =

@@ -286,21 +286,21 @@ module _ (x : List ℕ) (a b s k u v m : ℕ) (sk : s < k) (uk : u < k) (us : 0 
       let nd = node2 in
       record {
         rest = λ l p q r.
-          let w = agree2 l p q in
-          record {
-            from = linked-else x2 s u k l 0 (omega arith) ∙ w .from;
-            to = linked-else x2 s u k l 1 (omega arith) ∙ w .to;
-            count = linked-else x2 s u k l 2 (omega arith) ∙ w .count;
-            kid = linked-kid x2 s u k l q ∙ w .kid;
-            next = linked-next x2 s u k l (λ h. r) ∙ w .next;
-          };
+            let w = agree2 l p q in
+            record {
+              from = linked-else x2 s u k l 0 (omega arith) ∙ w .from;
+              to = linked-else x2 s u k l 1 (omega arith) ∙ w .to;
+              count = linked-else x2 s u k l 2 (omega arith) ∙ w .count;
+              kid = linked-kid x2 s u k l q ∙ w .kid;
+              next = linked-next x2 s u k l (λ h. r) ∙ w .next;
+            };
         node =
-          record {
-            from = linked-else x2 s u k s 0 (omega arith) ∙ nd .from;
-            to = linked-else x2 s u k s 1 (omega arith) ∙ nd .to;
-            count = linked-else x2 s u k s 2 (omega arith) ∙ nd .count;
-            next = linked-next x2 s u k s (λ h z. us h (sym z)) ∙ nd .next;
-          };
+            record {
+              from = linked-else x2 s u k s 0 (omega arith) ∙ nd .from;
+              to = linked-else x2 s u k s 1 (omega arith) ∙ nd .to;
+              count = linked-else x2 s u k s 2 (omega arith) ∙ nd .count;
+              next = linked-next x2 s u k s (λ h z. us h (sym z)) ∙ nd .next;
+            };
         first = λ z. linked-kid-at x2 s u k z (slot2 s (omega arith));
         later = λ h. linked-kid-later x2 s u k s h ∙ kid2 s sne;
         after = λ h. linked-next-at x2 s u k h (slot2 u (omega arith));

@@ -76,9 +76,10 @@ links-row : (cap n l : ℕ) (x : List ℕ) (t : Nodes) → n ≤ cap → Wide ca
 unfolding Links Row
 links-row cap n l x nil h w v = v
 links-row cap n l x (node i e c b y) h w v =
-    let q = v .0 .live in
-    (record { is = v .0 .is; some = v .0 .some; slot = wide-slot w i (omega arith); from-is = v .0 .from; to-is = v .0 .to },
-    links-row cap n (cols x .next i) x y h w (v .2))
+    let q = v .0 .live in (
+      record { is = v .0 .is; some = v .0 .some; slot = wide-slot w i (omega arith); from-is = v .0 .from; to-is = v .0 .to },
+      links-row cap n (cols x .next i) x y h w (v .2),
+    )
 
 -- the slot before which a new child is to stand
 gap-live : (f : Fields) (e : Ends) (n u w prev l : ℕ) (t : Nodes) → seekN e prev t ≡ Gap u w → Links f n l t → w ≤ n
@@ -155,11 +156,11 @@ module _ (cap n s m : ℕ) (e : Ends) (x : List ℕ) where
       taken-full u w h k =
           record {
             is = λ t p g a.
-              record {
-                number = refl;
-                same = refl;
-                over = let z = size-take m e (suc n) 1 a (size-gap m e (suc n) u w 0 (kidsAt a) (place-is t p g a ∙ h)) in let y = g .full in let q = v .room in omega arith;
-              };
+                record {
+                  number = refl;
+                  same = refl;
+                  over = let z = size-take m e (suc n) 1 a (size-gap m e (suc n) u w 0 (kidsAt a) (place-is t p g a ∙ h)) in let y = g .full in let q = v .room in omega arith;
+                };
             counts = λ l. omega arith;
             beyond = λ i q. refl;
           }
@@ -169,11 +170,11 @@ module _ (cap n s m : ℕ) (e : Ends) (x : List ℕ) where
       taken-here j y h b q f =
           record {
             is = λ t p g a.
-              record {
-                good = good-bumped (cols x) (cols y) n m e s p g a j (place-is t p g a ∙ h) b;
-                at = sym (landed-here m e (suc n) j 0 (kidsAt a) (place-is t p g a ∙ h));
-                room = v .room;
-              };
+                record {
+                  good = good-bumped (cols x) (cols y) n m e s p g a j (place-is t p g a ∙ h) b;
+                  at = sym (landed-here m e (suc n) j 0 (kidsAt a) (place-is t p g a ∙ h));
+                  room = v .room;
+                };
             counts = q;
             beyond = f;
           }
@@ -184,11 +185,11 @@ module _ (cap n s m : ℕ) (e : Ends) (x : List ℕ) where
           rw add-one
           (record {
             is = λ t p g a.
-              record {
-                good = good-added (cols x) (cols y) n m e s p g a u w (place-is t p g a ∙ h) b;
-                at = sym (landed-gap m e (suc n) u w 0 (kidsAt a) (place-is t p g a ∙ h));
-                room = omega arith;
-              };
+                record {
+                  good = good-added (cols x) (cols y) n m e s p g a u w (place-is t p g a ∙ h) b;
+                  at = sym (landed-gap m e (suc n) u w 0 (kidsAt a) (place-is t p g a ∙ h));
+                  room = omega arith;
+                };
             counts = q;
             beyond = f;
           })
@@ -258,7 +259,7 @@ module _ (cap n s m : ℕ) (e : Ends) (x : List ℕ) where
                 let sk : s < n + 1 = omega arith in
                 let uk : u < n + 1 = omega arith in
                 let z : y ≡ linked (raised (placed x (n + 1) (e .from) (e .to) m w) s m) s u (n + 1)
-                    = e3 ∙ ap (λ (a : List ℕ). linked a s u (n + 1)) (e2 ∙ ap (λ (a : List ℕ). raised a s m) e1) in
+                = e3 ∙ ap (λ (a : List ℕ). linked a s u (n + 1)) (e2 ∙ ap (λ (a : List ℕ). raised a s m) e1) in
                 rw z
                 (taken-gap u w (linked (raised (placed x (n + 1) (e .from) (e .to) m w) s m) s u (n + 1)) h less
                 (rw (← add-one n) (added-of x (e .from) (e .to) s (n + 1) u w m sk uk (q .other) new-slot))

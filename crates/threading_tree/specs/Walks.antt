@@ -152,8 +152,8 @@ same-take e w t t' gs h r st z =
     let st' : Stand t (map rootPath (w .opened)) = stand-perm t (back (h .opened)) st in
     record {
       trees =
-        z ∙ sym (grow-spread e gs (erase t)) ∙ sym (grow-perm e (h .opened) t r st') ∙ ap (λ (b : Branches). growB (map rootPath (w .opened)) e b) (h .trees)
-        ∙ sym (forest-grow e (w .opened) t r st' (w .trees) (h .trees));
+          z ∙ sym (grow-spread e gs (erase t)) ∙ sym (grow-perm e (h .opened) t r st') ∙ ap (λ (b : Branches). growB (map rootPath (w .opened)) e b) (h .trees)
+          ∙ sym (forest-grow e (w .opened) t r st' (w .trees) (h .trees));
       opened = rw (opened-onward e (w .opened), spread-onward e gs) (perm-map (λ p. p ++ e ∷ []) (h .opened));
     }
   where

@@ -1,7 +1,8 @@
 ghost use mathlib.Core.Path.{_≡_};
 ghost use Prim.Native.Nat.{ℕ, _+_, _*_, _-_, _^_, _<_, _≤_};
 ghost use lib.ListN.{length};
-ghost use Rattle.laws.specs.Records.{field};
+ghost use mathlib.Core.List.{[], _∷_};
+ghost use Rattle.laws.specs.Records.{field, putFrom};
 ghost use Rattle.definition.specs.Threading.{compareEnds};
 ghost use Rattle.threading_tree.specs.Ends.{ends};
 ghost use Rattle.threading_tree.specs.Slots.{cols, Slot, raised, placed, linked};
@@ -10,6 +11,7 @@ ghost use Rattle.threading_tree.specs.Take.{Ready, Taken};
 ghost use Rattle.threading_tree.specs.Open.{Openable, OpenedAt};
 ghost use Rattle.threading_tree.specs.All.{Walking, TookAll};
 ghost use Rattle.threading_tree.specs.Join.{Sited, Joinable, JoinedTo};
+ghost use Rattle.threading_tree.specs.Write.{Writable, Written};
 
 // Where a child stands in the row of its siblings, or where it is to stand: after which slot (0: first) and before which (0: last).
 pub enum Place {
@@ -201,7 +203,15 @@ pub enum Grown {
 }
 
 // Every active tree of a walk takes the edge (a, b): the first `w` pairs of `active` are the slots where active trees stand, and how many stand there.
-pub fn add_edge_to_junction_tree_nodes(nodes: &mut [u32], active: &mut [u32], w: usize, n: usize, cap: usize, a: u32, b: u32) -> Grown
+pub fn add_edge_to_junction_tree_nodes(
+    nodes: &mut [u32],
+    active: &mut [u32],
+    w: usize,
+    n: usize,
+    cap: usize,
+    a: u32,
+    b: u32,
+) -> Grown
     requires { ⌜ Walking cap n w (ends a b) (now nodes) (now active) ⌝ }
     ensures { λ r. ⌜ TookAll cap n w (ends a b) (now (nodes .entry)) (now (nodes .exit)) (now (active .entry)) (now (active .exit)) r ⌝ }
 {
@@ -249,7 +259,15 @@ fn find_active(active: &[u32], w: usize, at: usize) -> usize
 }
 
 // The tree of v is opened in a walk with `w` pairs: its root joins them, or its pair gains one. `root` is the slot of its root, or 0.
-pub fn add_tree_if_necessary(nodes: &mut [u32], active: &mut [u32], w: usize, n: usize, cap: usize, v: u32, root: usize) -> Joined
+pub fn add_tree_if_necessary(
+    nodes: &mut [u32],
+    active: &mut [u32],
+    w: usize,
+    n: usize,
+    cap: usize,
+    v: u32,
+    root: usize,
+) -> Joined
     requires { ⌜ Joinable cap n v root w (now nodes) (now active) ⌝ }
     ensures { λ r. ⌜ JoinedTo cap n v root w (now (nodes .entry)) (now (nodes .exit)) (now (active .entry)) (now (active .exit)) r ⌝ }
 {
@@ -262,9 +280,61 @@ pub fn add_tree_if_necessary(nodes: &mut [u32], active: &mut [u32], w: usize, n:
     if i < w {
         let more = active_count(active, i) + 1;
         active[i * 2 + 1] = more;
-        return Joined::Holds(Held { nodes: st.nodes, groups: w, root: at });
+        return Joined::Holds(Held {
+            nodes: st.nodes,
+            groups: w,
+            root: at,
+        });
     }
     active[w * 2 + 0] = at as u32;
     active[w * 2 + 1] = 1;
-    Joined::Holds(Held { nodes: st.nodes, groups: w + 1, root: at })
+    Joined::Holds(Held {
+        nodes: st.nodes,
+        groups: w + 1,
+        root: at,
+    })
+}
+
+// ---- the rows of the nodes
+
+fn put_row(out: &mut [u32], row: usize, a: u32, b: u32, c: u32, d: u32)
+    requires { ⌜ row * 4 + 4 ≤ length (now out) ⌝ }
+    ensures { λ r. ⌜ now (out .exit) ≡ putFrom (now (out .entry)) 4 row 0 (a ∷ b ∷ c ∷ d ∷ []) ⌝ }
+{
+    out[row * 4 + 0] = a;
+    out[row * 4 + 1] = b;
+    out[row * 4 + 2] = c;
+    out[row * 4 + 3] = d;
+}
+
+// All nodes, depth first in edge order, a row each: edge, count, depth. `stack` holds, for each depth above, the sibling to go on with.
+pub fn write_nodes(nodes: &[u32], stack: &mut [u32], out: &mut [u32], n: usize, cap: usize)
+    requires { ⌜ Writable cap n (now nodes) (now stack) (now out) ⌝ }
+    ensures { λ r. ⌜ Written n (now (nodes .entry)) (now (stack .entry)) (now (stack .exit)) (now (out .entry)) (now (out .exit)) ⌝ }
+{
+    let mut link = first_child(nodes, 0);
+    let mut depth: usize = 0;
+    let mut row: usize = 0;
+    loop {
+        if link == 0 {
+            if depth == 0 {
+                return;
+            }
+            depth -= 1;
+            link = stack[depth] as usize;
+            continue;
+        }
+        put_row(
+            out,
+            row,
+            edge_from(nodes, link),
+            edge_to(nodes, link),
+            evidence_count(nodes, link),
+            depth as u32,
+        );
+        stack[depth] = next_sibling(nodes, link) as u32;
+        link = first_child(nodes, link);
+        depth += 1;
+        row += 1;
+    }
 }
