@@ -19,3 +19,4 @@ pub mod Back
 pub mod Held
 pub mod Front
 pub mod Write
+pub mod Read

@@ -72,7 +72,7 @@ pub record Taken (cap n s m : ℕ) (e : Ends) (x y : List ℕ) (r : Step) : Type
 
 -- ---- the row of the node's children
 
-links-row : (cap n l : ℕ) (x : List ℕ) (t : Nodes) → n ≤ cap → Wide cap x → Links (cols x) n l t → Row x l t
+pub links-row : (cap n l : ℕ) (x : List ℕ) (t : Nodes) → n ≤ cap → Wide cap x → Links (cols x) n l t → Row x l t
 unfolding Links Row
 links-row cap n l x nil h w v = v
 links-row cap n l x (node i e c b y) h w v =

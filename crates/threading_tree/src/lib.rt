@@ -12,6 +12,7 @@ ghost use Rattle.threading_tree.specs.Open.{Openable, OpenedAt};
 ghost use Rattle.threading_tree.specs.All.{Walking, TookAll};
 ghost use Rattle.threading_tree.specs.Join.{Sited, Joinable, JoinedTo};
 ghost use Rattle.threading_tree.specs.Write.{Writable, Written};
+ghost use Rattle.threading_tree.specs.Read.{Readable, ChildSlot, Summed};
 
 // Where a child stands in the row of its siblings, or where it is to stand: after which slot (0: first) and before which (0: last).
 pub enum Place {
@@ -337,4 +338,32 @@ pub fn write_nodes(nodes: &[u32], stack: &mut [u32], out: &mut [u32], n: usize, 
         depth += 1;
         row += 1;
     }
+}
+
+// ---- reading the trees in the search
+
+// The slot of the child for the edge (a, b) in the row of siblings that begins at `link`, or 0.
+pub fn child_slot(nodes: &[u32], n: usize, cap: usize, link: usize, a: u32, b: u32) -> usize
+    requires { ⌜ Readable cap n (now nodes) link ⌝ }
+    ensures { λ r. ⌜ ChildSlot n (now (nodes .entry)) link (ends a b) r ⌝ }
+{
+    let place = find_child(nodes, link, a, b);
+    match place {
+        Place::Here(j) => j,
+        Place::Gap(u, v) => 0,
+    }
+}
+
+// The counts of the row of siblings that begins at `link`, added.
+pub fn total_out_for_branch(nodes: &[u32], n: usize, cap: usize, link: usize) -> usize
+    requires { ⌜ Readable cap n (now nodes) link ⌝ }
+    ensures { λ r. ⌜ Summed n (now (nodes .entry)) link r ⌝ }
+{
+    let mut total: usize = 0;
+    let mut at = link;
+    while at != 0 {
+        total += evidence_count(nodes, at) as usize;
+        at = next_sibling(nodes, at);
+    }
+    total
 }
