@@ -20,3 +20,4 @@ pub mod Held
 pub mod Front
 pub mod Write
 pub mod Read
+pub mod Grows
