@@ -129,6 +129,7 @@ take-many e w = map-many (w .opened)
   where
     step : Opened → Opened
     step o = record { vertex = o .vertex; path = o .path ++ e ∷ [] }
+
     map-many : (os : List Opened) → length (map step os) ≡ length os
     map-many [] = refl
     map-many (o ∷ os) = ap suc (map-many os)

@@ -60,15 +60,31 @@ read-here f n e j prev l (node i d c b x) v r h = go (compareEnds e d) refl (λ 
     there z y =
         let q : eqEnds e d ≡ true = rw z (eqEnds-self d) in
         record {
-          row = b; links = rw y at (v .1); rising = r .1; few = omega arith; some = rw y at (v .0 .some); live = rw y at (v .0 .live); is = rw (q, child); offers = rw (q, offersEdge);
+          row = b;
+          links = rw y at (v .1);
+          rising = r .1;
+          few = omega arith;
+          some = rw y at (v .0 .some);
+          live = rw y at (v .0 .live);
+          is = rw (q, child);
+          offers = rw (q, offersEdge);
         }
+
     on : compareEnds e d ≡ Ordering·gt → Below f n e x j → Below f n e (node i d c b x) j
     on z y =
         let q : eqEnds e d ≡ false = eqEnds-ne e d (λ w. lt-ne d e (gt-lt e d z) (sym w)) in
         let fw = y .few in
         record {
-          row = y .row; links = y .links; rising = y .rising; few = omega arith; some = y .some; live = y .live; is = rw (q, child) (y .is); offers = rw (q, offersEdge) (y .offers);
+          row = y .row;
+          links = y .links;
+          rising = y .rising;
+          few = omega arith;
+          some = y .some;
+          live = y .live;
+          is = rw (q, child) (y .is);
+          offers = rw (q, offersEdge) (y .offers);
         }
+
     go : (o : Ordering) → compareEnds e d ≡ o → (seekN e i x ≡ Here j → Below f n e x j) → Below f n e (node i d c b x) j
     go Ordering·lt z ih = absurd (gap-here (sym (seekN-lt e prev i d c b x z) ∙ h))
     go Ordering·eq z ih = there (eq-same e d z) (here-same (sym (seekN-eq e prev i d c b x z) ∙ h))
@@ -172,13 +188,13 @@ module _ (w : Walk) (cap n g b : ℕ) (root : ℕ → ℕ) (x op : List ℕ) (h 
         is = at-tree v a (w .trees) (h .same .trees);
         live = slot-live (cols x) (cols x) n 0 (ends v v) (root v) (h .good) a;
         leads =
-          record {
-            row = kidsAt a;
-            links = row-of (cols x) (cols x) n 0 (ends v v) (root v) (h .good) a;
-            rising = row-rising (cols x) (cols x) n 0 (ends v v) (root v) (h .good) a;
-            few = omega arith;
-            is = refl;
-          };
+            record {
+              row = kidsAt a;
+              links = row-of (cols x) (cols x) n 0 (ends v v) (root v) (h .good) a;
+              rising = row-rising (cols x) (cols x) n 0 (ends v v) (root v) (h .good) a;
+              few = omega arith;
+              is = refl;
+            };
       }
 
   pub held-no-tree : root v ≡ 0 → treeAt (w .trees) v ≡ none
@@ -210,6 +226,7 @@ module _ (n : ℕ) (x : List ℕ) (l : ℕ) (b : Branches) (h : Leads n x l b) w
     where
       same-branch : (f g : Ends) (c d : ℕ) (y r : Branches) → f ≡ g → c ≡ d → branch f c y r ≡ branch g d y r
       same-branch f g c d y r p q = cc
+
       go : (t : Nodes) → Links (cols x) n l t → Rising t → size t ≤ n → erase t ≡ b → BranchAt n x l b
       go nil k r s e = absurd (ne k)
       go (node i f c y t) k r s e =
@@ -231,6 +248,7 @@ module _ (n : ℕ) (x : List ℕ) (l : ℕ) (b : Branches) (h : Leads n x l b) w
     where
       has : BranchAt n x l b → hasBranch b ≡ true
       has w = rw (w .is)
+
       go : (k : ℕ) → l ≡ k → hasBranch b ≡ not (eqb l 0)
       go zero z = rw (z, leads-none z)
       go (suc k) z = let ne : l ≡ 0 → ⊥ = λ y. omega arith in has (leads-branch ne) ∙ rw (ne-eqb l 0 ne)
@@ -304,8 +322,8 @@ links-one x n l (node i f c b y) nil p q = let h = p .0 .some in let k = p .0 .i
 links-one x n l (node i f c b y) (node i' f' c' b' y') p q =
     let ii : i ≡ i' = sym (p .0 .is) ∙ q .0 .is in
     let ff : f ≡ f' =
-        ends-path (f .from) (f .to) (f' .from) (f' .to) (sym (p .0 .from) ∙ ap (λ (j : ℕ). cols x .from j) ii ∙ q .0 .from)
-        (sym (p .0 .to) ∙ ap (λ (j : ℕ). cols x .to j) ii ∙ q .0 .to) in
+    ends-path (f .from) (f .to) (f' .from) (f' .to) (sym (p .0 .from) ∙ ap (λ (j : ℕ). cols x .from j) ii ∙ q .0 .from)
+    (sym (p .0 .to) ∙ ap (λ (j : ℕ). cols x .to j) ii ∙ q .0 .to) in
     let cc' : c ≡ c' = sym (p .0 .count) ∙ ap (λ (j : ℕ). cols x .count j) ii ∙ q .0 .count in
     let bb = links-one x n (cols x .kid i) b b' (p .1) (rw ii (q .1)) in
     let yy = links-one x n (cols x .next i) y y' (p .2) (rw ii (q .2)) in
@@ -322,6 +340,7 @@ leads-later n x l b h ne pos = go (h .row) (h .links) (h .rising)
   where
     edge : (j : ℕ) (f : Ends) → cols x .from j ≡ f .from → cols x .to j ≡ f .to → f ≡ ends (cols x .from j) (cols x .to j)
     edge j f p q = sym (ends-path (cols x .from j) (cols x .to j) (f .from) (f .to) p q)
+
     next : (i : ℕ) (f : Ends) (t : Nodes) → l ≡ i → f ≡ ends (cols x .from l) (cols x .to l) → Links (cols x) n (cols x .next i) t → Above f t
         → Less (ends (cols x .from l) (cols x .to l)) (ends (cols x .from (cols x .next l)) (cols x .to (cols x .next l)))
     next i f nil z e k a = let q : cols x .next l ≡ 0 = rw z k in absurd (omega arith)
@@ -329,6 +348,7 @@ leads-later n x l b h ne pos = go (h .row) (h .links) (h .rising)
         let is : cols x .next l ≡ j = rw z (k .0 .is) in
         let d : g ≡ ends (cols x .from (cols x .next l)) (cols x .to (cols x .next l)) = edge (cols x .next l) g (rw is (k .0 .from)) (rw is (k .0 .to)) in
         subst (λ (u : Ends). Less u (ends (cols x .from (cols x .next l)) (cols x .to (cols x .next l)))) e (subst (λ (u : Ends). Less f u) d (lt-less f g (a .0)))
+
     go : (t : Nodes) → Links (cols x) n l t → Rising t → Less (ends (cols x .from l) (cols x .to l)) (ends (cols x .from (cols x .next l)) (cols x .to (cols x .next l)))
     go nil k r = absurd (ne k)
     go (node i f c b y) k r =
@@ -378,9 +398,9 @@ module _ (cap n : ℕ) (x : List ℕ) (l : ℕ) (p : Readable cap n x l) where
               rest = w .next;
               leads = w .rest;
               run = λ b h.
-                let q = k .run b h in
-                let r : sumOf (k .rest) ≡ cols x .count at + sumOf (w .next) = ap sumOf (w .is) in
-                omega arith;
+                  let q = k .run b h in
+                  let r : sumOf (k .rest) ≡ cols x .count at + sumOf (w .next) = ap sumOf (w .is) in
+                  omega arith;
             })
 
         module _ (u32 : (i : ℕ) → getD x i 0 < 2 ^ 32) where

@@ -93,6 +93,9 @@ gap-live f e n u w prev l (node i d c b x) h v = go (compareEnds e d) refl (λ z
     go Ordering·gt z ih = ih (sym (seekN-gt e prev i d c b x z) ∙ h)
 
 module _ (cap n s m : ℕ) (e : Ends) (x : List ℕ) where
+  pub number-fits : Ready cap n s m e x → n + 1 < 2 ^ 64
+  number-fits v = let a = v .room in let b = v .wide .few in omega arith
+
   pub slot-in : Ready cap n s m e x → s ≤ n
   slot-in v = slot-live (cols x) (cols x) n m e s (v .good) (v .at)
 
@@ -152,7 +155,7 @@ module _ (cap n s m : ℕ) (e : Ends) (x : List ℕ) where
               record { live = p2; other = λ y i. long-not (v .path) d [] (sym p3 ∙ ap (v .good .own) i ∙ mine (cols x) (cols x) n m e s (v .good) (v .at)); next = after }
 
       -- refused: one node too many, nothing changed
-      pub taken-full : (u w : ℕ) → r ≡ Gap u w → cap ≤ n → Taken cap n s m e x x (Refused 9)
+      pub taken-full : (u w : ℕ) → r ≡ Gap u w → cap < n + 1 → Taken cap n s m e x x (Refused 9)
       taken-full u w h k =
           record {
             is = λ t p g a.
@@ -220,7 +223,7 @@ module _ (cap n s m : ℕ) (e : Ends) (x : List ℕ) where
             (bumped-under x s j m (q .other) (node-slot v) (slot-of v j li)) (bumped-beyond x s j m (q .other) (node-slot v) (slot-of v j li) cap (omega arith) (omega arith)))
 
       -- the child is new
-      module _ (u w : ℕ) (h : r ≡ Gap u w) (less : n < cap) where
+      module _ (u w : ℕ) (h : r ≡ Gap u w) (less : n + 1 ≤ cap) where
         pub new-slot : Slot (n + 1) x
         new-slot = wide-slot (v .wide) (n + 1) (omega arith)
 
@@ -261,7 +264,7 @@ module _ (cap n s m : ℕ) (e : Ends) (x : List ℕ) where
                 let z : y ≡ linked (raised (placed x (n + 1) (e .from) (e .to) m w) s m) s u (n + 1)
                 = e3 ∙ ap (λ (a : List ℕ). linked a s u (n + 1)) (e2 ∙ ap (λ (a : List ℕ). raised a s m) e1) in
                 rw z
-                (taken-gap u w (linked (raised (placed x (n + 1) (e .from) (e .to) m w) s m) s u (n + 1)) h less
+                (taken-gap u w (linked (raised (placed x (n + 1) (e .from) (e .to) m w) s m) s u (n + 1)) h (omega arith)
                 (rw (← add-one n) (added-of x (e .from) (e .to) s (n + 1) u w m sk uk (q .other) new-slot))
                 (added-under x (e .from) (e .to) s (n + 1) u w m sk uk (q .other) new-slot)
                 (added-beyond x (e .from) (e .to) s (n + 1) u w m sk uk (q .other) new-slot cap (omega arith)))

@@ -158,10 +158,10 @@ pub fn add_edge(nodes: &mut [u32], n: usize, cap: usize, s: usize, a: u32, b: u3
             Step::Next(Stand { nodes: n, at: j })
         }
         Place::Gap(u, v) => {
-            if n >= cap {
+            let k = n + 1;
+            if k > cap {
                 return Step::Refused(9);
             }
-            let k = n + 1;
             put_node(nodes, k, a, b, m, v);
             increment_count(nodes, s, m);
             link_node(nodes, s, u, k);
