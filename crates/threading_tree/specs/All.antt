@@ -18,7 +18,7 @@ use Rattle.threading_tree.specs.Good.{Good, at-live}
 use Rattle.threading_tree.specs.Forest.{takeTimes, erase-times}
 use Rattle.threading_tree.specs.Walks.{Group, onward, spread, growM, Stand}
 use Rattle.threading_tree.specs.Take.{Wide, wide-kept, Packable, Ready, Went, Full, After, Taken}
-use Rattle.threading_tree.specs.Slots.{cols, Beyond}
+use Rattle.threading_tree.specs.Slots.{cols, told, Beyond}
 use Rattle.threading_tree.specs.declared.Stand as SD
 use Rattle.threading_tree.specs.declared.Step.{Step}
 use Rattle.threading_tree.specs.declared.Step.the-variants.{Next, Refused}
@@ -156,7 +156,7 @@ Ends-in cap e x y op t gs (Stopped k) = Over cap e t gs k
 
 pub record TookAll (cap n w : ℕ) (e : Ends) (x y op op' : List ℕ) (r : Grown) : Type 0 where
   pub is : (t : Nodes) (gs : List Group) → Good (cols x) n t → Standing t op 0 gs → length gs ≡ w → Ends-in cap e x y op' t gs r
-  pub beyond : Beyond ((cap + 1) * 5) x y
+  pub beyond : Beyond (told cap) x y
   pub beyond-open : Beyond (w * 2) op op'
 
 -- where the loop stands, for one tree and its groups at the start
@@ -268,7 +268,7 @@ module _ (cap w : ℕ) (e : Ends) (x y op : List ℕ) (n i : ℕ) (t : Nodes) (g
 pub record Track (cap n₀ w : ℕ) (e : Ends) (x y op₀ op : List ℕ) (n i : ℕ) : Type 0 where
   pub all : (t : Nodes) (gs : List Group) → Good (cols x) n₀ t → Standing t op₀ 0 gs → length gs ≡ w → State cap w e x y op n i t gs
   pub room : n ≤ cap
-  pub beyond : Beyond ((cap + 1) * 5) x y
+  pub beyond : Beyond (told cap) x y
   pub beyond-open : Beyond (w * 2) op₀ op
   pub nodes : length y ≡ length x
   pub opened : length op ≡ length op₀

@@ -12,7 +12,7 @@ use Rattle.definition.specs.Threading.{Ends, compareEnds}
 use Rattle.threading_tree.specs.Ends.{ends, Less, lt-less, less-lt, less-gt, same-eq, eq-same, ends-path, lt-ne, gt-lt, compare-named}
 use Rattle.threading_tree.specs.Nodes.{Nodes, nil, node, seekN, Above, Rising, Fields, Cell, Links}
 use Rattle.threading_tree.specs.Rows.{seekN-lt, seekN-eq, seekN-gt}
-use Rattle.threading_tree.specs.Slots.{cols, Slot}
+use Rattle.threading_tree.specs.Slots.{cols, Slot, every-from, every-to}
 use Rattle.threading_tree.specs.declared.Place.{Place}
 use Rattle.threading_tree.specs.declared.Place.the-variants.{Here, Gap}
 
@@ -208,5 +208,5 @@ module _ (ns : List ℕ) (start a b prev at c d o : ℕ) (v : Seeking ns start (
     pub gets-less : (W : ℕ) → ((i : ℕ) → getD ns i 0 < W) → left W ns nx < left W ns at
     gets-less W h =
         rw hn
-        (left-falls W ns at (cols ns .next at) ne (h (at * 5 + 1)) (h (cols ns .next at * 5 + 0)) (h (cols ns .next at * 5 + 1))
+        (left-falls W ns at (cols ns .next at) ne (every-to ns (λ n. n < W) h at) (every-from ns (λ n. n < W) h (cols ns .next at)) (every-to ns (λ n. n < W) h (cols ns .next at))
         (seeking-met ns start (ends a b) prev at v ne .later))

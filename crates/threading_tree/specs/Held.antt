@@ -10,7 +10,7 @@ use Rattle.definition.specs.Evidence.{Branches, bare, branch, Tree, Opened, Wal
 use Rattle.threading_tree.specs.Ends.{ends}
 use Rattle.threading_tree.specs.Nodes.{Nodes, nil, node, erase, size, reachN, takeN, At, here, Rising, Links, Own, at-take, rising-take, takeN-here}
 use Rattle.threading_tree.specs.Good.{Good}
-use Rattle.threading_tree.specs.Slots.{cols, Beyond}
+use Rattle.threading_tree.specs.Slots.{cols, told, Beyond, zero-kid, zero-count}
 use Rattle.threading_tree.specs.Forest.{forest, rootPath}
 use Rattle.threading_tree.specs.Walks.{Group, onward, spread, Perm, same, skip, swap, both, Same, same-opened}
 use Rattle.threading_tree.specs.All.{growN, total, Standing, Walking, TookAll, Grew, Over}
@@ -81,14 +81,14 @@ held-room h = let a = held-nodes h in let b = h .room in omega arith
 
 -- ---- the start: a zeroed table, no trees, no open trees
 
-pub held-start : (cap : ℕ) (root : ℕ → ℕ) (x op : List ℕ) → Wide cap x → cap * 2 ≤ length op → ((i : ℕ) → i < (cap + 1) * 5 → getD x i 0 ≡ 0) → ((v : ℕ) → root v ≡ 0)
+pub held-start : (cap : ℕ) (root : ℕ → ℕ) (x op : List ℕ) → Wide cap x → cap * 2 ≤ length op → ((i : ℕ) → i < told cap → getD x i 0 ≡ 0) → ((v : ℕ) → root v ≡ 0)
     → HeldWalk (record { trees = []; opened = [] }) cap 0 0 0 root x op
 unfolding Links Own Rising size Standing Apart forest erase spread
 held-start cap root x op wd po z r =
     record {
       tree = nil;
       groups = [];
-      good = record { links = z 3 (omega arith); own = λ l. []; top = refl; owned = tt; rising = tt; full = refl };
+      good = record { links = zero-kid x cap z; own = λ l. []; top = refl; owned = tt; rising = tt; full = refl };
       rooted = λ v h. absurd (h (r v));
       unrooted = λ v h s a. elim a [ ];
       standing = tt;
@@ -98,7 +98,7 @@ held-start cap root x op wd po z r =
       room = omega arith;
       wide = wd;
       in-open = po;
-      under = λ l h. let q = z (l * 5 + 2) (omega arith) in omega arith;
+      under = λ l h. let q = zero-count x cap z l h in omega arith;
     }
 
 -- a new walk over the same trees; the list of open trees may be any list that is long enough

@@ -13,7 +13,7 @@ use Rattle.definition.specs.Evidence.{Walk, takeEdge, openTree}
 use Rattle.threading_tree.specs.Ends.{ends}
 use Rattle.threading_tree.specs.Nodes.{Fields, Nodes, nil, node, size, reachN, takeN, landed, At, here, kidsAt, Rising, at-take, at-new, takeN-here}
 use Rattle.threading_tree.specs.Good.{Good}
-use Rattle.threading_tree.specs.Slots.{cols, Slot, Beyond}
+use Rattle.threading_tree.specs.Slots.{cols, told, Slot, Beyond}
 use Rattle.threading_tree.specs.Walks.{Group, raise, HasAt, first, after, Same, same-raised, same-opened}
 use Rattle.threading_tree.specs.All.{Standing1, Standing, total, new-live}
 use Rattle.threading_tree.specs.Apart.{at-one, path-one, Differs, Apart, apart-new, apart-raise, groups-few, groups-fewer}
@@ -69,7 +69,7 @@ Join cap n v x y op op' t gs (Turned k) = Turns cap n v x y op op' t k
 pub record JoinedTo (cap n v root w : ℕ) (x y op op' : List ℕ) (r : Joined) : Type 0 where
   pub is : (t : Nodes) (gs : List Group) → Good (cols x) n t → RootAt root v t → Standing t op 0 gs → length gs ≡ w → Apart gs → Join cap n v x y op op' t gs r
   pub counts : (l : ℕ) → cols y .count l ≤ cols x .count l + 1
-  pub beyond : Beyond ((cap + 1) * 5) x y
+  pub beyond : Beyond (told cap) x y
   pub beyond-open : Beyond (cap * 2) op op'
 
 -- ---- the groups after the opening

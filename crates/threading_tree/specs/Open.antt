@@ -8,7 +8,7 @@ use Rattle.threading_tree.specs.Ends.{ends, eq-self, eq-same, eqEnds-sel
 use Rattle.threading_tree.specs.Nodes.{Nodes, nil, node, takeN, seekN, landed, At, here, down, along, kidsAt, Above, Rising, at-above, at-take, at-new}
 use Rattle.threading_tree.specs.Rows.{seekN-lt, seekN-eq, seekN-gt, Found, seek-here}
 use Rattle.threading_tree.specs.Good.{Good, good-bumped, child-found, landed-here}
-use Rattle.threading_tree.specs.Slots.{cols, Slot, Beyond, raised, raised-beyond, bumped-root, root-under}
+use Rattle.threading_tree.specs.Slots.{cols, told, Slot, Beyond, raised, raised-beyond, bumped-root, root-under}
 use Rattle.threading_tree.specs.Take.{Wide, wide-slot, Spare, Ready, Went, Full, After, Taken}
 use Rattle.threading_tree.specs.declared.Place.{Place}
 use Rattle.threading_tree.specs.declared.Place.the-variants.{Here, Gap}
@@ -36,7 +36,7 @@ Opens cap n v x y t (Refused k) = Full cap n 1 (ends v v) x y t [] k
 pub record OpenedAt (cap n v root : ℕ) (x y : List ℕ) (r : Step) : Type 0 where
   pub is : (t : Nodes) → Good (cols x) n t → RootAt root v t → Opens cap n v x y t r
   pub counts : (l : ℕ) → cols y .count l ≤ cols x .count l + 1
-  pub beyond : Beyond ((cap + 1) * 5) x y
+  pub beyond : Beyond (told cap) x y
 
 pub at-seek : (e : Ends) (prev : ℕ) {t : Nodes} {q r : ℕ} → At t q (e ∷ []) r → Rising t → seekN e prev t ≡ Here r
 unfolding Rising

@@ -16,7 +16,7 @@ use Rattle.threading_tree.specs.Ends.{ends, ends-path, gt-lt, lt-ne, eq-
 use Rattle.threading_tree.specs.Nodes.{Nodes, nil, node, erase, size, seekN, At, here, down, along, kidsAt, Above, Rising, Fields, Cell, Links, above-less}
 use Rattle.threading_tree.specs.Rows.{seekN-lt, seekN-eq, seekN-gt, gap-here, here-same}
 use Rattle.threading_tree.specs.Good.{Good, row-of, row-rising, slot-live}
-use Rattle.threading_tree.specs.Slots.{cols, Slot}
+use Rattle.threading_tree.specs.Slots.{cols, Slot, every-from, every-to, every-count}
 use Rattle.threading_tree.specs.Cells.{Rowed, Sought, left, left-falls}
 use Rattle.threading_tree.specs.Take.{Wide, wide-slot, links-row}
 use Rattle.threading_tree.specs.Forest.{forest}
@@ -360,7 +360,7 @@ unfolding Links size erase sumOf
 sum-most x n l nil h k = omega arith
 sum-most x n l (node i f c b y) h k =
     let q = sum-most x n (cols x .next i) y h (k .2) in
-    let r = h (i * 5 + 2) in
+    let r = every-count x (λ j. j < 2 ^ 32) h i in
     let s = k .0 .count in
     omega arith
 
@@ -420,7 +420,7 @@ module _ (cap n : ℕ) (x : List ℕ) (l : ℕ) (p : Readable cap n x l) where
           pub summing-falls : left (2 ^ 32) x nx < left (2 ^ 32) x at
           summing-falls =
               rw hn
-              (left-falls (2 ^ 32) x at (cols x .next at) ne (u32 (at * 5 + 1)) (u32 (cols x .next at * 5 + 0)) (u32 (cols x .next at * 5 + 1))
+              (left-falls (2 ^ 32) x at (cols x .next at) ne (every-to x (λ i. i < 2 ^ 32) u32 at) (every-from x (λ i. i < 2 ^ 32) u32 (cols x .next at)) (every-to x (λ i. i < 2 ^ 32) u32 (cols x .next at))
               (leads-later n x at (k .rest) (k .leads) ne))
 
 -- a link of the held trees may be read

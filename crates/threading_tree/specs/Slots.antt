@@ -5,8 +5,8 @@ use Prim.Native.Nat.{ℕ, zero, suc, _+_, _*_, _-_, _^_, _<_, _≤_}
 use mathlib.Core.List.{List, [], _∷_}
 use native.Mathlib.Omega.{arith}
 use native.Mathlib.Decide.{ℕ-discrete}
-use lib.ListN.{length, getD, set, length-set}
-use lib.Seq.{getD-set-same, getD-set-other}
+use lib.ListN.{length, getD, set, drop, length-set, length-drop}
+use lib.Seq.{getD-set-same, getD-set-other, getD-drop, ext-getD}
 use Rattle.laws.specs.Records.{field, putField, putFrom, field-same, field-other, row-other, length-putFrom, putFrom-row, putFrom-at}
 use Rattle.definition.specs.Threading.{Ends}
 use Rattle.threading_tree.specs.Ends.{ends}
@@ -22,14 +22,42 @@ cols x =
 abbrev pub Slot : ℕ → List ℕ → Type 0
 Slot l x = l * 5 + 5 ≤ length x
 
+-- the numbers of a table of at most cap nodes: slot 0 is no node's
+abbrev pub told : ℕ → ℕ
+told cap = (cap + 1) * 5
+
+-- what holds of every number of the table holds of every field
+module _ (x : List ℕ) (P : ℕ → Type 0) (h : (i : ℕ) → P (getD x i 0)) where
+  pub every-from : (l : ℕ) → P (cols x .from l)
+  every-from l = h (l * 5 + 0)
+
+  pub every-to : (l : ℕ) → P (cols x .to l)
+  every-to l = h (l * 5 + 1)
+
+  pub every-count : (l : ℕ) → P (cols x .count l)
+  every-count l = h (l * 5 + 2)
+
+-- a zeroed table has no child of slot 0, and no count
+module _ (x : List ℕ) (cap : ℕ) (h : (i : ℕ) → i < told cap → getD x i 0 ≡ 0) where
+  pub zero-kid : cols x .kid 0 ≡ 0
+  zero-kid = h 3 (omega arith)
+
+  pub zero-count : (l : ℕ) → l ≤ cap → cols x .count l ≡ 0
+  zero-count l q = h (l * 5 + 2) (omega arith)
+
 -- what of a table beyond the first k numbers is as it was
 abbrev pub Beyond : ℕ → List ℕ → List ℕ → Type 0
 Beyond k x y = (i : ℕ) → k ≤ i → getD y i 0 ≡ getD x i 0
 
+pub beyond-drop : (k : ℕ) (x y : List ℕ) → length y ≡ length x → Beyond k x y → drop k y ≡ drop k x
+beyond-drop k x y e h =
+    ext-getD 0 (drop k y) (drop k x) (length-drop k y ∙ ap (λ (n : ℕ). n - k) e ∙ sym (length-drop k x))
+    (λ i q. getD-drop k y i 0 ∙ h (k + i) (omega arith) ∙ sym (getD-drop k x i 0))
+
 pub agree-trans : {f g h : Fields} {l : ℕ} → Agree f g l → Agree g h l → Agree f h l
 agree-trans a b = record { from = b .from ∙ a .from; to = b .to ∙ a .to; count = b .count ∙ a .count; kid = b .kid ∙ a .kid; next = b .next ∙ a .next }
 
-beyond-put : (x : List ℕ) (cap s j v : ℕ) → s ≤ cap → j < 5 → Beyond ((cap + 1) * 5) x (putField x 5 s j v)
+beyond-put : (x : List ℕ) (cap s j v : ℕ) → s ≤ cap → j < 5 → Beyond (told cap) x (putField x 5 s j v)
 beyond-put x cap s j v h k i b = getD-set-other x (s * 5 + j) i v 0 (λ z. omega arith)
 
 -- ---- a count rises (Rust: increment_count)
@@ -46,7 +74,7 @@ module _ (x : List ℕ) (s m : ℕ) where
   unfolding raised
   raised-length = length-set x (s * 5 + 2) (field x 5 s 2 + m)
 
-  pub raised-beyond : (cap : ℕ) → s ≤ cap → Beyond ((cap + 1) * 5) x (raised x s m)
+  pub raised-beyond : (cap : ℕ) → s ≤ cap → Beyond (told cap) x (raised x s m)
   unfolding raised
   raised-beyond cap h = beyond-put x cap s 2 (field x 5 s 2 + m) h (omega arith)
 
@@ -113,7 +141,7 @@ module _ (x : List ℕ) (k a b m v : ℕ) where
         next = placed-row l 4 (omega arith) n;
       }
 
-  pub placed-beyond : (cap : ℕ) → k ≤ cap → Beyond ((cap + 1) * 5) x (placed x k a b m v)
+  pub placed-beyond : (cap : ℕ) → k ≤ cap → Beyond (told cap) x (placed x k a b m v)
   unfolding placed
   placed-beyond cap h i q =
       beyond-put (putFrom x 5 k 0 (a ∷ b ∷ m ∷ 0 ∷ [])) cap k 4 v h (omega arith) i q
@@ -144,7 +172,7 @@ module _ (x : List ℕ) (s : ℕ) where
   linked-length zero k = length-set x (s * 5 + 3) k
   linked-length (suc u) k = length-set x (suc u * 5 + 4) k
 
-  pub linked-beyond : (cap u k : ℕ) → s ≤ cap → u ≤ cap → Beyond ((cap + 1) * 5) x (linked x s u k)
+  pub linked-beyond : (cap u k : ℕ) → s ≤ cap → u ≤ cap → Beyond (told cap) x (linked x s u k)
   unfolding linked
   linked-beyond cap zero k h g = beyond-put x cap s 3 k h (omega arith)
   linked-beyond cap (suc u) k h g = beyond-put x cap (suc u) 4 k g (omega arith)
@@ -212,7 +240,7 @@ module _ (x : List ℕ) (s j m : ℕ) (ne : j ≡ s → ⊥) (hs : Slot s x) (hj
       go (no z) (yes w) = let p = raised-count (raised x s m) j m l z in let q = raised-at x s m hs in rw w (omega (arith, raised-count (raised x s m) j m s (λ y. ne (sym y))))
       go (no z) (no w) = let p = raised-count (raised x s m) j m l z in let q = raised-count x s m l w in omega arith
 
-  pub bumped-beyond : (cap : ℕ) → s ≤ cap → j ≤ cap → Beyond ((cap + 1) * 5) x both
+  pub bumped-beyond : (cap : ℕ) → s ≤ cap → j ≤ cap → Beyond (told cap) x both
   bumped-beyond cap h g i q = raised-beyond (raised x s m) j m cap g i q ∙ raised-beyond x s m cap h i q
 
 -- the same below slot 0, whose count no one reads
@@ -326,6 +354,6 @@ module _ (x : List ℕ) (a b s k u v m : ℕ) (sk : s < k) (uk : u < k) (us : 0 
       go (no z) (yes w) = let p : field x2 5 l 2 ≡ field x 5 l 2 + m = rw w (node2 .count) in let q = kept in omega arith
       go (no z) (no w) = let p : field x2 5 l 2 ≡ field x 5 l 2 = agree2 l z w .count in let q = kept in omega arith
 
-  pub added-beyond : (cap : ℕ) → k ≤ cap → Beyond ((cap + 1) * 5) x added
+  pub added-beyond : (cap : ℕ) → k ≤ cap → Beyond (told cap) x added
   added-beyond cap h i q =
       linked-beyond x2 s cap u k (omega arith) (omega arith) i q ∙ raised-beyond x1 s m cap (omega arith) i q ∙ placed-beyond x k a b m v cap h i q

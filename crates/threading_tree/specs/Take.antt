@@ -12,7 +12,7 @@ use Rattle.threading_tree.specs.Nodes.{Nodes, nil, node, size, reachN, t
 use Rattle.threading_tree.specs.Table.{long-not, Agree, Gained}
 use Rattle.threading_tree.specs.Rows.{Found, Bumped, Added, Stopped, head, inside, seek-gap, seekN-lt, seekN-eq, seekN-gt, gap-here, gap-before}
 use Rattle.threading_tree.specs.Good.{Good, row-of, row-owned, row-rising, slot-live, mine, child-found, good-bumped, good-added, landed-here, landed-gap, size-take, size-gap}
-use Rattle.threading_tree.specs.Slots.{cols, Slot, Beyond, raised, placed, linked, raised-length, raised-count, placed-length, placed-off, linked-length, bumped-of, bumped-under, bumped-beyond, added-of, added-under, added-beyond}
+use Rattle.threading_tree.specs.Slots.{cols, told, Slot, Beyond, raised, placed, linked, raised-length, raised-count, placed-length, placed-off, linked-length, bumped-of, bumped-under, bumped-beyond, added-of, added-under, added-beyond}
 use Rattle.threading_tree.specs.Cells.{Row, Rowed, Sought}
 use Rattle.threading_tree.specs.declared.Place.{Place}
 use Rattle.threading_tree.specs.declared.Place.the-variants.{Here, Gap}
@@ -22,7 +22,7 @@ use Rattle.threading_tree.specs.declared.Step.the-variants.{Next, Refuse
 
 -- room for slots up to cap, and a slot is a number of the table
 pub record Wide (cap : ℕ) (x : List ℕ) : Type 0 where
-  pub long : (cap + 1) * 5 ≤ length x
+  pub long : told cap ≤ length x
   pub few : cap < 2 ^ 32
 
 pub wide-slot : {cap : ℕ} {x : List ℕ} → Wide cap x → (l : ℕ) → l ≤ cap → Slot l x
@@ -68,7 +68,7 @@ After cap n m e x y t p j (Refused k) = Full cap n m e x y t p k
 pub record Taken (cap n s m : ℕ) (e : Ends) (x y : List ℕ) (r : Step) : Type 0 where
   pub is : (t : Nodes) (p : List Ends) → Good (cols x) n t → (a : At t 0 p s) → After cap n m e x y t p (landed e (suc n) (kidsAt a)) r
   pub counts : (l : ℕ) → cols y .count l ≤ cols x .count l + m
-  pub beyond : Beyond ((cap + 1) * 5) x y
+  pub beyond : Beyond (told cap) x y
 
 -- ---- the row of the node's children
 
@@ -168,7 +168,7 @@ module _ (cap n s m : ℕ) (e : Ends) (x : List ℕ) where
             beyond = λ i q. refl;
           }
 
-      taken-here : (j : ℕ) (y : List ℕ) → r ≡ Here j → Bumped (cols x) (cols y) m s j → ((l : ℕ) → cols y .count l ≤ cols x .count l + m) → Beyond ((cap + 1) * 5) x y
+      taken-here : (j : ℕ) (y : List ℕ) → r ≡ Here j → Bumped (cols x) (cols y) m s j → ((l : ℕ) → cols y .count l ≤ cols x .count l + m) → Beyond (told cap) x y
           → Taken cap n s m e x y (Next (record { nodes = n; at = j }))
       taken-here j y h b q f =
           record {
@@ -182,7 +182,7 @@ module _ (cap n s m : ℕ) (e : Ends) (x : List ℕ) where
             beyond = f;
           }
 
-      taken-gap : (u w : ℕ) (y : List ℕ) → r ≡ Gap u w → n < cap → Added (cols x) (cols y) m e s (suc n) u w → ((l : ℕ) → cols y .count l ≤ cols x .count l + m) → Beyond ((cap + 1) * 5) x y
+      taken-gap : (u w : ℕ) (y : List ℕ) → r ≡ Gap u w → n < cap → Added (cols x) (cols y) m e s (suc n) u w → ((l : ℕ) → cols y .count l ≤ cols x .count l + m) → Beyond (told cap) x y
           → Taken cap n s m e x y (Next (record { nodes = n + 1; at = n + 1 }))
       taken-gap u w y h k b q f =
           rw add-one
