@@ -170,7 +170,7 @@ at-grow e (g ∷ gs) t p s r a =
     at-grow e gs (takeN (g .mult) e (suc (size t)) t (g .path)) p s (rising-take (g .mult) e (suc (size t)) t (g .path) r) (at-take (g .mult) e (suc (size t)) (g .path) a r)
 
 module _ (w : Walk) (cap n g b : ℕ) (root : ℕ → ℕ) (x op : List ℕ) (h : HeldWalk w cap n g b root x op) (e : Ends) where
-  held-few : g ≤ cap
+  pub held-few : g ≤ cap
   held-few =
       let c = groups-few (cols x) n (h .tree) (h .good) op (h .groups) (h .apart) (h .standing) in
       let d = h .many in

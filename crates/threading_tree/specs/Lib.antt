@@ -21,3 +21,4 @@ pub mod Front
 pub mod Write
 pub mod Read
 pub mod Grows
+pub mod Pass

@@ -11,6 +11,7 @@ ghost use Rattle.threading_tree.specs.Take.{Ready, Taken};
 ghost use Rattle.threading_tree.specs.Open.{Openable, OpenedAt};
 ghost use Rattle.threading_tree.specs.All.{Walking, TookAll};
 ghost use Rattle.threading_tree.specs.Join.{Sited, Joinable, JoinedTo};
+ghost use Rattle.threading_tree.specs.Pass.{openWhere, takeUnless, Stepping, Steps, opening, taking, passing};
 ghost use Rattle.threading_tree.specs.Write.{Writable, Written};
 ghost use Rattle.threading_tree.specs.Read.{Readable, ChildSlot, Summed};
 
@@ -294,6 +295,74 @@ pub fn add_tree_if_necessary(
         groups: w + 1,
         root: at,
     })
+}
+
+// ---- one edge of a walk
+
+// The tree of v is opened, where the vertex warrants a tree.
+pub fn open_where(
+    nodes: &mut [u32],
+    active: &mut [u32],
+    held: Held,
+    cap: usize,
+    v: u32,
+    warrants: bool,
+) -> Joined
+    requires { ⌜ Stepping cap (ends v v) 1 held (now nodes) (now active) ⌝ }
+    ensures { λ r. ⌜ Steps (openWhere warrants v) opening cap v held (now (nodes .entry)) (now (nodes .exit)) (now (active .entry)) (now (active .exit)) r ⌝ }
+{
+    if warrants {
+        return add_tree_if_necessary(nodes, active, held.groups, held.nodes, cap, v, held.root);
+    }
+    Joined::Holds(held)
+}
+
+// Every active tree takes the edge (a, b), unless it is the only one that leaves its vertex.
+pub fn take_unless(
+    nodes: &mut [u32],
+    active: &mut [u32],
+    held: Held,
+    cap: usize,
+    a: u32,
+    b: u32,
+    only: bool,
+) -> Joined
+    requires { ⌜ Stepping cap (ends a b) 0 held (now nodes) (now active) ⌝ }
+    ensures { λ r. ⌜ Steps (takeUnless only (ends a b)) taking cap a held (now (nodes .entry)) (now (nodes .exit)) (now (active .entry)) (now (active .exit)) r ⌝ }
+{
+    if only {
+        return Joined::Holds(held);
+    }
+    let r = add_edge_to_junction_tree_nodes(nodes, active, held.groups, held.nodes, cap, a, b);
+    let Grown::Nodes(k) = r else {
+        return Joined::Refused(9);
+    };
+    Joined::Holds(Held {
+        nodes: k,
+        groups: held.groups,
+        root: held.root,
+    })
+}
+
+// The walk passes the edge (a, b): `held.root` is the slot of the root of a, or 0, before and after.
+pub fn pass_edge(
+    nodes: &mut [u32],
+    active: &mut [u32],
+    held: Held,
+    cap: usize,
+    a: u32,
+    b: u32,
+    warrants: bool,
+    only: bool,
+) -> Joined
+    requires { ⌜ Stepping cap (ends a b) 2 held (now nodes) (now active) ⌝ }
+    ensures { λ r. ⌜ Steps (λ w. takeUnless only (ends a b) (openWhere warrants a w)) passing cap a held (now (nodes .entry)) (now (nodes .exit)) (now (active .entry)) (now (active .exit)) r ⌝ }
+{
+    let r = open_where(nodes, active, held, cap, a, warrants);
+    let Joined::Holds(h) = r else {
+        return r;
+    };
+    take_unless(nodes, active, h, cap, a, b, only)
 }
 
 // ---- the rows of the nodes
