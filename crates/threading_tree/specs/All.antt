@@ -1,25 +1,23 @@
 -- Every group of a walk takes an edge: the loop over the groups.
 use mathlib.Core.Path.{_≡_, refl, sym, ap, _∙_}
-use mathlib.Core.Logic.{_⊎_, inl, inr, ⊎-elim}
-use Prim.Native.Nat.{ℕ, zero, suc, _+_, _-_, _*_, _^_, _<_, _≤_, compare, Ordering, Ordering·lt, Ordering·eq, Ordering·gt}
+use Prim.Native.Nat.{ℕ, zero, suc, _+_, _-_, _*_, _^_, _<_, _≤_, Ordering, Ordering·lt, Ordering·eq, Ordering·gt}
 use native.Mathlib.Numerals.{add-one}
-use native.Mathlib.Nat.{add-zero}
-use mathlib.Core.Bool.{Bool, true, false, cond}
+use mathlib.Core.Bool.{Bool, true, false}
 use mathlib.Core.List.{List, [], _∷_, _++_, map, append-assoc}
 use native.Mathlib.Omega.{arith}
-use lib.ListN.{length, getD, set, length-set, length-append, replicate}
+use lib.ListN.{length, length-set, length-append, replicate}
 use lib.Seq.{getD-set-other}
 use Rattle.laws.specs.Records.{field, putField, field-same, field-other, row-other}
 use Rattle.definition.specs.Threading.{Ends, compareEnds, eqEnds}
 use Rattle.threading_tree.specs.Ends.{ends}
-use Rattle.definition.specs.Evidence.{Branches, takeAt}
+use Rattle.definition.specs.Evidence.{Branches}
 use Rattle.threading_tree.specs.Nodes.{Fields, Nodes, nil, node, erase, size, reachN, takeN, landed, At, kidsAt, Rising, reachN-lt, reachN-eq, reachN-gt, takeN-down, takeN-along, at-take, at-new, rising-take}
 use Rattle.threading_tree.specs.Good.{Good, at-live}
-use Rattle.threading_tree.specs.Forest.{takeTimes, erase-times}
+use Rattle.threading_tree.specs.Forest.{erase-times}
 use Rattle.threading_tree.specs.Walks.{Group, onward, spread, growM, Stand}
-use Rattle.threading_tree.specs.Take.{Wide, wide-kept, Packable, Ready, Went, Full, After, Taken}
+use Rattle.threading_tree.specs.Take.{Wide, wide-kept, Packable, Ready, Went, Full, Taken}
 use Rattle.threading_tree.specs.Slots.{cols, told, Beyond}
-use Rattle.threading_tree.specs.declared.Stand as SD
+use Rattle.threading_tree.specs.declared.Reached as SD
 use Rattle.threading_tree.specs.declared.Step.{Step}
 use Rattle.threading_tree.specs.declared.Step.the-variants.{Next, Refused}
 use Rattle.threading_tree.specs.declared.Grown.{Grown}
@@ -201,7 +199,7 @@ module _ (cap w : ℕ) (e : Ends) (x y op : List ℕ) (n i : ℕ) (t : Nodes) (g
           record { tree = s .tree; group = g; rest = rs; done = s .done; good = s .good; run = a; now = b .0; ahead = b .1; behind = s .behind; split = c; passed = s .passed; left = omega arith; counts = f }
 
   -- the group has taken the edge
-  go-on : (y' : List ℕ) (st : SD.Stand) → i * 2 < length op → Turn cap w e x y op n i t gs → Taken cap n (field op 2 i 0) (field op 2 i 1) e y y' (Next st)
+  go-on : (y' : List ℕ) (st : SD.Reached) → i * 2 < length op → Turn cap w e x y op n i t gs → Taken cap n (field op 2 i 0) (field op 2 i 1) e y y' (Next st)
       → State cap w e x y' (putField op 2 i 0 (st .at)) (st .nodes) (suc i) t gs
   unfolding growN
   go-on y' st h u k =
@@ -317,7 +315,7 @@ module _ (cap n₀ w : ℕ) (e : Ends) (x op₀ : List ℕ) (p : Walking cap n�
         as-held : Taken cap n (field op 2 i 0) (field op 2 i 1) e y y' r
         as-held = rw (hs, hm) at q
 
-        module _ (st : SD.Stand) (z : r ≡ Next st) where
+        module _ (st : SD.Reached) (z : r ≡ Next st) where
           q' : Taken cap n (field op 2 i 0) (field op 2 i 1) e y y' (Next st)
           q' = rw z at as-held
 

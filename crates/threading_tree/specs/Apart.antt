@@ -1,22 +1,20 @@
 -- Distinct groups stand at distinct slots, so there are no more of them than nodes. And the walk as a whole: the groups take an edge as the definition's
 -- open trees do.
 use mathlib.Core.Path.{_≡_, refl, sym, ap, _∙_}
-use mathlib.Core.Logic.{_⊎_, inl, inr, ⊎-elim}
-use Prim.Native.Nat.{ℕ, zero, suc, _+_, _-_, _^_, _<_, _≤_}
-use native.Mathlib.Numerals.{add-one}
+use Prim.Native.Nat.{ℕ, zero, suc, _+_, _-_, _<_, _≤_}
 use native.Mathlib.Decide.{ℕ-discrete}
-use mathlib.Core.List.{List, [], _∷_, _++_, map, append-assoc}
+use mathlib.Core.List.{List, [], _∷_, _++_, map}
 use native.Mathlib.Omega.{arith}
-use lib.ListN.{length, getD, set, length-set, length-append}
-use Rattle.laws.specs.Records.{field, putField}
-use Rattle.definition.specs.Threading.{Ends, eqEnds}
-use Rattle.threading_tree.specs.Ends.{ends, eqEnds-false}
-use Rattle.definition.specs.Evidence.{Walk, takeEdge, openTree}
-use Rattle.threading_tree.specs.Nodes.{Nodes, nil, node, size, takeN, At, here, down, along, Rising, Fields, Links, Own, at-take}
+use lib.ListN.{length, length-append}
+use Rattle.laws.specs.Records.{field}
+use Rattle.definition.specs.Threading.{Ends}
+use Rattle.threading_tree.specs.Ends.{eqEnds-false}
+use Rattle.definition.specs.Evidence.{Walk, takeEdge}
+use Rattle.threading_tree.specs.Nodes.{Nodes, node, At, here, down, along, Rising, Fields}
 use Rattle.threading_tree.specs.Table.{snoc-front}
 use Rattle.threading_tree.specs.Good.{Good, own-at, at-live}
-use Rattle.threading_tree.specs.Walks.{Group, onward, raise, HasAt, first, after, Same, same-take, same-raised, same-opened}
-use Rattle.threading_tree.specs.All.{growN, Standing1, Standing, total, erase-grow, standing-stand}
+use Rattle.threading_tree.specs.Walks.{Group, onward, raise, Same, same-take}
+use Rattle.threading_tree.specs.All.{growN, Standing, erase-grow, standing-stand}
 
 -- ---- a walk takes an edge
 

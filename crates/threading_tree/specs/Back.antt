@@ -1,19 +1,14 @@
 -- No child of slot 0 comes from elsewhere: after a change below, or after another root is reached, the roots are those that were there.
-use mathlib.Core.Path.{_≡_, refl, sym, ap, _∙_}
+use mathlib.Core.Path.{_≡_, refl}
 use mathlib.Core.Logic.{_⊎_, inl, inr}
-use Prim.Native.Nat.{ℕ, zero, suc, _+_, Ordering, Ordering·lt, Ordering·eq, Ordering·gt}
-use mathlib.Core.Bool.{Bool, true, false, cond}
+use Prim.Native.Nat.{ℕ, suc, Ordering, Ordering·lt, Ordering·eq, Ordering·gt}
+use mathlib.Core.Bool.{Bool, true, false}
 use mathlib.Core.List.{List, [], _∷_}
-use native.Mathlib.Omega.{arith}
-use Rattle.laws.specs.Lists.{isEmpty}
 use Rattle.definition.specs.Threading.{Ends, compareEnds, eqEnds}
 use Rattle.threading_tree.specs.Nodes.{Nodes, nil, node, size, reachN, takeN, At, here, down, along, reachN-lt, reachN-eq, reachN-gt, takeN-down, takeN-along}
 use Rattle.threading_tree.specs.Walks.{Group}
 use Rattle.threading_tree.specs.All.{growN}
 use Rattle.threading_tree.specs.Apart.{Apart}
-
-at-nil : {q s : ℕ} {f : Ends} → At nil q (f ∷ []) s → ⊥
-at-nil a = elim a [ ]
 
 at-split : {i c q s : ℕ} {h f : Ends} {b x : Nodes} → At (node i h c b x) q (f ∷ []) s → ((f ≡ h) × (i ≡ s)) ⊎ ((eqEnds f h ≡ false) × At x q (f ∷ []) s)
 at-split (down here) = inl (refl, refl)

@@ -1,16 +1,14 @@
 -- The lent lists, as the table's columns; what each function asks and ensures.
 use mathlib.Core.Path.{_≡_, refl, sym, ap, _∙_}
-use mathlib.Core.Logic.{_⊎_, inl, inr, ⊎-elim}
-use Prim.Native.Nat.{ℕ, zero, suc, _+_, _-_, _*_, _^_, _<_, _≤_, compare, Ordering, Ordering·lt, Ordering·eq, Ordering·gt}
-use mathlib.Core.Bool.{Bool, true, false, cond}
-use mathlib.Core.List.{List, [], _∷_, _++_}
+use mathlib.Core.Logic.{inl, inr}
+use Prim.Native.Nat.{ℕ, zero, suc, _+_, _-_, _*_, _<_, _≤_, Ordering, Ordering·lt, Ordering·eq, Ordering·gt}
+use mathlib.Core.List.{List}
 use native.Mathlib.Omega.{arith}
 use native.Mathlib.Nat.{mul-le-mul-right, suc-mul}
-use lib.ListN.{length, getD, set}
-use lib.Dec.{eqb}
+use lib.ListN.{getD}
 use Rattle.definition.specs.Threading.{Ends, compareEnds}
-use Rattle.threading_tree.specs.Ends.{ends, Less, lt-less, less-lt, less-gt, same-eq, eq-same, ends-path, lt-ne, gt-lt, compare-named}
-use Rattle.threading_tree.specs.Nodes.{Nodes, nil, node, seekN, Above, Rising, Fields, Cell, Links}
+use Rattle.threading_tree.specs.Ends.{ends, Less, lt-less, less-lt, less-gt, same-eq, ends-path, compare-named}
+use Rattle.threading_tree.specs.Nodes.{Nodes, nil, node, seekN, Above, Rising}
 use Rattle.threading_tree.specs.Rows.{seekN-lt, seekN-eq, seekN-gt}
 use Rattle.threading_tree.specs.Slots.{cols, Slot, every-from, every-to}
 use Rattle.threading_tree.specs.declared.Place.{Place}

@@ -1,15 +1,15 @@
 -- Steps of the definition at paths that are there can be made in any order; so open trees may be counted instead of listed.
 use mathlib.Core.Path.{_≡_, refl, sym, ap, _∙_}
-use Prim.Native.Nat.{ℕ, zero, suc, _+_, _<_, _≤_, compare, Ordering, Ordering·lt, Ordering·eq, Ordering·gt}
-use mathlib.Core.Bool.{Bool, true, false, cond}
-use mathlib.Core.List.{List, [], _∷_, _++_, map}
+use Prim.Native.Nat.{ℕ, suc, compare, Ordering, Ordering·lt, Ordering·eq, Ordering·gt}
+use mathlib.Core.Bool.{true, false, cond}
+use mathlib.Core.List.{List, [], _∷_}
 use native.Mathlib.Omega.{arith}
 use Rattle.definition.specs.Threading.{Ends, compareEnds, eqEnds}
-use Rattle.threading_tree.specs.Ends.{ends, ends-path, compareEnds-same, lt-trans, gt-lt, lt-gt, lt-ne, eq-same, eq-self, eqEnds-true, eqEnds-self, eqEnds-false, eqEnds-ne, cmp-eq, cmp-lt, cmp-gt, eq-cmp}
+use Rattle.threading_tree.specs.Ends.{ends, compareEnds-same, lt-trans, lt-ne, eqEnds-self, eqEnds-ne, cmp-eq, cmp-lt, eq-cmp}
 use Rattle.laws.specs.Lists.{isEmpty}
-use Rattle.definition.specs.Evidence.{Branches, bare, branch, Tree, reach, takeAt, atTree, Opened, Walk, growth, growAll, takeEdge, openTree}
-use Rattle.threading_tree.specs.Nodes.{Nodes, nil, node, erase, takeN, At, here, down, along, Above, Rising, at-above, at-take, rising-take}
-use Rattle.threading_tree.specs.Forest.{forest, erase-take}
+use Rattle.definition.specs.Evidence.{Branches, bare, branch, Tree, reach, takeAt, atTree, growth}
+use Rattle.threading_tree.specs.Nodes.{Nodes, node, erase, At, here, down, along, Rising, at-above}
+use Rattle.threading_tree.specs.Forest.{forest}
 
 module _ (e f : Ends) (c : ℕ) (b x : Branches) where
   reach-lt : compareEnds e f ≡ Ordering·lt → reach e (branch f c b x) ≡ branch e 1 bare (branch f c b x)

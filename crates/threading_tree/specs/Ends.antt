@@ -1,14 +1,13 @@
 -- The names of edges and their order (as in the definition), with the laws of the order.
 use mathlib.Core.Path.{_≡_, refl, sym, ap, subst, _∙_}
-use mathlib.Core.Logic.{_⊎_, inl, inr, ⊎-elim}
-use Prim.Native.Nat.{ℕ, zero, suc, _+_, _<_, _≤_, compare, Ordering, Ordering·lt, Ordering·eq, Ordering·gt}
-use mathlib.Core.Bool.{Bool, true, false, not, _&&_, _||_, cond}
+use mathlib.Core.Logic.{_⊎_, inl, inr}
+use Prim.Native.Nat.{ℕ, _<_, compare, Ordering, Ordering·lt, Ordering·eq, Ordering·gt}
+use mathlib.Core.Bool.{Bool, true, false, _&&_}
 use native.Mathlib.Omega.{arith}
-use native.Mathlib.Decide.{decLt}
 use Rattle.definition.specs.Threading.{Ends, compareEnds, eqEnds}
 use Rattle.laws.specs.Numbers.{then}
-use lib.Dec.{leb, ltb, eqb, isLe, isEq}
-use borrow.Author.Tests.{leb-true, leb-false, eqb-true, eqb-false, lt-leb, eq-eqb, ne-eqb, le-leb}
+use lib.Dec.{eqb, isLe, isEq}
+use borrow.Author.Tests.{leb-true, leb-false, eqb-true, eqb-false, eq-eqb}
 
 abbrev pub ends : ℕ → ℕ → Ends
 ends a b = record { from = a; to = b }
@@ -17,9 +16,6 @@ pub ends-path : (a b c d : ℕ) → a ≡ c → b ≡ d → ends a b ≡ ends c 
 ends-path a b c d p q = cc
 
 -- ---- numbers
-
-never-lt-eq : Ordering·lt ≡ Ordering·eq → ⊥
-never-lt-eq p = let z : _≡_ {A = ℕ} 0 1 = cc in omega arith
 
 pub cmp-eq : (a b : ℕ) → compare a b ≡ Ordering·eq → a ≡ b
 cmp-eq a b e = eqb-true a b (ap isEq e)
@@ -111,9 +107,6 @@ lt-trans e f g p q = less-lt e g (less-trans e f g (lt-less e f p) (lt-less f g 
 
 pub gt-lt : (e f : Ends) → compareEnds e f ≡ Ordering·gt → compareEnds f e ≡ Ordering·lt
 gt-lt e f p = less-lt f e (gt-less e f p)
-
-pub lt-gt : (e f : Ends) → compareEnds e f ≡ Ordering·lt → compareEnds f e ≡ Ordering·gt
-lt-gt e f p = less-gt f e (lt-less e f p)
 
 pub lt-ne : (e f : Ends) → compareEnds e f ≡ Ordering·lt → e ≡ f → ⊥
 lt-ne e f p q = less-not f (rw q at (lt-less e f p))

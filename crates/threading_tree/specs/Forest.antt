@@ -1,21 +1,16 @@
 -- The numbered tree against the definition: the trees of the definition are one row of branches whose edges are (v, v); to open a tree is to reach
 -- (v, v) in that row, and to take an edge in the tree of v at a path is to take it at that path after (v, v).
 use mathlib.Core.Path.{_≡_, refl, sym, ap, _∙_}
-use Prim.Native.Nat.{ℕ, zero, suc, _+_, _<_, _≤_, compare, Ordering, Ordering·lt, Ordering·eq, Ordering·gt}
+use Prim.Native.Nat.{ℕ, zero, suc, _+_, compare, Ordering, Ordering·lt, Ordering·eq, Ordering·gt}
 use native.Mathlib.Numerals.{add-one}
 use native.Mathlib.Nat.{add-suc}
 use mathlib.Core.Bool.{Bool, true, false, cond}
-use mathlib.Core.List.{List, [], _∷_, _++_, map}
-use native.Mathlib.Omega.{arith}
+use mathlib.Core.List.{List, [], _∷_}
 use Rattle.definition.specs.Threading.{Ends, compareEnds, eqEnds}
-use Rattle.laws.specs.Numbers.{then}
-use Rattle.threading_tree.specs.Ends.{ends, ends-path, compareEnds-same, lt-trans, gt-lt, lt-gt, lt-ne, lt-less, Less, eq-same, eq-self, eqEnds-true, eqEnds-self, eqEnds-false, eqEnds-ne, cmp-eq, cmp-lt, cmp-gt, eq-cmp}
+use Rattle.threading_tree.specs.Ends.{ends, eq-self, cmp-eq}
 use Rattle.laws.specs.Lists.{isEmpty}
-use Rattle.definition.specs.Evidence.{Branches, bare, branch, Tree, reach, takeAt, atTree, Opened, Walk, growth, growAll, takeEdge, openTree}
-use Rattle.threading_tree.specs.Nodes.{Nodes, nil, node, erase, size, reachN, takeN, seekN, At, here, down, along, Above, Rising, reachN-lt, reachN-eq, reachN-gt, takeN-down, takeN-along, takeN-here, at-above, at-take, rising-take}
-use Rattle.threading_tree.specs.Rows.{seekN-lt, seekN-eq, seekN-gt}
-use Rattle.threading_tree.specs.declared.Place.{Place}
-use Rattle.threading_tree.specs.declared.Place.the-variants.{Here, Gap}
+use Rattle.definition.specs.Evidence.{Branches, bare, branch, Tree, reach, takeAt, atTree, Opened}
+use Rattle.threading_tree.specs.Nodes.{Nodes, nil, node, erase, reachN, takeN}
 
 -- ---- one step of the definition, as a step of the numbered tree with multiplicity 1
 

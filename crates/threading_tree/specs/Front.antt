@@ -1,19 +1,16 @@
 -- A list whose front has been written over: xs, and then what was there. One store more, and a row of stores of any width.
 use mathlib.Core.Path.{_≡_, refl, sym, ap, _∙_}
-use Prim.Native.Nat.{ℕ, zero, suc, _+_, _*_, _<_, _≤_}
+use Prim.Native.Nat.{ℕ, suc, _+_, _*_, _<_, _≤_}
 use native.Mathlib.Numerals.{add-one}
 use native.Mathlib.Nat.{zero-add, zero-mul, suc-mul}
 use mathlib.Core.List.{List, [], _∷_, _++_, append-assoc}
 use native.Mathlib.Omega.{arith}
-use lib.ListN.{length, drop, set, length-set, length-append, length-drop}
-use Rattle.laws.specs.Records.{putField, putFrom}
+use lib.ListN.{length, drop, set, length-append}
+use Rattle.laws.specs.Records.{putFrom}
 use Rattle.definition.specs.Calls.{writtenAt, flat}
 
 abbrev pub front : List ℕ → List ℕ → List ℕ
 front xs old = xs ++ drop (length xs) old
-
-pub length-front : (xs old : List ℕ) → length xs ≤ length old → length (front xs old) ≡ length old
-length-front xs old h = simp (length-append, length-drop) (omega arith)
 
 append-nil : {A : Type 0} (xs : List A) → xs ++ [] ≡ xs
 append-nil [] = refl

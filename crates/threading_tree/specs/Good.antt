@@ -1,19 +1,17 @@
 -- The invariant of the node table, and that one change keeps it.
 use mathlib.Core.Path.{_≡_, refl, sym, ap, _∙_}
-use mathlib.Core.Logic.{_⊎_, inl, inr, ⊎-elim}
-use Prim.Native.Nat.{ℕ, zero, suc, _+_, _<_, _≤_, compare, Ordering, Ordering·lt, Ordering·eq, Ordering·gt}
-use mathlib.Core.Bool.{Bool, true, false, cond}
+use Prim.Native.Nat.{ℕ, suc, _+_, _<_, _≤_, Ordering, Ordering·lt, Ordering·eq, Ordering·gt}
+use mathlib.Core.Bool.{cond}
 use mathlib.Core.List.{List, [], _∷_, _++_, append-assoc}
 use native.Mathlib.Omega.{arith}
 use native.Mathlib.Nat.{zero-add}
 use lib.Dec.{eqb}
 use borrow.Author.Tests.{eq-eqb, ne-eqb}
-use Rattle.definition.specs.Threading.{Ends, compareEnds, eqEnds}
-use Rattle.threading_tree.specs.Ends.{ends, eq-same, eqEnds-self}
-use Rattle.threading_tree.specs.Nodes.{Nodes, nil, node, size, reachN, takeN, seekN, headLink, landed, At, here, down, along, kidsAt, Above, Rising, Fields, Cell, Links, Own, reachN-lt, reachN-eq, reachN-gt, takeN-here, takeN-down, takeN-along, rising-take}
-use Rattle.threading_tree.specs.Table.{Agree, Off, Gained, Res, links-take}
-use Rattle.threading_tree.specs.Rows.{Found, Bumped, Added, Stopped, head, inside, Past, none, some, seek-here, seek-gap, bumped-off, row-bumped, added-off, row-added, seekN-lt, seekN-eq, seekN-gt, gap-here, here-same}
-use Rattle.threading_tree.specs.declared.Place.{Place}
+use Rattle.definition.specs.Threading.{Ends, compareEnds}
+use Rattle.threading_tree.specs.Ends.{eqEnds-self}
+use Rattle.threading_tree.specs.Nodes.{Nodes, nil, node, size, reachN, takeN, seekN, headLink, landed, At, here, down, along, kidsAt, Rising, Fields, Links, Own, takeN-here, takeN-down, takeN-along, rising-take}
+use Rattle.threading_tree.specs.Table.{Agree, Res, links-take}
+use Rattle.threading_tree.specs.Rows.{Found, Bumped, Added, Stopped, head, inside, none, some, seek-here, seek-gap, bumped-off, row-bumped, added-off, row-added, seekN-lt, seekN-eq, seekN-gt, gap-here, here-same}
 use Rattle.threading_tree.specs.declared.Place.the-variants.{Here, Gap}
 
 -- the table with n nodes holds the numbered tree t

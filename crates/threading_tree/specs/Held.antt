@@ -1,30 +1,28 @@
 -- ONE relation for callers: the tables hold a walk of the definition. It holds of the zeroed table, and each call keeps it.
 use mathlib.Core.Path.{_≡_, refl, sym, ap, _∙_}
 use Prim.Native.Nat.{ℕ, zero, suc, _+_, _*_, _^_, _<_, _≤_}
-use mathlib.Core.List.{List, [], _∷_, _++_, map}
+use mathlib.Core.List.{List, [], _∷_, map}
 use native.Mathlib.Omega.{arith}
 use native.Mathlib.Decide.{ℕ-discrete}
 use lib.ListN.{length, getD, length-append, replicate}
 use Rattle.definition.specs.Threading.{Ends}
-use Rattle.definition.specs.Evidence.{Branches, bare, branch, Tree, Opened, Walk, takeEdge, openTree, Node, nodesBelow, nodes}
+use Rattle.definition.specs.Evidence.{Walk, takeEdge, openTree, nodes}
 use Rattle.threading_tree.specs.Ends.{ends}
-use Rattle.threading_tree.specs.Nodes.{Nodes, nil, node, erase, size, reachN, takeN, At, here, Rising, Links, Own, at-take, rising-take, takeN-here}
+use Rattle.threading_tree.specs.Nodes.{Nodes, nil, node, erase, size, reachN, takeN, At, Rising, Links, Own, at-take, rising-take, takeN-here}
 use Rattle.threading_tree.specs.Good.{Good}
-use Rattle.threading_tree.specs.Slots.{cols, told, Beyond, zero-kid, zero-count}
+use Rattle.threading_tree.specs.Slots.{cols, told, zero-kid, zero-count}
 use Rattle.threading_tree.specs.Forest.{forest, rootPath}
 use Rattle.threading_tree.specs.Walks.{Group, onward, spread, Perm, same, skip, swap, both, Same, same-opened}
 use Rattle.threading_tree.specs.All.{growN, total, Standing, Walking, TookAll, Grew, Over}
 use Rattle.threading_tree.specs.Apart.{Apart, apart-onward, walk-takes, groups-few}
 use Rattle.threading_tree.specs.Back.{at-reach-back, at-grow-back}
 use Rattle.threading_tree.specs.Take.{Wide, wide-kept, Packable}
-use Rattle.threading_tree.specs.Open.{RootAt, Openable}
-use Rattle.threading_tree.specs.Join.{Joinable, JoinedTo, Joins, Turns, opened, not-empty}
+use Rattle.threading_tree.specs.Open.{RootAt}
+use Rattle.threading_tree.specs.Join.{Joinable, JoinedTo, Joins, Turns, opened}
 use Rattle.threading_tree.specs.Listed.{sizeB, size-erase, forest-nodes}
-use Rattle.threading_tree.specs.declared.Held as HD
-use Rattle.threading_tree.specs.declared.Grown.{Grown}
+use Rattle.threading_tree.specs.declared.ThreadingState as TS
 use Rattle.threading_tree.specs.declared.Grown.the-variants.{Nodes as Many, Refused as Stopped}
-use Rattle.threading_tree.specs.declared.Joined.{Joined}
-use Rattle.threading_tree.specs.declared.Joined.the-variants.{Holds, Refused as Turned}
+use Rattle.threading_tree.specs.declared.Joined.the-variants.{Next as Holds, Refused as Turned}
 
 -- The table `x` of at most cap nodes has n of them; the first g pairs of `op` are the open trees; `root v` is the slot of v's root, 0 where v has no
 -- tree; no count is above b. A caller keeps b below 2 ^ 32: it grows by 1 at an opening, and by the number of open trees where an edge is taken.
@@ -256,7 +254,7 @@ module _ (w : Walk) (cap n g b : ℕ) (root : ℕ → ℕ) (x op : List ℕ) (h 
 
   module _ (y op' : List ℕ) where
     -- the walk has opened the tree; the caller keeps the root's slot for v
-    pub held-opens : (s : HD.Held) (root' : ℕ → ℕ) → JoinedTo cap n v (root v) g x y op op' (Holds s) → length y ≡ length x → length op' ≡ length op
+    pub held-opens : (s : TS.ThreadingState) (root' : ℕ → ℕ) → JoinedTo cap n v (root v) g x y op op' (Holds s) → length y ≡ length x → length op' ≡ length op
         → root' v ≡ s .root → ((u : ℕ) → (u ≡ v → ⊥) → root' u ≡ root u) → HeldWalk (openTree v w) cap (s .nodes) (s .groups) (b + 1) root' y op'
     held-opens s root' k ly lo at off =
         let q : Joins cap n v y op' (h .tree) (h .groups) s = k .is (h .tree) (h .groups) (h .good) (h .rooted v) (h .standing) (h .many) (h .apart) in

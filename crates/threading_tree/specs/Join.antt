@@ -1,30 +1,30 @@
 -- A tree is opened in a walk: its root joins the groups, or its group gains one. (Rust: add_tree_if_necessary)
-use mathlib.Core.Path.{_≡_, refl, sym, ap, _∙_}
+use mathlib.Core.Path.{_≡_, refl, ap, _∙_}
 use Prim.Native.Nat.{ℕ, zero, suc, _+_, _-_, _*_, _^_, _<_, _≤_}
 use native.Mathlib.Numerals.{add-one}
 use native.Mathlib.Nat.{zero-add}
-use mathlib.Core.List.{List, [], _∷_, _++_, map, append-assoc}
+use mathlib.Core.List.{List, [], _∷_, _++_}
 use native.Mathlib.Omega.{arith}
-use lib.ListN.{length, getD, set, length-set, length-append}
+use lib.ListN.{length, length-set, length-append}
 use lib.Seq.{getD-set-other}
 use Rattle.laws.specs.Records.{field, putField, field-same, field-other, row-other}
 use Rattle.definition.specs.Threading.{Ends}
-use Rattle.definition.specs.Evidence.{Walk, takeEdge, openTree}
+use Rattle.definition.specs.Evidence.{Walk, openTree}
 use Rattle.threading_tree.specs.Ends.{ends}
-use Rattle.threading_tree.specs.Nodes.{Fields, Nodes, nil, node, size, reachN, takeN, landed, At, here, kidsAt, Rising, at-take, at-new, takeN-here}
+use Rattle.threading_tree.specs.Nodes.{Fields, Nodes, size, takeN, landed, At, here, kidsAt, Rising, at-take, at-new, takeN-here}
 use Rattle.threading_tree.specs.Good.{Good}
-use Rattle.threading_tree.specs.Slots.{cols, told, Slot, Beyond}
+use Rattle.threading_tree.specs.Slots.{cols, told, Beyond}
 use Rattle.threading_tree.specs.Walks.{Group, raise, HasAt, first, after, Same, same-raised, same-opened}
 use Rattle.threading_tree.specs.All.{Standing1, Standing, total, new-live}
 use Rattle.threading_tree.specs.Apart.{at-one, path-one, Differs, Apart, apart-new, apart-raise, groups-few, groups-fewer}
-use Rattle.threading_tree.specs.Take.{Wide, Went, Full}
-use Rattle.threading_tree.specs.Open.{RootAt, Openable, Opens, OpenedAt}
-use Rattle.threading_tree.specs.declared.Stand as SD
-use Rattle.threading_tree.specs.declared.Held as HD
+use Rattle.threading_tree.specs.Take.{Went, Full}
+use Rattle.threading_tree.specs.Open.{RootAt, Openable, OpenedAt}
+use Rattle.threading_tree.specs.declared.Reached as SD
+use Rattle.threading_tree.specs.declared.ThreadingState as TS
 use Rattle.threading_tree.specs.declared.Step.{Step}
 use Rattle.threading_tree.specs.declared.Step.the-variants.{Next, Refused}
 use Rattle.threading_tree.specs.declared.Joined.{Joined}
-use Rattle.threading_tree.specs.declared.Joined.the-variants.{Holds, Refused as Turned}
+use Rattle.threading_tree.specs.declared.Joined.the-variants.{Next as Holds, Refused as Turned}
 
 -- the first place among the first w that holds the slot, or w
 pub record Sited (op : List ℕ) (w at r : ℕ) : Type 0 where
@@ -45,7 +45,7 @@ pub record Joinable (cap n v root w : ℕ) (x op : List ℕ) : Type 0 where
 abbrev pub opened : ℕ → ℕ → Nodes → Nodes
 opened v n t = takeN 1 (ends v v) (suc n) t []
 
-pub record Joins (cap n v : ℕ) (y op : List ℕ) (t : Nodes) (gs : List Group) (h : HD.Held) : Type 0 where
+pub record Joins (cap n v : ℕ) (y op : List ℕ) (t : Nodes) (gs : List Group) (h : TS.ThreadingState) : Type 0 where
   pub good : Good (cols y) (h .nodes) (opened v n t)
   pub root : At (opened v n t) 0 (ends v v ∷ []) (h .root)
   pub some : 0 < h .root
@@ -192,7 +192,7 @@ module _ (cap n v root w : ℕ) (x op : List ℕ) (p : Joinable cap n v root w x
           beyond-open = λ i q. refl;
         }
 
-    module _ (st : SD.Stand) (z : r ≡ Next st) where
+    module _ (st : SD.Reached) (z : r ≡ Next st) where
       went : (t : Nodes) → Good (cols x) n t → RootAt root v t → Went cap n 1 (ends v v) y t [] (landed (ends v v) (suc n) t) st
       went t g ro = rw z at (o .is t g ro)
 

@@ -1,11 +1,10 @@
 -- The nodes as they are written: the definition's list is that of the one row of roots, so one depth-first walk from slot 0 writes it; and its length is
 -- the number of nodes, which refusal 9 is about.
-use mathlib.Core.Path.{_≡_, refl, sym, ap, _∙_}
-use Prim.Native.Nat.{ℕ, zero, suc, _+_, _<_, _≤_}
+use mathlib.Core.Path.{_≡_, refl, ap, _∙_}
+use Prim.Native.Nat.{ℕ, suc, _+_}
 use mathlib.Core.List.{List, [], _∷_, _++_}
 use native.Mathlib.Omega.{arith}
 use lib.ListN.{length, length-append}
-use Rattle.definition.specs.Threading.{Ends}
 use Rattle.definition.specs.Evidence.{Branches, bare, branch, Tree, Node, nodesBelow, nodes}
 use Rattle.threading_tree.specs.Ends.{ends}
 use Rattle.threading_tree.specs.Nodes.{Nodes, nil, node, erase, size}

@@ -1,13 +1,11 @@
 -- The node table as a numbered tree: what the table's links hold, and the two changes of it. A slot is a number from 1; slot 0 stands for the place
 -- whose children are the roots.
-use mathlib.Core.Path.{_≡_, refl, sym, ap, _∙_}
-use mathlib.Core.Logic.{_⊎_, inl, inr, ⊎-elim}
-use Prim.Native.Nat.{ℕ, zero, suc, _+_, _<_, _≤_, compare, Ordering, Ordering·lt, Ordering·eq, Ordering·gt}
+use mathlib.Core.Path.{_≡_, refl, sym}
+use Prim.Native.Nat.{ℕ, suc, _+_, _<_, _≤_, Ordering, Ordering·lt, Ordering·eq, Ordering·gt}
 use mathlib.Core.Bool.{Bool, true, false, cond}
-use mathlib.Core.List.{List, [], _∷_, _++_, append-assoc}
-use native.Mathlib.Omega.{arith}
+use mathlib.Core.List.{List, [], _∷_, _++_}
 use Rattle.definition.specs.Threading.{Ends, compareEnds, eqEnds}
-use Rattle.threading_tree.specs.Ends.{ends, ends-path, lt-trans, gt-lt, lt-gt, lt-ne, eq-same, eq-self, eqEnds-true, eqEnds-self, eqEnds-false, eqEnds-ne}
+use Rattle.threading_tree.specs.Ends.{lt-trans, gt-lt, lt-ne, eq-same, eqEnds-self, eqEnds-ne}
 use Rattle.laws.specs.Lists.{isEmpty}
 use Rattle.definition.specs.Evidence.{Branches, bare, branch}
 use Rattle.threading_tree.specs.declared.Place.{Place}

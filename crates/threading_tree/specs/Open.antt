@@ -1,18 +1,16 @@
 -- What opening a tree asks and ensures. (Rust: ThreadingTree::get_and_increment_root)
-use mathlib.Core.Path.{_≡_, refl, sym, ap, _∙_}
-use Prim.Native.Nat.{ℕ, zero, suc, _+_, _*_, _^_, _<_, _≤_, Ordering, Ordering·lt, Ordering·eq, Ordering·gt}
-use mathlib.Core.List.{List, [], _∷_, _++_}
+use mathlib.Core.Path.{_≡_, refl, sym, _∙_}
+use Prim.Native.Nat.{ℕ, suc, _+_, _^_, _<_, _≤_, Ordering, Ordering·lt, Ordering·eq, Ordering·gt}
+use mathlib.Core.List.{List, [], _∷_}
 use native.Mathlib.Omega.{arith}
-use Rattle.definition.specs.Threading.{Ends, compareEnds, eqEnds}
-use Rattle.threading_tree.specs.Ends.{ends, eq-self, eq-same, eqEnds-self, eqEnds-false, lt-ne, lt-trans}
-use Rattle.threading_tree.specs.Nodes.{Nodes, nil, node, takeN, seekN, landed, At, here, down, along, kidsAt, Above, Rising, at-above, at-take, at-new}
-use Rattle.threading_tree.specs.Rows.{seekN-lt, seekN-eq, seekN-gt, Found, seek-here}
+use Rattle.definition.specs.Threading.{Ends, compareEnds}
+use Rattle.threading_tree.specs.Ends.{ends, eq-self, eq-same, eqEnds-false, lt-ne, lt-trans}
+use Rattle.threading_tree.specs.Nodes.{Nodes, node, seekN, landed, At, here, down, along, kidsAt, Rising, at-above}
+use Rattle.threading_tree.specs.Rows.{seekN-eq, seekN-gt, Found}
 use Rattle.threading_tree.specs.Good.{Good, good-bumped, child-found, landed-here}
 use Rattle.threading_tree.specs.Slots.{cols, told, Slot, Beyond, raised, raised-beyond, bumped-root, root-under}
 use Rattle.threading_tree.specs.Take.{Wide, wide-slot, Spare, Ready, Went, Full, After, Taken}
-use Rattle.threading_tree.specs.declared.Place.{Place}
-use Rattle.threading_tree.specs.declared.Place.the-variants.{Here, Gap}
-use Rattle.threading_tree.specs.declared.Stand.{Stand}
+use Rattle.threading_tree.specs.declared.Place.the-variants.{Here}
 use Rattle.threading_tree.specs.declared.Step.{Step}
 use Rattle.threading_tree.specs.declared.Step.the-variants.{Next, Refused}
 

@@ -1,13 +1,13 @@
 -- One edge of a walk, as the definition passes it: the first vertex's tree is opened where that vertex warrants one, and every open tree takes the
 -- edge unless it is the only one that leaves. The contracts here are HeldWalk before and after.
-use mathlib.Core.Path.{_≡_, refl, sym, ap, _∙_}
-use Prim.Native.Nat.{ℕ, zero, suc, _+_, _*_, _^_, _<_, _≤_}
+use mathlib.Core.Path.{_≡_, refl, sym, _∙_}
+use Prim.Native.Nat.{ℕ, _+_, _*_, _^_, _<_, _≤_}
 use mathlib.Core.Bool.{Bool, true, false, cond}
-use mathlib.Core.List.{List, [], _∷_}
+use mathlib.Core.List.{List}
 use native.Mathlib.Omega.{arith}
 use native.Mathlib.Decide.{ℕ-discrete}
-use lib.Dec.{eqb}
-use borrow.Author.Tests.{eq-eqb, ne-eqb}
+use lib.Dec.{eqb, ltb}
+use borrow.Author.Tests.{eq-eqb, ne-eqb, lt-ltb, le-ltb}
 use lib.ListN.{length}
 use Rattle.definition.specs.Threading.{Ends, Edge, leaving}
 use Rattle.definition.specs.Evidence.{Walk, opens, takeEdge, openTree, pass, nodes}
@@ -16,13 +16,13 @@ use Rattle.threading_tree.specs.Slots.{told, Beyond}
 use Rattle.threading_tree.specs.Take.{Packable}
 use Rattle.threading_tree.specs.All.{Walking, TookAll}
 use Rattle.threading_tree.specs.Join.{Joinable, JoinedTo}
-use Rattle.threading_tree.specs.Held.{HeldWalk, held-roots, held-under, held-few, held-walking, held-takes, held-full, held-joinable, held-opens, held-turned}
-use Rattle.threading_tree.specs.Grows.{many, open-grows, take-edge-grows, open-many}
-use Rattle.threading_tree.specs.declared.Held as HD
+use Rattle.threading_tree.specs.Held.{HeldWalk, held-room, held-roots, held-under, held-few, held-walking, held-takes, held-full, held-joinable, held-opens, held-turned}
+use Rattle.threading_tree.specs.Grows.{many, take-edge-grows, open-many}
+use Rattle.threading_tree.specs.declared.ThreadingState as TS
 use Rattle.threading_tree.specs.declared.Grown.{Grown}
 use Rattle.threading_tree.specs.declared.Grown.the-variants.{Nodes as Many, Refused as Stopped}
 use Rattle.threading_tree.specs.declared.Joined.{Joined}
-use Rattle.threading_tree.specs.declared.Joined.the-variants.{Holds, Refused}
+use Rattle.threading_tree.specs.declared.Joined.the-variants.{Next as Holds, Refused}
 
 -- ---- the definition's step in two halves
 
@@ -55,13 +55,13 @@ SteppedTo F cap v b root w y op (Holds k) =
 SteppedTo F cap v b root w y op (Refused k) = (k ≡ 9) × (cap < many (F w))
 
 -- `more w` is how much the bound of the counts grows
-pub record Steps (F : Walk → Walk) (more : Walk → ℕ) (cap v : ℕ) (h : HD.Held) (x y op op' : List ℕ) (r : Joined) : Type 0 where
+pub record Steps (F : Walk → Walk) (more : Walk → ℕ) (cap v : ℕ) (h : TS.ThreadingState) (x y op op' : List ℕ) (r : Joined) : Type 0 where
   pub is : (w : Walk) (b : ℕ) (root : ℕ → ℕ) → HeldWalk w cap (h .nodes) (h .groups) b root x op → root v ≡ h .root → SteppedTo F cap v (b + more w) root w y op' r
   pub beyond : Beyond (told cap) x y
   pub beyond-open : Beyond (cap * 2) op op'
 
 -- the tables hold a walk, `h` tells of it, and no count passes a u32 where s trees more are open
-pub record Stepping (cap : ℕ) (e : Ends) (s : ℕ) (h : HD.Held) (x op : List ℕ) : Type 0 where
+pub record Stepping (cap : ℕ) (e : Ends) (s : ℕ) (h : TS.ThreadingState) (x op : List ℕ) : Type 0 where
   pub walk : Walk
   pub bound : ℕ
   pub roots : ℕ → ℕ
@@ -80,7 +80,7 @@ abbrev pub passing : Walk → ℕ
 passing w = 2 + length (w .opened)
 
 -- the root's edge in place of the edge, and fewer trees more
-pub stepping-root : (cap a b s s' : ℕ) (h : HD.Held) (x op : List ℕ) → s' ≤ s → Stepping cap (ends a b) s h x op → Stepping cap (ends a a) s' h x op
+pub stepping-root : (cap a b s s' : ℕ) (h : TS.ThreadingState) (x op : List ℕ) → s' ≤ s → Stepping cap (ends a b) s h x op → Stepping cap (ends a a) s' h x op
 stepping-root cap a b s s' h x op q p =
     let c = p .spare in
     record {
@@ -103,7 +103,7 @@ agrees v r root root' a b off u = go (ℕ-discrete u v)
     go (no z) = off u z
 
 -- nothing is done: the bound may grow all the same
-stays : (F : Walk → Walk) (more : Walk → ℕ) (cap v : ℕ) (h : HD.Held) (x op : List ℕ) → ((w : Walk) → F w ≡ w) → Steps F more cap v h x x op op (Holds h)
+stays : (F : Walk → Walk) (more : Walk → ℕ) (cap v : ℕ) (h : TS.ThreadingState) (x op : List ℕ) → ((w : Walk) → F w ≡ w) → Steps F more cap v h x x op op (Holds h)
 stays F more cap v h x op f =
     record {
       is = λ w b root k a root' e off. rw (f w) (held-under (b + more w) (omega arith) (held-roots root' (agrees v (h .root) root root' a e off) k));
@@ -111,7 +111,7 @@ stays F more cap v h x op f =
       beyond-open = λ i q. refl;
     }
 
-module _ (cap : ℕ) (e : Ends) (h : HD.Held) (x op : List ℕ) (o : Bool) where
+module _ (cap : ℕ) (e : Ends) (h : TS.ThreadingState) (x op : List ℕ) (o : Bool) where
   pub open-joinable : Stepping cap e 1 h x op → Joinable cap (h .nodes) (e .from) (h .root) (h .groups) x op
   open-joinable p =
       let a = p .spare in
@@ -135,7 +135,7 @@ module _ (cap : ℕ) (e : Ends) (h : HD.Held) (x op : List ℕ) (o : Bool) where
 
 -- ---- every open tree takes the edge, or nothing is done
 
-module _ (cap : ℕ) (e : Ends) (h : HD.Held) (x op : List ℕ) (q : Bool) where
+module _ (cap : ℕ) (e : Ends) (h : TS.ThreadingState) (x op : List ℕ) (q : Bool) where
   pub take-walking : Stepping cap e 0 h x op → Walking cap (h .nodes) (h .groups) e x op
   take-walking p = let a = p .spare in held-walking (p .walk) cap (h .nodes) (h .groups) (p .bound) (p .roots) x op (p .holds) e (p .ends) (omega arith)
 
@@ -192,7 +192,7 @@ unfolding openWhere
 where-many true v w = let a = open-many v w in omega arith
 where-many false v w = omega arith
 
-module _ (cap : ℕ) (e : Ends) (h : HD.Held) (x op : List ℕ) (o q : Bool) (y op1 : List ℕ) (r1 : Joined) (s1 : Steps (openWhere o (e .from)) opening cap (e .from) h x y op op1 r1) where
+module _ (cap : ℕ) (e : Ends) (h : TS.ThreadingState) (x op : List ℕ) (o q : Bool) (y op1 : List ℕ) (r1 : Joined) (s1 : Steps (openWhere o (e .from)) opening cap (e .from) h x y op op1 r1) where
   pub pass-refused : (m : ℕ) → r1 ≡ Refused m → Steps (λ w. takeUnless q e (openWhere o (e .from) w)) passing cap (e .from) h x y op op1 r1
   pass-refused m z =
       let s : Steps (openWhere o (e .from)) opening cap (e .from) h x y op op1 (Refused m) = rw z at s1 in
@@ -206,7 +206,7 @@ module _ (cap : ℕ) (e : Ends) (h : HD.Held) (x op : List ℕ) (o q : Bool) (y 
       over : (a b : ℕ) → cap < a → a ≤ b → cap < b
       over a b p q = omega arith
 
-  module _ (k : HD.Held) (z : r1 ≡ Holds k) where
+  module _ (k : TS.ThreadingState) (z : r1 ≡ Holds k) where
     s : Steps (openWhere o (e .from)) opening cap (e .from) h x y op op1 (Holds k)
     s = rw z at s1
 
@@ -245,3 +245,19 @@ module _ (cap : ℕ) (e : Ends) (h : HD.Held) (x op : List ℕ) (o q : Bool) (y 
             let m = where-many o (e .from) w in
             λ root' c off. held-under (b + (2 + length (w .opened))) (omega arith) (t root' c (λ u n. off u n ∙ sym (keep-off root (e .from) (k .root) u n)))
         go (Refused m) w b root t = t
+
+-- ---- refused, with 9, exactly where the definition's trees have more nodes than the maximum
+
+abbrev pub number : Joined → ℕ
+number (Holds k) = 0
+number (Refused k) = k
+
+pub steps-number : (F : Walk → Walk) (more : Walk → ℕ) (cap v : ℕ) (h : TS.ThreadingState) (x y op op' : List ℕ) (r : Joined) → Steps F more cap v h x y op op' r
+    → (w : Walk) (b : ℕ) (root : ℕ → ℕ) → HeldWalk w cap (h .nodes) (h .groups) b root x op → root v ≡ h .root → number r ≡ cond (ltb cap (many (F w))) 9 0
+steps-number F more cap v h x y op op' r s w b root k a = go r (s .is w b root k a)
+  where
+    go : (r : Joined) → SteppedTo F cap v (b + more w) root w y op' r → number r ≡ cond (ltb cap (many (F w))) 9 0
+    go (Holds j) t =
+        let q = held-room (t (keepRoot root v (j .root)) (keep-at root v (j .root)) (λ u n. keep-off root v (j .root) u n)) in
+        rw (le-ltb cap (many (F w)) q)
+    go (Refused m) t = rw (lt-ltb cap (many (F w)) (t .1)) (t .0)

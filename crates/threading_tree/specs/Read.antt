@@ -1,21 +1,21 @@
 -- Reading the table in the search: what a link leads to, the tree of a vertex, the child for an edge, the sum of the branches.
 use mathlib.Core.Path.{_≡_, refl, sym, ap, subst, _∙_}
 use Prim.Native.Nat.{ℕ, zero, suc, _+_, _-_, _*_, _^_, _<_, _≤_, Ordering, Ordering·lt, Ordering·eq, Ordering·gt}
-use mathlib.Core.Bool.{Bool, true, false, not, _||_}
-use mathlib.Core.List.{List, [], _∷_, _++_}
-use mathlib.Core.Option.{Option, none, some}
+use mathlib.Core.Bool.{true, false, not}
+use mathlib.Core.List.{List, [], _∷_}
+use mathlib.Core.Option.{none, some}
 use native.Mathlib.Omega.{arith}
 use native.Mathlib.Nat.{zero-add, add-zero}
 use lib.Dec.{eqb}
-use lib.ListN.{length, getD}
-use borrow.Author.Tests.{eqb-true, eqb-false, eq-eqb, ne-eqb}
+use lib.ListN.{getD}
+use borrow.Author.Tests.{eq-eqb, ne-eqb}
 use Rattle.definition.specs.Threading.{Ends, compareEnds, eqEnds}
 use Rattle.definition.specs.Evidence.{Branches, bare, branch, Tree, Walk, hasBranch, treeAt}
 use Rattle.definition.specs.Search.{child, offersEdge, sumOf}
 use Rattle.threading_tree.specs.Ends.{ends, ends-path, gt-lt, lt-ne, eq-same, eqEnds-self, eqEnds-ne, eqEnds-false, Less, lt-less}
-use Rattle.threading_tree.specs.Nodes.{Nodes, nil, node, erase, size, seekN, At, here, down, along, kidsAt, Above, Rising, Fields, Cell, Links, above-less}
+use Rattle.threading_tree.specs.Nodes.{Nodes, nil, node, erase, size, seekN, At, here, down, along, kidsAt, Above, Rising, Fields, Links, above-less}
 use Rattle.threading_tree.specs.Rows.{seekN-lt, seekN-eq, seekN-gt, gap-here, here-same}
-use Rattle.threading_tree.specs.Good.{Good, row-of, row-rising, slot-live}
+use Rattle.threading_tree.specs.Good.{row-of, row-rising, slot-live}
 use Rattle.threading_tree.specs.Slots.{cols, Slot, every-from, every-to, every-count}
 use Rattle.threading_tree.specs.Cells.{Rowed, Sought, left, left-falls}
 use Rattle.threading_tree.specs.Take.{Wide, wide-slot, links-row}

@@ -1,15 +1,13 @@
 -- The two sets of stores of one change, against the row of children that they are made in.
 use mathlib.Core.Path.{_≡_, refl, sym, ap, _∙_}
-use mathlib.Core.Logic.{_⊎_, inl, inr, ⊎-elim}
-use Prim.Native.Nat.{ℕ, zero, suc, _+_, _<_, _≤_, compare, Ordering, Ordering·lt, Ordering·eq, Ordering·gt}
-use mathlib.Core.Bool.{Bool, true, false, cond}
+use mathlib.Core.Logic.{_⊎_, inl, inr}
+use Prim.Native.Nat.{ℕ, suc, _+_, _<_, _≤_, Ordering, Ordering·lt, Ordering·eq, Ordering·gt}
 use mathlib.Core.List.{List, [], _∷_, _++_, append-assoc}
 use native.Mathlib.Omega.{arith}
-use Rattle.definition.specs.Threading.{Ends, compareEnds, eqEnds}
-use Rattle.threading_tree.specs.Ends.{ends, ends-path, lt-trans, gt-lt, lt-gt, lt-ne, eq-same, eq-self}
-use Rattle.threading_tree.specs.Nodes.{Nodes, nil, node, size, reachN, takeN, seekN, headLink, landed, Above, Rising, Fields, Cell, Links, Own, reachN-lt, reachN-eq, reachN-gt, above-less}
+use Rattle.definition.specs.Threading.{Ends, compareEnds}
+use Rattle.threading_tree.specs.Ends.{ends-path, gt-lt, lt-ne, eq-same}
+use Rattle.threading_tree.specs.Nodes.{Nodes, nil, node, reachN, seekN, headLink, Above, Rising, Fields, Cell, Links, Own, reachN-eq, reachN-gt, above-less}
 use Rattle.threading_tree.specs.Table.{long-not, Agree, Off, Gained, NotPre, frame, cell-same, cell-gained}
-use Rattle.threading_tree.specs.declared.Place.{Place}
 use Rattle.threading_tree.specs.declared.Place.the-variants.{Here, Gap}
 
 -- ---- the cases of a search, as laws

@@ -1,14 +1,13 @@
 -- The node table in one list, five numbers a slot: from, to, count, first child, next sibling. The table's columns, and the three stores that a
 -- change is made of, each with what it leaves alone. Only this file and the accessors of the code know where a field stands.
 use mathlib.Core.Path.{_≡_, refl, sym, ap, _∙_}
-use Prim.Native.Nat.{ℕ, zero, suc, _+_, _*_, _-_, _^_, _<_, _≤_}
+use Prim.Native.Nat.{ℕ, zero, suc, _+_, _*_, _-_, _<_, _≤_}
 use mathlib.Core.List.{List, [], _∷_}
 use native.Mathlib.Omega.{arith}
 use native.Mathlib.Decide.{ℕ-discrete}
-use lib.ListN.{length, getD, set, drop, length-set, length-drop}
-use lib.Seq.{getD-set-same, getD-set-other, getD-drop, ext-getD}
+use lib.ListN.{length, getD, drop, length-set, length-drop}
+use lib.Seq.{getD-set-other, getD-drop, ext-getD}
 use Rattle.laws.specs.Records.{field, putField, putFrom, field-same, field-other, row-other, length-putFrom, putFrom-row, putFrom-at}
-use Rattle.definition.specs.Threading.{Ends}
 use Rattle.threading_tree.specs.Ends.{ends}
 use Rattle.threading_tree.specs.Nodes.{Fields}
 use Rattle.threading_tree.specs.Table.{Agree, Gained}

@@ -1,19 +1,14 @@
 -- The table's stores against the numbered tree: what a store leaves alone, and that the stores of one change make the changed tree.
 use mathlib.Core.Path.{_≡_, refl, sym, ap, _∙_}
-use mathlib.Core.Logic.{_⊎_, inl, inr, ⊎-elim}
-use Prim.Native.Nat.{ℕ, zero, suc, _+_, _<_, _≤_, compare, Ordering, Ordering·lt, Ordering·eq, Ordering·gt}
-use mathlib.Core.Bool.{Bool, true, false, cond}
+use Prim.Native.Nat.{ℕ, _+_, _<_, _≤_}
+use mathlib.Core.Bool.{cond}
 use mathlib.Core.List.{List, [], _∷_, _++_, append-assoc}
 use native.Mathlib.Omega.{arith}
 use lib.ListN.{length, length-append}
-use lib.Dec.{eqb}
-use borrow.Author.Tests.{eq-eqb, ne-eqb}
-use Rattle.definition.specs.Threading.{Ends, compareEnds, eqEnds}
-use Rattle.threading_tree.specs.Ends.{ends, ends-path, lt-trans, gt-lt, lt-gt, lt-ne, eq-same, eq-self, eqEnds-true, eqEnds-self, eqEnds-false, eqEnds-ne}
+use Rattle.definition.specs.Threading.{Ends}
+use Rattle.threading_tree.specs.Ends.{lt-ne, eqEnds-self, eqEnds-false}
 use Rattle.laws.specs.Lists.{isEmpty}
-use Rattle.threading_tree.specs.Nodes.{Nodes, nil, node, size, reachN, takeN, seekN, headLink, landed, At, here, down, along, kidsAt, Above, Rising, Fields, Cell, Links, Own, reachN-lt, reachN-eq, reachN-gt, takeN-here, takeN-down, takeN-along, above-less, rising-take}
-use Rattle.threading_tree.specs.declared.Place.{Place}
-use Rattle.threading_tree.specs.declared.Place.the-variants.{Here, Gap}
+use Rattle.threading_tree.specs.Nodes.{Nodes, nil, node, reachN, takeN, At, here, down, along, kidsAt, Above, Rising, Fields, Cell, Links, Own, takeN-here, takeN-down, takeN-along}
 
 -- ---- lists
 

@@ -1,22 +1,21 @@
 -- What taking an edge asks and ensures, and that the stores of the code are the change. (Rust: ThreadingNode::add_edge)
 use mathlib.Core.Path.{_≡_, refl, sym, ap, _∙_}
-use Prim.Native.Nat.{ℕ, zero, suc, _+_, _-_, _*_, _^_, _<_, _≤_, Ordering, Ordering·lt, Ordering·eq, Ordering·gt}
-use mathlib.Core.List.{List, [], _∷_, _++_}
+use Prim.Native.Nat.{ℕ, suc, _+_, _-_, _^_, _<_, _≤_, Ordering, Ordering·lt, Ordering·eq, Ordering·gt}
+use mathlib.Core.List.{List, []}
 use native.Mathlib.Omega.{arith}
 use native.Mathlib.Numerals.{add-one}
-use lib.ListN.{length, getD}
-use Rattle.laws.specs.Records.{field}
+use lib.ListN.{length}
 use Rattle.definition.specs.Threading.{Ends, compareEnds}
 use Rattle.threading_tree.specs.Ends.{ends}
-use Rattle.threading_tree.specs.Nodes.{Nodes, nil, node, size, reachN, takeN, seekN, landed, At, kidsAt, Rising, Fields, Cell, Links}
-use Rattle.threading_tree.specs.Table.{long-not, Agree, Gained}
-use Rattle.threading_tree.specs.Rows.{Found, Bumped, Added, Stopped, head, inside, seek-gap, seekN-lt, seekN-eq, seekN-gt, gap-here, gap-before}
+use Rattle.threading_tree.specs.Nodes.{Nodes, nil, node, size, takeN, seekN, landed, At, kidsAt, Fields, Links}
+use Rattle.threading_tree.specs.Table.{long-not}
+use Rattle.threading_tree.specs.Rows.{Bumped, Added, Stopped, head, inside, seek-gap, seekN-lt, seekN-eq, seekN-gt, gap-here, gap-before}
 use Rattle.threading_tree.specs.Good.{Good, row-of, row-owned, row-rising, slot-live, mine, child-found, good-bumped, good-added, landed-here, landed-gap, size-take, size-gap}
-use Rattle.threading_tree.specs.Slots.{cols, told, Slot, Beyond, raised, placed, linked, raised-length, raised-count, placed-length, placed-off, linked-length, bumped-of, bumped-under, bumped-beyond, added-of, added-under, added-beyond}
+use Rattle.threading_tree.specs.Slots.{cols, told, Slot, Beyond, raised, placed, linked, raised-length, raised-count, placed-length, placed-off, bumped-of, bumped-under, bumped-beyond, added-of, added-under, added-beyond}
 use Rattle.threading_tree.specs.Cells.{Row, Rowed, Sought}
 use Rattle.threading_tree.specs.declared.Place.{Place}
 use Rattle.threading_tree.specs.declared.Place.the-variants.{Here, Gap}
-use Rattle.threading_tree.specs.declared.Stand.{Stand}
+use Rattle.threading_tree.specs.declared.Reached.{Reached}
 use Rattle.threading_tree.specs.declared.Step.{Step}
 use Rattle.threading_tree.specs.declared.Step.the-variants.{Next, Refused}
 
@@ -50,7 +49,7 @@ pub record Ready (cap n s m : ℕ) (e : Ends) (x : List ℕ) : Type 0 where
   pub spare : Spare cap m x
   pub ends : Packable e
 
-pub record Went (cap n m : ℕ) (e : Ends) (y : List ℕ) (t : Nodes) (p : List Ends) (j : ℕ) (st : Stand) : Type 0 where
+pub record Went (cap n m : ℕ) (e : Ends) (y : List ℕ) (t : Nodes) (p : List Ends) (j : ℕ) (st : Reached) : Type 0 where
   pub good : Good (cols y) (st .nodes) (takeN m e (suc n) t p)
   pub at : st .at ≡ j
   pub room : st .nodes ≤ cap

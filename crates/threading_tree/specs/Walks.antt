@@ -1,19 +1,14 @@
 -- A walk's open trees: the definition lists them with repetitions; the code holds groups, a slot with a multiplicity. Both take an edge alike.
 use mathlib.Core.Path.{_≡_, refl, sym, ap, _∙_}
-use Prim.Native.Nat.{ℕ, zero, suc, _+_, _<_, _≤_}
-use mathlib.Core.Bool.{Bool, true, false, cond}
+use Prim.Native.Nat.{ℕ, zero, suc, _+_}
 use mathlib.Core.List.{List, [], _∷_, _++_, map, append-assoc}
-use native.Mathlib.Omega.{arith}
-use lib.ListN.{length, replicate}
+use lib.ListN.{replicate}
 use Rattle.definition.specs.Threading.{Ends}
 use Rattle.threading_tree.specs.Ends.{ends}
-use Rattle.definition.specs.Evidence.{Branches, bare, branch, Tree, reach, takeAt, atTree, Opened, Walk, growth, growAll, takeEdge, openTree}
-use Rattle.threading_tree.specs.Nodes.{Nodes, nil, node, erase, size, reachN, takeN, landed, At, here, down, along, kidsAt, Rising, at-take, at-new, rising-take, takeN-here}
-use Rattle.threading_tree.specs.Forest.{forest, rootPath, erase-take, erase-reach, takeTimes, erase-times, forest-open}
+use Rattle.definition.specs.Evidence.{Branches, Tree, reach, takeAt, atTree, Opened, Walk, growth, growAll, takeEdge, openTree}
+use Rattle.threading_tree.specs.Nodes.{Nodes, erase, reachN, takeN, At, Rising, at-take, rising-take}
+use Rattle.threading_tree.specs.Forest.{forest, rootPath, erase-take, erase-reach, takeTimes, forest-open}
 use Rattle.threading_tree.specs.Commute.{take-take, forest-take}
-
-abbrev Path : Type 0
-Path = List Ends
 
 -- ---- a list of paths, each of which takes the edge
 

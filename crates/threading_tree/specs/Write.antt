@@ -1,6 +1,6 @@
 -- The nodes written out, depth first, by a loop: at each depth above the present one a list of slots holds the next sibling to go on with.
 use mathlib.Core.Path.{_≡_, refl, sym, ap, _∙_}
-use Prim.Native.Nat.{ℕ, zero, suc, _+_, _-_, _*_, _^_, _<_, _≤_}
+use Prim.Native.Nat.{ℕ, suc, _+_, _-_, _*_, _^_, _<_, _≤_}
 use mathlib.Core.List.{List, [], _∷_, _++_, append-assoc}
 use native.Mathlib.Omega.{arith}
 use native.Mathlib.Numerals.{add-one}
@@ -11,12 +11,12 @@ use Rattle.definition.specs.Threading.{Ends}
 use Rattle.definition.specs.Evidence.{Walk, Node, nodesBelow, nodes}
 use Rattle.definition.specs.Calls.{writtenAt, flat, nodeRow}
 use Rattle.threading_tree.specs.Ends.{ends}
-use Rattle.threading_tree.specs.Nodes.{Nodes, nil, node, erase, size, Cell, Links}
+use Rattle.threading_tree.specs.Nodes.{Nodes, nil, node, erase, size, Links}
 use Rattle.threading_tree.specs.Good.{Good}
 use Rattle.threading_tree.specs.Slots.{cols, Slot, Beyond}
 use Rattle.threading_tree.specs.Take.{Wide, wide-slot}
-use Rattle.threading_tree.specs.Listed.{sizeB, size-erase, nodes-many, nodes-forest}
-use Rattle.threading_tree.specs.Front.{front, front-row, length-front, written-front, flat-last, flat-many}
+use Rattle.threading_tree.specs.Listed.{size-erase, nodes-many, nodes-forest}
+use Rattle.threading_tree.specs.Front.{front, front-row, written-front, flat-last, flat-many}
 use Rattle.threading_tree.specs.Held.{HeldWalk}
 
 -- what the writer asks: a good table, a place for a slot at each depth, a row for each node

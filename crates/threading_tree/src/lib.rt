@@ -1,3 +1,13 @@
+// The junction trees of a run in one lent table, and the active trees of one walk. (Rust: ThreadingNode, ThreadingTree, JunctionThreadingState)
+//
+// `nodes` has five numbers a slot: the two ends of a node's edge, its count, its first child, its next sibling; a link is a slot, 0 for none. Slots 1 to n
+// are the nodes in order of birth, at most `cap` of them, so the table has (cap + 1) * 5 numbers. Slot 0 is no node: its children are the roots, each
+// with its vertex as both ends, so that they stand in vertex order. Siblings rise by their edges.
+// `active` has two numbers a pair: the slot where active trees of the walk stand, and how many stand there. Pairs differ in their slots, so there are
+// never more than nodes, and cap * 2 numbers are enough. The slot of a vertex's root is kept by the caller, with the vertex, and is 0 where it has none.
+//
+// Callers use the relation HeldWalk of specs/Held: the tables hold a walk of the definition.
+
 ghost use mathlib.Core.Path.{_≡_};
 ghost use Prim.Native.Nat.{ℕ, _+_, _*_, _-_, _^_, _<_, _≤_};
 ghost use lib.ListN.{length};
@@ -134,13 +144,13 @@ pub fn find_child(nodes: &[u32], start: usize, a: u32, b: u32) -> Place
 }
 
 // How many nodes there are, and the slot where an open tree stands.
-pub struct Stand {
+pub struct Reached {
     pub nodes: usize,
     pub at: usize,
 }
 
 pub enum Step {
-    Next(Stand),
+    Next(Reached),
     Refused(u32),
 }
 
@@ -156,7 +166,7 @@ pub fn add_edge(nodes: &mut [u32], n: usize, cap: usize, s: usize, a: u32, b: u3
         Place::Here(j) => {
             increment_count(nodes, s, m);
             increment_count(nodes, j, m);
-            Step::Next(Stand { nodes: n, at: j })
+            Step::Next(Reached { nodes: n, at: j })
         }
         Place::Gap(u, v) => {
             let k = n + 1;
@@ -166,7 +176,7 @@ pub fn add_edge(nodes: &mut [u32], n: usize, cap: usize, s: usize, a: u32, b: u3
             put_node(nodes, k, a, b, m, v);
             increment_count(nodes, s, m);
             link_node(nodes, s, u, k);
-            Step::Next(Stand { nodes: k, at: k })
+            Step::Next(Reached { nodes: k, at: k })
         }
     }
 }
@@ -178,7 +188,7 @@ pub fn get_and_increment_root(nodes: &mut [u32], n: usize, cap: usize, v: u32, r
 {
     if root != 0 {
         increment_count(nodes, root, 1);
-        return Step::Next(Stand { nodes: n, at: root });
+        return Step::Next(Reached { nodes: n, at: root });
     }
     add_edge(nodes, n, cap, 0, v, v, 1)
 }
@@ -234,14 +244,14 @@ pub fn add_edge_to_junction_tree_nodes(
 }
 
 // How many nodes there are, how many pairs of `active` are used, and the slot of the root that was opened.
-pub struct Held {
+pub struct ThreadingState {
     pub nodes: usize,
     pub groups: usize,
     pub root: usize,
 }
 
 pub enum Joined {
-    Holds(Held),
+    Next(ThreadingState),
     Refused(u32),
 }
 
@@ -282,7 +292,7 @@ pub fn add_tree_if_necessary(
     if i < w {
         let more = active_count(active, i) + 1;
         active[i * 2 + 1] = more;
-        return Joined::Holds(Held {
+        return Joined::Next(ThreadingState {
             nodes: st.nodes,
             groups: w,
             root: at,
@@ -290,7 +300,7 @@ pub fn add_tree_if_necessary(
     }
     active[w * 2 + 0] = at as u32;
     active[w * 2 + 1] = 1;
-    Joined::Holds(Held {
+    Joined::Next(ThreadingState {
         nodes: st.nodes,
         groups: w + 1,
         root: at,
@@ -303,7 +313,7 @@ pub fn add_tree_if_necessary(
 pub fn open_where(
     nodes: &mut [u32],
     active: &mut [u32],
-    held: Held,
+    held: ThreadingState,
     cap: usize,
     v: u32,
     warrants: bool,
@@ -314,14 +324,14 @@ pub fn open_where(
     if warrants {
         return add_tree_if_necessary(nodes, active, held.groups, held.nodes, cap, v, held.root);
     }
-    Joined::Holds(held)
+    Joined::Next(held)
 }
 
 // Every active tree takes the edge (a, b), unless it is the only one that leaves its vertex.
 pub fn take_unless(
     nodes: &mut [u32],
     active: &mut [u32],
-    held: Held,
+    held: ThreadingState,
     cap: usize,
     a: u32,
     b: u32,
@@ -331,13 +341,13 @@ pub fn take_unless(
     ensures { λ r. ⌜ Steps (takeUnless only (ends a b)) taking cap a held (now (nodes .entry)) (now (nodes .exit)) (now (active .entry)) (now (active .exit)) r ⌝ }
 {
     if only {
-        return Joined::Holds(held);
+        return Joined::Next(held);
     }
     let r = add_edge_to_junction_tree_nodes(nodes, active, held.groups, held.nodes, cap, a, b);
     let Grown::Nodes(k) = r else {
         return Joined::Refused(9);
     };
-    Joined::Holds(Held {
+    Joined::Next(ThreadingState {
         nodes: k,
         groups: held.groups,
         root: held.root,
@@ -348,7 +358,7 @@ pub fn take_unless(
 pub fn pass_edge(
     nodes: &mut [u32],
     active: &mut [u32],
-    held: Held,
+    held: ThreadingState,
     cap: usize,
     a: u32,
     b: u32,
@@ -359,7 +369,7 @@ pub fn pass_edge(
     ensures { λ r. ⌜ Steps (λ w. takeUnless only (ends a b) (openWhere warrants a w)) passing cap a held (now (nodes .entry)) (now (nodes .exit)) (now (active .entry)) (now (active .exit)) r ⌝ }
 {
     let r = open_where(nodes, active, held, cap, a, warrants);
-    let Joined::Holds(h) = r else {
+    let Joined::Next(h) = r else {
         return r;
     };
     take_unless(nodes, active, h, cap, a, b, only)

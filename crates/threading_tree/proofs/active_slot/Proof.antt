@@ -3,8 +3,6 @@ use native.Mathlib.Omega.{arith}
 use borrow.Author.Needs.{needs}
 use Rattle.threading_tree.proofs.active_slot.Statement.{statement}
 use Rattle.threading_tree.proofs.active_slot.Tie as tie
-use Rattle.threading_tree.proofs.active_slot.Reads as reads
-use Rattle.threading_tree.proofs.active_slot.Lts as lts
 
 -- src/lib.rt:187:12
 mul-result : tie.Need-mul-result

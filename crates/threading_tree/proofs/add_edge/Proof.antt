@@ -1,15 +1,8 @@
 use Rattle.threading_tree.specs.Ends.{ends}
-use Rattle.threading_tree.specs.Take.{Ready, number-fits, Packable, node-slot, node-spare, rowed, taken-full, child-slot, child-spare, code-here, new-slot, gap-fits, new-fits, parent-slot, parent-spare, link-slot, sibling-slot, code-gap}
+use Rattle.threading_tree.specs.Take.{number-fits, node-slot, node-spare, rowed, taken-full, child-slot, child-spare, code-here, new-slot, gap-fits, new-fits, parent-slot, parent-spare, link-slot, sibling-slot, code-gap}
 use borrow.Author.Needs.{needs}
 use Rattle.threading_tree.proofs.add_edge.Statement.{statement}
 use Rattle.threading_tree.proofs.add_edge.Tie as tie
-use Rattle.threading_tree.proofs.add_edge.Reads as reads
-use Rattle.threading_tree.proofs.add_edge.Lts as lts
-use Rattle.threading_tree.proofs.find_child.Reads as find-child-reads
-use Rattle.threading_tree.proofs.first_child.Reads as first-child-reads
-use Rattle.threading_tree.proofs.increment_count.Reads as increment-count-reads
-use Rattle.threading_tree.proofs.link_node.Reads as link-node-reads
-use Rattle.threading_tree.proofs.put_node.Reads as put-node-reads
 
 -- src/lib.rt:152:9
 first-child-requires : tie.Need-first-child-requires

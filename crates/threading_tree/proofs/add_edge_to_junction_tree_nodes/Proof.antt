@@ -1,18 +1,12 @@
 use Prim.Native.Nat.{_-_}
-use mathlib.Core.Path.{_≡_, _∙_}
-use native.Mathlib.Omega.{arith}
+use mathlib.Core.Path.{_∙_}
 use borrow.Author.Needs.{needs, scaled-fits}
 use Rattle.threading_tree.specs.Ends.{ends}
-use Rattle.threading_tree.specs.All.{Walking, Track, track-start, track-open, track-index, track-index₀, track-ready, track-fits, track-next, track-stop, track-end}
+use Rattle.threading_tree.specs.All.{Track, track-start, track-open, track-index, track-index₀, track-ready, track-fits, track-next, track-stop, track-end}
 use Rattle.threading_tree.specs.Fit.{fits-next, fits-row, fits-index}
 use borrow.Author.Count.{falls}
 use Rattle.threading_tree.proofs.add_edge_to_junction_tree_nodes.Statement.{statement}
 use Rattle.threading_tree.proofs.add_edge_to_junction_tree_nodes.Tie as tie
-use Rattle.threading_tree.proofs.add_edge_to_junction_tree_nodes.Reads as reads
-use Rattle.threading_tree.proofs.add_edge_to_junction_tree_nodes.Lts as lts
-use Rattle.threading_tree.proofs.active_count.Reads as active-count-reads
-use Rattle.threading_tree.proofs.active_slot.Reads as active-slot-reads
-use Rattle.threading_tree.proofs.add_edge.Reads as add-edge-reads
 
 abbrev Inv-loop : tie.InvT-loop
 Inv-loop nodes₀ active₀ w n cap a b k₀ i₀ nodes active k i = Track cap n w (ends a b) nodes₀ nodes active₀ active k i

@@ -1,15 +1,10 @@
 use lib.ListN.{length-set}
 use borrow.Author.Needs.{scaled-fits}
-use Rattle.threading_tree.specs.Join.{Joinable, join-search, join-turned, root-fits, raised-in, raised-index, raised-fits, join-raised, new-in, join-first, join-second, join-new}
+use Rattle.threading_tree.specs.Join.{join-search, join-turned, root-fits, raised-in, raised-index, raised-fits, join-raised, new-in, join-first, join-second, join-new}
 use Rattle.threading_tree.specs.Fit.{fits-next, fits-row, fits-index}
 use borrow.Author.Needs.{needs}
 use Rattle.threading_tree.proofs.add_tree_if_necessary.Statement.{statement}
 use Rattle.threading_tree.proofs.add_tree_if_necessary.Tie as tie
-use Rattle.threading_tree.proofs.add_tree_if_necessary.Reads as reads
-use Rattle.threading_tree.proofs.add_tree_if_necessary.Lts as lts
-use Rattle.threading_tree.proofs.active_count.Reads as active-count-reads
-use Rattle.threading_tree.proofs.find_active.Reads as find-active-reads
-use Rattle.threading_tree.proofs.get_and_increment_root.Reads as get-and-increment-root-reads
 
 -- src/lib.rt:256:9
 get-and-increment-root-requires : tie.Need-get-and-increment-root-requires

@@ -1,10 +1,7 @@
-use Rattle.threading_tree.specs.Read.{Readable, readable-rowed, child-there, child-missing}
+use Rattle.threading_tree.specs.Read.{readable-rowed, child-there, child-missing}
 use borrow.Author.Needs.{needs}
 use Rattle.threading_tree.proofs.child_slot.Statement.{statement}
 use Rattle.threading_tree.proofs.child_slot.Tie as tie
-use Rattle.threading_tree.proofs.child_slot.Reads as reads
-use Rattle.threading_tree.proofs.child_slot.Lts as lts
-use Rattle.threading_tree.proofs.find_child.Reads as find-child-reads
 
 -- src/lib.rt:350:9
 find-child-requires : tie.Need-find-child-requires

@@ -6,9 +6,6 @@ use Rattle.laws.specs.Records.{field}
 use Rattle.threading_tree.specs.Fit.{fits-next}
 use Rattle.threading_tree.proofs.find_active.Statement.{statement}
 use Rattle.threading_tree.proofs.find_active.Tie as tie
-use Rattle.threading_tree.proofs.find_active.Reads as reads
-use Rattle.threading_tree.proofs.find_active.Lts as lts
-use Rattle.threading_tree.proofs.active_slot.Reads as active-slot-reads
 
 abbrev Inv-loop : tie.InvT-loop
 Inv-loop active w at i₀ i = (i ≤ w) × ((k : ℕ) → k < i → field active 2 k 0 ≡ at → ⊥)

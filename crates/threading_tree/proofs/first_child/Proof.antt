@@ -3,8 +3,6 @@ use native.Mathlib.Omega.{arith}
 use borrow.Author.Needs.{needs}
 use Rattle.threading_tree.proofs.first_child.Statement.{statement}
 use Rattle.threading_tree.proofs.first_child.Tie as tie
-use Rattle.threading_tree.proofs.first_child.Reads as reads
-use Rattle.threading_tree.proofs.first_child.Lts as lts
 
 -- src/lib.rt:42:11
 mul-result : tie.Need-mul-result

@@ -1,11 +1,7 @@
-use Rattle.threading_tree.specs.Open.{Openable, ready, opened-new, root-slot, root-spare, opened-there}
+use Rattle.threading_tree.specs.Open.{ready, opened-new, root-slot, root-spare, opened-there}
 use borrow.Author.Needs.{needs}
 use Rattle.threading_tree.proofs.get_and_increment_root.Statement.{statement}
 use Rattle.threading_tree.proofs.get_and_increment_root.Tie as tie
-use Rattle.threading_tree.proofs.get_and_increment_root.Reads as reads
-use Rattle.threading_tree.proofs.get_and_increment_root.Lts as lts
-use Rattle.threading_tree.proofs.add_edge.Reads as add-edge-reads
-use Rattle.threading_tree.proofs.increment_count.Reads as increment-count-reads
 
 -- src/lib.rt:175:9
 increment-count-requires : tie.Need-increment-count-requires

@@ -2,8 +2,6 @@ use borrow.Author.Needs.{needs}
 use Rattle.threading_tree.specs.Slots.{raised-is}
 use Rattle.threading_tree.proofs.increment_count.Statement.{statement}
 use Rattle.threading_tree.proofs.increment_count.Tie as tie
-use Rattle.threading_tree.proofs.increment_count.Reads as reads
-use Rattle.threading_tree.proofs.increment_count.Lts as lts
 
 -- src/lib.rt:57:19
 mul-c : tie.Need-mul-c

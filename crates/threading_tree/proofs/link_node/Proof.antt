@@ -2,8 +2,6 @@ use borrow.Author.Needs.{needs}
 use Rattle.threading_tree.specs.Slots.{linked-first, linked-later}
 use Rattle.threading_tree.proofs.link_node.Statement.{statement}
 use Rattle.threading_tree.proofs.link_node.Tie as tie
-use Rattle.threading_tree.proofs.link_node.Reads as reads
-use Rattle.threading_tree.proofs.link_node.Lts as lts
 
 -- src/lib.rt:79:28
 cast-nodes : tie.Need-cast-nodes

@@ -3,8 +3,6 @@ use native.Mathlib.Omega.{arith}
 use borrow.Author.Needs.{needs}
 use Rattle.threading_tree.proofs.next_sibling.Statement.{statement}
 use Rattle.threading_tree.proofs.next_sibling.Tie as tie
-use Rattle.threading_tree.proofs.next_sibling.Reads as reads
-use Rattle.threading_tree.proofs.next_sibling.Lts as lts
 
 -- src/lib.rt:49:11
 mul-result : tie.Need-mul-result

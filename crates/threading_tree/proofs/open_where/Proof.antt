@@ -1,11 +1,8 @@
 use Rattle.threading_tree.specs.Ends.{ends}
-use Rattle.threading_tree.specs.Pass.{Stepping, open-joinable, open-not, open-does}
+use Rattle.threading_tree.specs.Pass.{open-joinable, open-not, open-does}
 use borrow.Author.Needs.{needs}
 use Rattle.threading_tree.proofs.open_where.Statement.{statement}
 use Rattle.threading_tree.proofs.open_where.Tie as tie
-use Rattle.threading_tree.proofs.open_where.Reads as reads
-use Rattle.threading_tree.proofs.open_where.Lts as lts
-use Rattle.threading_tree.proofs.add_tree_if_necessary.Reads as add-tree-if-necessary-reads
 
 -- src/lib.rt:308:9
 add-tree-if-necessary-requires : tie.Need-add-tree-if-necessary-requires

@@ -1,4 +1,4 @@
-use mathlib.Core.Logic.{_⊎_, inl, inr}
+use mathlib.Core.Logic.{inl, inr}
 use native.Mathlib.Omega.{arith}
 use Rattle.threading_tree.specs.Cells.{rank-is-0, rank-is-1, rank-is-2}
 use Rattle.threading_tree.proofs.order.Statement.{statement}

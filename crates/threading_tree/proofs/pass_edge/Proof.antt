@@ -1,13 +1,9 @@
 use native.Mathlib.Omega.{arith}
 use Rattle.threading_tree.specs.Ends.{ends}
-use Rattle.threading_tree.specs.Pass.{Stepping, stepping-root, pass-refused, pass-on, pass-both}
+use Rattle.threading_tree.specs.Pass.{stepping-root, pass-refused, pass-on, pass-both}
 use borrow.Author.Needs.{needs}
 use Rattle.threading_tree.proofs.pass_edge.Statement.{statement}
 use Rattle.threading_tree.proofs.pass_edge.Tie as tie
-use Rattle.threading_tree.proofs.pass_edge.Reads as reads
-use Rattle.threading_tree.proofs.pass_edge.Lts as lts
-use Rattle.threading_tree.proofs.open_where.Reads as open-where-reads
-use Rattle.threading_tree.proofs.take_unless.Reads as take-unless-reads
 
 -- src/lib.rt:333:9
 open-where-requires : tie.Need-open-where-requires

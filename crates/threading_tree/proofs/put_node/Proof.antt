@@ -4,8 +4,6 @@ use borrow.Author.Needs.{needs}
 use Rattle.threading_tree.specs.Slots.{placed-is}
 use Rattle.threading_tree.proofs.put_node.Statement.{statement}
 use Rattle.threading_tree.proofs.put_node.Tie as tie
-use Rattle.threading_tree.proofs.put_node.Reads as reads
-use Rattle.threading_tree.proofs.put_node.Lts as lts
 
 -- src/lib.rt:66:11
 mul-nodes : tie.Need-mul-nodes

@@ -3,8 +3,6 @@ use lib.ListN.{length-set}
 use borrow.Author.Needs.{needs}
 use Rattle.threading_tree.proofs.put_row.Statement.{statement}
 use Rattle.threading_tree.proofs.put_row.Tie as tie
-use Rattle.threading_tree.proofs.put_row.Reads as reads
-use Rattle.threading_tree.proofs.put_row.Lts as lts
 
 -- src/lib.rt:280:9
 mul-out : tie.Need-mul-out

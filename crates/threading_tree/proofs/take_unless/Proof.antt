@@ -1,11 +1,8 @@
 use Rattle.threading_tree.specs.Ends.{ends}
-use Rattle.threading_tree.specs.Pass.{Stepping, take-walking, take-not, take-does, take-full}
+use Rattle.threading_tree.specs.Pass.{take-walking, take-not, take-does, take-full}
 use borrow.Author.Needs.{needs}
 use Rattle.threading_tree.proofs.take_unless.Statement.{statement}
 use Rattle.threading_tree.proofs.take_unless.Tie as tie
-use Rattle.threading_tree.proofs.take_unless.Reads as reads
-use Rattle.threading_tree.proofs.take_unless.Lts as lts
-use Rattle.threading_tree.proofs.add_edge_to_junction_tree_nodes.Reads as add-edge-to-junction-tree-nodes-reads
 
 -- src/lib.rt:319:9
 returns : tie.Need-returns

@@ -2,13 +2,9 @@ use Prim.Native.Nat.{_^_}
 use mathlib.Core.Path.{refl}
 use Rattle.threading_tree.specs.Cells.{left}
 use Rattle.threading_tree.specs.Fit.{fits-widen, fits-named}
-use Rattle.threading_tree.specs.Read.{Readable, Summing, summing-start, summing-end, summing-slot, summing-next, summing-fits, summing-falls}
+use Rattle.threading_tree.specs.Read.{Summing, summing-start, summing-end, summing-slot, summing-next, summing-fits, summing-falls}
 use Rattle.threading_tree.proofs.total_out_for_branch.Statement.{statement}
 use Rattle.threading_tree.proofs.total_out_for_branch.Tie as tie
-use Rattle.threading_tree.proofs.total_out_for_branch.Reads as reads
-use Rattle.threading_tree.proofs.total_out_for_branch.Lts as lts
-use Rattle.threading_tree.proofs.evidence_count.Reads as evidence-count-reads
-use Rattle.threading_tree.proofs.next_sibling.Reads as next-sibling-reads
 
 abbrev Inv-loop : tie.InvT-loop
 Inv-loop nodes n cap link total₀ at₀ total at = Summing n nodes link at total

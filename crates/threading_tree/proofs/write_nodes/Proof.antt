@@ -1,19 +1,10 @@
 use Prim.Native.Nat.{_+_, _*_, _-_}
-use mathlib.Core.Path.{_≡_, refl, sym, _∙_}
-use native.Mathlib.Omega.{arith}
+use mathlib.Core.Path.{refl}
 use borrow.Author.Needs.{needs, scaled-fits}
 use Rattle.threading_tree.specs.Fit.{fits-widen, fits-named}
 use Rattle.threading_tree.specs.Write.{Writer, writer-slot, writer-start, node-in, row-in, depth-fits, stack-in, stack-in₀, next-row, next-depth, writer-down, falls-down, stack-up, stack-up₀, writer-up, falls-up, writer-end}
 use Rattle.threading_tree.proofs.write_nodes.Statement.{statement}
 use Rattle.threading_tree.proofs.write_nodes.Tie as tie
-use Rattle.threading_tree.proofs.write_nodes.Reads as reads
-use Rattle.threading_tree.proofs.write_nodes.Lts as lts
-use Rattle.threading_tree.proofs.edge_from.Reads as edge-from-reads
-use Rattle.threading_tree.proofs.edge_to.Reads as edge-to-reads
-use Rattle.threading_tree.proofs.evidence_count.Reads as evidence-count-reads
-use Rattle.threading_tree.proofs.first_child.Reads as first-child-reads
-use Rattle.threading_tree.proofs.next_sibling.Reads as next-sibling-reads
-use Rattle.threading_tree.proofs.put_row.Reads as put-row-reads
 
 abbrev Inv-loop : tie.InvT-loop
 Inv-loop nodes stack₀ out₀ n cap link₀ depth₀ row₀ stack out link depth row = Writer cap n nodes stack₀ stack out₀ out link depth row
