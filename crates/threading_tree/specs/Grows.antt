@@ -1,7 +1,7 @@
 -- The definition's trees only grow, so a step that was refused for want of a node refuses the whole run; and how many open trees a step leaves.
 use mathlib.Core.Path.{_≡_, refl, ap}
-use Prim.Native.Nat.{ℕ, suc, _+_, _*_, _≤_, compare, Ordering, Ordering·lt, Ordering·eq, Ordering·gt}
-use native.Mathlib.Nat.{suc-mul, mul-suc}
+use Prim.Native.Nat.{ℕ, suc, _+_, _*_, _^_, _<_, _≤_, compare, Ordering, Ordering·lt, Ordering·eq, Ordering·gt}
+use native.Mathlib.Nat.{suc-mul, mul-suc, mul-le-mul-right}
 use mathlib.Core.Bool.{Bool, true, false}
 use mathlib.Core.List.{List, [], _∷_, _++_, map}
 use mathlib.Core.Option.{Option, none, some}
@@ -140,4 +140,10 @@ bound-step p b o h k =
     let a = mul-suc p p in
     let c = suc-mul p (suc (suc p)) in
     let d = mul-suc p (suc p) in
+    omega arith
+
+-- so many steps a run has at most, and then no count passes a u32
+pub bound-fits : (p b o : ℕ) → p ≤ 32768 → b ≤ p * suc p → o ≤ p → b + (o + 2) < 2 ^ 32
+bound-fits p b o h k q =
+    let a : p * suc p ≤ 32768 * suc p = mul-le-mul-right (suc p) h in
     omega arith
