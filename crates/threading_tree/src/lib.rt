@@ -1,0 +1,448 @@
+// The junction trees of a run in one lent table, and the active trees of one walk. (Rust: ThreadingNode, ThreadingTree, JunctionThreadingState)
+//
+// `nodes` has five numbers a slot: the two ends of a node's edge, its count, its first child, its next sibling; a link is a slot, 0 for none. Slots 1 to n
+// are the nodes in order of birth, at most `cap` of them, so the table has (cap + 1) * 5 numbers. Slot 0 is no node: its children are the roots, each
+// with its vertex as both ends, so that they stand in vertex order. Siblings rise by their edges.
+// `active` has two numbers a pair: the slot where active trees of the walk stand, and how many stand there. Pairs differ in their slots, so there are
+// never more than nodes, and cap * 2 numbers are enough. The slot of a vertex's root is kept by the caller, with the vertex, and is 0 where it has none.
+//
+// Callers use the relation HeldWalk of specs/Held: the tables hold a walk of the definition.
+
+ghost use mathlib.Core.Path.{_≡_};
+ghost use Prim.Native.Nat.{ℕ, _+_, _*_, _-_, _^_, _<_, _≤_};
+ghost use lib.ListN.{length};
+ghost use mathlib.Core.List.{[], _∷_};
+ghost use Rattle.laws.specs.Records.{field, putFrom};
+ghost use Rattle.definition.specs.Threading.{compareEnds};
+ghost use Rattle.threading_tree.specs.Ends.{ends};
+ghost use Rattle.threading_tree.specs.Slots.{cols, Slot, raised, placed, linked};
+ghost use Rattle.threading_tree.specs.Cells.{rank, Rowed, Sought};
+ghost use Rattle.threading_tree.specs.Take.{Ready, Taken};
+ghost use Rattle.threading_tree.specs.Open.{Openable, OpenedAt};
+ghost use Rattle.threading_tree.specs.All.{Walking, TookAll};
+ghost use Rattle.threading_tree.specs.Join.{Sited, Joinable, JoinedTo};
+ghost use Rattle.threading_tree.specs.Pass.{openWhere, takeUnless, Stepping, Steps, opening, taking, passing};
+ghost use Rattle.threading_tree.specs.Write.{Writable, Written};
+ghost use Rattle.threading_tree.specs.Read.{Readable, ChildSlot, Summed};
+
+// Where a child stands in the row of its siblings, or where it is to stand: after which slot (0: first) and before which (0: last).
+pub enum Place {
+    Here(usize),
+    Gap(usize, usize),
+}
+
+// ---- the fields of a node; the two ends of its edge are read and written nowhere else
+
+pub fn edge_from(nodes: &[u32], s: usize) -> u32
+    requires { ⌜ Slot s (now nodes) ⌝ }
+    ensures { λ r. ⌜ r ≡ cols (now (nodes .entry)) .from s ⌝ }
+{
+    nodes[s * 5 + 0]
+}
+
+pub fn edge_to(nodes: &[u32], s: usize) -> u32
+    requires { ⌜ Slot s (now nodes) ⌝ }
+    ensures { λ r. ⌜ r ≡ cols (now (nodes .entry)) .to s ⌝ }
+{
+    nodes[s * 5 + 1]
+}
+
+pub fn evidence_count(nodes: &[u32], s: usize) -> u32
+    requires { ⌜ Slot s (now nodes) ⌝ }
+    ensures { λ r. ⌜ r ≡ cols (now (nodes .entry)) .count s ⌝ }
+{
+    nodes[s * 5 + 2]
+}
+
+pub fn first_child(nodes: &[u32], s: usize) -> usize
+    requires { ⌜ Slot s (now nodes) ⌝ }
+    ensures { λ r. ⌜ r ≡ cols (now (nodes .entry)) .kid s ⌝ }
+{
+    nodes[s * 5 + 3] as usize
+}
+
+pub fn next_sibling(nodes: &[u32], s: usize) -> usize
+    requires { ⌜ Slot s (now nodes) ⌝ }
+    ensures { λ r. ⌜ r ≡ cols (now (nodes .entry)) .next s ⌝ }
+{
+    nodes[s * 5 + 4] as usize
+}
+
+// The count of slot s rises by m.
+fn increment_count(nodes: &mut [u32], s: usize, m: u32)
+    requires { ⌜ Slot s (now nodes) × (cols (now nodes) .count s + m < 2 ^ 32) ⌝ }
+    ensures { λ r. ⌜ now (nodes .exit) ≡ raised (now (nodes .entry)) s m ⌝ }
+{
+    let c = nodes[s * 5 + 2];
+    nodes[s * 5 + 2] = c + m;
+}
+
+// A node without children in slot k. Ends are below 2 ^ 16, so that they can be packed.
+fn put_node(nodes: &mut [u32], k: usize, a: u32, b: u32, m: u32, next: usize)
+    requires { ⌜ Slot k (now nodes) × (a < 2 ^ 16) × (b < 2 ^ 16) × (next < 2 ^ 32) ⌝ }
+    ensures { λ r. ⌜ now (nodes .exit) ≡ placed (now (nodes .entry)) k a b m next ⌝ }
+{
+    nodes[k * 5 + 0] = a;
+    nodes[k * 5 + 1] = b;
+    nodes[k * 5 + 2] = m;
+    nodes[k * 5 + 3] = 0;
+    nodes[k * 5 + 4] = next as u32;
+}
+
+// The new child k of slot s stands after the slot u, or is the first where u is 0.
+fn link_node(nodes: &mut [u32], s: usize, u: usize, k: usize)
+    requires { ⌜ Slot s (now nodes) × Slot u (now nodes) × (k < 2 ^ 32) ⌝ }
+    ensures { λ r. ⌜ now (nodes .exit) ≡ linked (now (nodes .entry)) s u k ⌝ }
+{
+    if u == 0 {
+        nodes[s * 5 + 3] = k as u32;
+        return;
+    }
+    nodes[u * 5 + 4] = k as u32;
+}
+
+// ---- the children of a node
+
+// The order of two edges: 0 below, 1 the same, 2 above.
+pub fn order(a: u32, b: u32, c: u32, d: u32) -> u32
+    ensures { λ r. ⌜ r ≡ rank (compareEnds (ends a b) (ends c d)) ⌝ }
+{
+    if a < c {
+        return 0;
+    }
+    if c < a {
+        return 2;
+    }
+    if b < d {
+        return 0;
+    }
+    if d < b {
+        return 2;
+    }
+    1
+}
+
+// The place of the edge (a, b) in the row of siblings that begins at `start`.
+pub fn find_child(nodes: &[u32], start: usize, a: u32, b: u32) -> Place
+    requires { ⌜ Rowed (now nodes) start ⌝ }
+    ensures { λ r. ⌜ Sought (now (nodes .entry)) start (ends a b) r ⌝ }
+{
+    let mut prev: usize = 0;
+    let mut at = start;
+    while at != 0 {
+        let o = order(a, b, edge_from(nodes, at), edge_to(nodes, at));
+        if o == 0 {
+            return Place::Gap(prev, at);
+        }
+        if o == 1 {
+            return Place::Here(at);
+        }
+        prev = at;
+        at = next_sibling(nodes, at);
+    }
+    Place::Gap(prev, 0)
+}
+
+// How many nodes there are, and the slot where an open tree stands.
+pub struct Reached {
+    pub nodes: usize,
+    pub at: usize,
+}
+
+pub enum Step {
+    Next(Reached),
+    Refused(u32),
+}
+
+// The node in slot `s` takes the edge (a, b) with the multiplicity m: it gains m, and so does its child for that edge, which is made where it is not
+// there. The answer is the child's slot, or 9 where the table has no room for it, and then nothing has changed.
+pub fn add_edge(nodes: &mut [u32], n: usize, cap: usize, s: usize, a: u32, b: u32, m: u32) -> Step
+    requires { ⌜ Ready cap n s m (ends a b) (now nodes) ⌝ }
+    ensures { λ r. ⌜ Taken cap n s m (ends a b) (now (nodes .entry)) (now (nodes .exit)) r ⌝ }
+{
+    let start = first_child(nodes, s);
+    let place = find_child(nodes, start, a, b);
+    match place {
+        Place::Here(j) => {
+            increment_count(nodes, s, m);
+            increment_count(nodes, j, m);
+            Step::Next(Reached { nodes: n, at: j })
+        }
+        Place::Gap(u, v) => {
+            let k = n + 1;
+            if k > cap {
+                return Step::Refused(9);
+            }
+            put_node(nodes, k, a, b, m, v);
+            increment_count(nodes, s, m);
+            link_node(nodes, s, u, k);
+            Step::Next(Reached { nodes: k, at: k })
+        }
+    }
+}
+
+// The tree of the vertex v is opened: its root, in slot `root` or made where that is 0, gains 1. The answer is the root's slot.
+pub fn get_and_increment_root(nodes: &mut [u32], n: usize, cap: usize, v: u32, root: usize) -> Step
+    requires { ⌜ Openable cap n v root (now nodes) ⌝ }
+    ensures { λ r. ⌜ OpenedAt cap n v root (now (nodes .entry)) (now (nodes .exit)) r ⌝ }
+{
+    if root != 0 {
+        increment_count(nodes, root, 1);
+        return Step::Next(Reached { nodes: n, at: root });
+    }
+    add_edge(nodes, n, cap, 0, v, v, 1)
+}
+
+// ---- the active trees of a walk: where they stand, and how many stand there
+
+fn active_slot(active: &[u32], i: usize) -> usize
+    requires { ⌜ i * 2 + 2 ≤ length (now active) ⌝ }
+    ensures { λ r. ⌜ r ≡ field (now (active .entry)) 2 i 0 ⌝ }
+{
+    active[i * 2 + 0] as usize
+}
+
+fn active_count(active: &[u32], i: usize) -> u32
+    requires { ⌜ i * 2 + 2 ≤ length (now active) ⌝ }
+    ensures { λ r. ⌜ r ≡ field (now (active .entry)) 2 i 1 ⌝ }
+{
+    active[i * 2 + 1]
+}
+
+pub enum Grown {
+    Nodes(usize),
+    Refused(u32),
+}
+
+// Every active tree of a walk takes the edge (a, b): the first `w` pairs of `active` are the slots where active trees stand, and how many stand there.
+pub fn add_edge_to_junction_tree_nodes(
+    nodes: &mut [u32],
+    active: &mut [u32],
+    w: usize,
+    n: usize,
+    cap: usize,
+    a: u32,
+    b: u32,
+) -> Grown
+    requires { ⌜ Walking cap n w (ends a b) (now nodes) (now active) ⌝ }
+    ensures { λ r. ⌜ TookAll cap n w (ends a b) (now (nodes .entry)) (now (nodes .exit)) (now (active .entry)) (now (active .exit)) r ⌝ }
+{
+    let mut k = n;
+    let mut i: usize = 0;
+    while i < w {
+        let s = active_slot(active, i);
+        let m = active_count(active, i);
+        let r = add_edge(nodes, k, cap, s, a, b, m);
+        let Step::Next(st) = r else {
+            return Grown::Refused(9);
+        };
+        active[i * 2 + 0] = st.at as u32;
+        k = st.nodes;
+        i += 1;
+    }
+    Grown::Nodes(k)
+}
+
+// How many nodes there are, how many pairs of `active` are used, and the slot of the root that was opened.
+pub struct ThreadingState {
+    pub nodes: usize,
+    pub groups: usize,
+    pub root: usize,
+}
+
+pub enum Joined {
+    Next(ThreadingState),
+    Refused(u32),
+}
+
+// The first of the first `w` pairs of `active` that stands at slot `at`, or `w`.
+fn find_active(active: &[u32], w: usize, at: usize) -> usize
+    requires { ⌜ w * 2 ≤ length (now active) ⌝ }
+    ensures { λ r. ⌜ Sited (now (active .entry)) w at r ⌝ }
+{
+    let mut i: usize = 0;
+    while i < w {
+        if active_slot(active, i) == at {
+            return i;
+        }
+        i += 1;
+    }
+    i
+}
+
+// The tree of v is opened in a walk with `w` pairs: its root joins them, or its pair gains one. `root` is the slot of its root, or 0.
+pub fn add_tree_if_necessary(
+    nodes: &mut [u32],
+    active: &mut [u32],
+    w: usize,
+    n: usize,
+    cap: usize,
+    v: u32,
+    root: usize,
+) -> Joined
+    requires { ⌜ Joinable cap n v root w (now nodes) (now active) ⌝ }
+    ensures { λ r. ⌜ JoinedTo cap n v root w (now (nodes .entry)) (now (nodes .exit)) (now (active .entry)) (now (active .exit)) r ⌝ }
+{
+    let r = get_and_increment_root(nodes, n, cap, v, root);
+    let Step::Next(st) = r else {
+        return Joined::Refused(9);
+    };
+    let at = st.at;
+    let i = find_active(active, w, at);
+    if i < w {
+        let more = active_count(active, i) + 1;
+        active[i * 2 + 1] = more;
+        return Joined::Next(ThreadingState {
+            nodes: st.nodes,
+            groups: w,
+            root: at,
+        });
+    }
+    active[w * 2 + 0] = at as u32;
+    active[w * 2 + 1] = 1;
+    Joined::Next(ThreadingState {
+        nodes: st.nodes,
+        groups: w + 1,
+        root: at,
+    })
+}
+
+// ---- one edge of a walk
+
+// The tree of v is opened, where the vertex warrants a tree.
+pub fn open_where(
+    nodes: &mut [u32],
+    active: &mut [u32],
+    held: ThreadingState,
+    cap: usize,
+    v: u32,
+    warrants: bool,
+) -> Joined
+    requires { ⌜ Stepping cap (ends v v) 1 held (now nodes) (now active) ⌝ }
+    ensures { λ r. ⌜ Steps (openWhere warrants v) opening cap v held (now (nodes .entry)) (now (nodes .exit)) (now (active .entry)) (now (active .exit)) r ⌝ }
+{
+    if warrants {
+        return add_tree_if_necessary(nodes, active, held.groups, held.nodes, cap, v, held.root);
+    }
+    Joined::Next(held)
+}
+
+// Every active tree takes the edge (a, b), unless it is the only one that leaves its vertex.
+pub fn take_unless(
+    nodes: &mut [u32],
+    active: &mut [u32],
+    held: ThreadingState,
+    cap: usize,
+    a: u32,
+    b: u32,
+    only: bool,
+) -> Joined
+    requires { ⌜ Stepping cap (ends a b) 0 held (now nodes) (now active) ⌝ }
+    ensures { λ r. ⌜ Steps (takeUnless only (ends a b)) taking cap a held (now (nodes .entry)) (now (nodes .exit)) (now (active .entry)) (now (active .exit)) r ⌝ }
+{
+    if only {
+        return Joined::Next(held);
+    }
+    let r = add_edge_to_junction_tree_nodes(nodes, active, held.groups, held.nodes, cap, a, b);
+    let Grown::Nodes(k) = r else {
+        return Joined::Refused(9);
+    };
+    Joined::Next(ThreadingState {
+        nodes: k,
+        groups: held.groups,
+        root: held.root,
+    })
+}
+
+// The walk passes the edge (a, b): `held.root` is the slot of the root of a, or 0, before and after.
+pub fn pass_edge(
+    nodes: &mut [u32],
+    active: &mut [u32],
+    held: ThreadingState,
+    cap: usize,
+    a: u32,
+    b: u32,
+    warrants: bool,
+    only: bool,
+) -> Joined
+    requires { ⌜ Stepping cap (ends a b) 2 held (now nodes) (now active) ⌝ }
+    ensures { λ r. ⌜ Steps (λ w. takeUnless only (ends a b) (openWhere warrants a w)) passing cap a held (now (nodes .entry)) (now (nodes .exit)) (now (active .entry)) (now (active .exit)) r ⌝ }
+{
+    let r = open_where(nodes, active, held, cap, a, warrants);
+    let Joined::Next(h) = r else {
+        return r;
+    };
+    take_unless(nodes, active, h, cap, a, b, only)
+}
+
+// ---- the rows of the nodes
+
+fn put_row(out: &mut [u32], row: usize, a: u32, b: u32, c: u32, d: u32)
+    requires { ⌜ row * 4 + 4 ≤ length (now out) ⌝ }
+    ensures { λ r. ⌜ now (out .exit) ≡ putFrom (now (out .entry)) 4 row 0 (a ∷ b ∷ c ∷ d ∷ []) ⌝ }
+{
+    out[row * 4 + 0] = a;
+    out[row * 4 + 1] = b;
+    out[row * 4 + 2] = c;
+    out[row * 4 + 3] = d;
+}
+
+// All nodes, depth first in edge order, a row each: edge, count, depth. `stack` holds, for each depth above, the sibling to go on with.
+pub fn write_nodes(nodes: &[u32], stack: &mut [u32], out: &mut [u32], n: usize, cap: usize)
+    requires { ⌜ Writable cap n (now nodes) (now stack) (now out) ⌝ }
+    ensures { λ r. ⌜ Written n (now (nodes .entry)) (now (stack .entry)) (now (stack .exit)) (now (out .entry)) (now (out .exit)) ⌝ }
+{
+    let mut link = first_child(nodes, 0);
+    let mut depth: usize = 0;
+    let mut row: usize = 0;
+    loop {
+        if link == 0 {
+            if depth == 0 {
+                return;
+            }
+            depth -= 1;
+            link = stack[depth] as usize;
+            continue;
+        }
+        put_row(
+            out,
+            row,
+            edge_from(nodes, link),
+            edge_to(nodes, link),
+            evidence_count(nodes, link),
+            depth as u32,
+        );
+        stack[depth] = next_sibling(nodes, link) as u32;
+        link = first_child(nodes, link);
+        depth += 1;
+        row += 1;
+    }
+}
+
+// ---- reading the trees in the search
+
+// The slot of the child for the edge (a, b) in the row of siblings that begins at `link`, or 0.
+pub fn child_slot(nodes: &[u32], n: usize, cap: usize, link: usize, a: u32, b: u32) -> usize
+    requires { ⌜ Readable cap n (now nodes) link ⌝ }
+    ensures { λ r. ⌜ ChildSlot n (now (nodes .entry)) link (ends a b) r ⌝ }
+{
+    let place = find_child(nodes, link, a, b);
+    match place {
+        Place::Here(j) => j,
+        Place::Gap(u, v) => 0,
+    }
+}
+
+// The counts of the row of siblings that begins at `link`, added.
+pub fn total_out_for_branch(nodes: &[u32], n: usize, cap: usize, link: usize) -> usize
+    requires { ⌜ Readable cap n (now nodes) link ⌝ }
+    ensures { λ r. ⌜ Summed n (now (nodes .entry)) link r ⌝ }
+{
+    let mut total: usize = 0;
+    let mut at = link;
+    while at != 0 {
+        total += evidence_count(nodes, at) as usize;
+        at = next_sibling(nodes, at);
+    }
+    total
+}
