@@ -81,6 +81,11 @@ macro_rules! graph_of {
                 Rows { vertices: self.0.graph.node_count(), edges, nodes }
             }
 
+            /// The kmer of each vertex.
+            pub fn kmers(&self) -> Vec<Vec<u8>> {
+                self.0.graph.nodes().iter().map(|node| node.kmer.to_vec()).collect()
+            }
+
             fn edge_row(&self, e: &crate::assembly::KmerEdge) -> [u32; 4] {
                 [e.from as u32, e.to as u32, e.support, u32::from(self.0.graph.edge_is_ref(e.from, e.to))]
             }

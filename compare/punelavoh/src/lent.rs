@@ -123,6 +123,11 @@ impl<T: Element> Lent<T> {
             && self.untouched_from(self.len())
     }
 
+    /// What a slice of the pattern held at first.
+    pub fn as_it_was(&self) -> Vec<T> {
+        (GUARD..GUARD + self.len()).map(|i| T::pattern(i, self.seed)).collect()
+    }
+
     fn has_pattern(&self, from: usize, to: usize) -> bool {
         self.store[from..to].iter().enumerate().all(|(i, x)| x.same(T::pattern(from + i, self.seed)))
     }

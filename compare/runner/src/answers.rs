@@ -62,6 +62,7 @@ pub enum Slice {
 
 /// How slices are lent: one of them one element short, the others longer than told by `extra`.
 #[derive(Clone, Copy, Debug, Default)]
+#[cfg_attr(not(feature = "library"), allow(dead_code))]
 pub struct Lend {
     pub short: Option<Slice>,
     pub extra: usize,
@@ -69,6 +70,7 @@ pub struct Lend {
     pub seed: u32,
 }
 
+#[cfg_attr(not(feature = "library"), allow(dead_code))]
 pub enum Verdict {
     Passed,
     Failed(String),

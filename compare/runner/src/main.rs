@@ -1,6 +1,9 @@
 //! The comparison: vectors, random inputs and times, of the library, the original and the model.
 
 mod answers;
+mod fuzz;
+#[cfg(feature = "library")]
+mod library;
 mod program;
 mod random;
 mod subject;
@@ -10,6 +13,7 @@ use std::process::ExitCode;
 
 const USAGE: &str = "usage:
   run vectors [--model] FILE..          replay vectors through the library, or through the model
+  run fuzz [--model] N SEED             N random inputs through library, original and model, or without the library
   run paths BINARY|--model DIR..        run the program `paths` on files of input and output
   run paths-fuzz BINARY|--model N SEED  run it on N random and damaged inputs
 ";
@@ -36,10 +40,23 @@ fn command(args: &[String]) -> Result<bool, String> {
     let words: Vec<&str> = args.iter().map(String::as_str).collect();
     match &words[..] {
         ["vectors", "--model", _, ..] => vectors::run(&mut subject::Model, &args[2..]),
+        ["vectors", _, ..] => vectors::run(&mut *library()?, &args[1..]),
+        ["fuzz", "--model", inputs, seed] => fuzz::run(None, number(inputs)?, number(seed)?),
+        ["fuzz", inputs, seed] => fuzz::run(Some(library()?), number(inputs)?, number(seed)?),
         ["paths", binary, _, ..] => program::run(&program_of(binary)?, &args[2..]),
         ["paths-fuzz", binary, inputs, seed] => program::random::run(&program_of(binary)?, number(inputs)?, number(seed)?),
         _ => Err(USAGE.into()),
     }
+}
+
+#[cfg(feature = "library")]
+fn library() -> Result<Box<dyn subject::Subject>, String> {
+    Ok(Box::new(library::Library))
+}
+
+#[cfg(not(feature = "library"))]
+fn library() -> Result<Box<dyn subject::Subject>, String> {
+    Err("built without the library".into())
 }
 
 fn program_of(binary: &str) -> Result<program::Program, String> {
