@@ -1,6 +1,7 @@
 //! The comparison: vectors, random inputs and times, of the library, the original and the model.
 
 mod answers;
+mod bench;
 mod fuzz;
 #[cfg(feature = "library")]
 mod library;
@@ -14,6 +15,7 @@ use std::process::ExitCode;
 const USAGE: &str = "usage:
   run vectors [--model] FILE..          replay vectors through the library, or through the model
   run fuzz [--model] N SEED             N random inputs through library, original and model, or without the library
+  run bench [--original] [FILE..]       times of library and original, or of the original alone
   run paths BINARY|--model DIR..        run the program `paths` on files of input and output
   run paths-fuzz BINARY|--model N SEED  run it on N random and damaged inputs
 ";
@@ -43,6 +45,8 @@ fn command(args: &[String]) -> Result<bool, String> {
         ["vectors", _, ..] => vectors::run(&mut *library()?, &args[1..]),
         ["fuzz", "--model", inputs, seed] => fuzz::run(None, number(inputs)?, number(seed)?),
         ["fuzz", inputs, seed] => fuzz::run(Some(library()?), number(inputs)?, number(seed)?),
+        ["bench", "--original", ..] => bench::original(&args[2..]),
+        ["bench", ..] => bench::both(&args[1..]),
         ["paths", binary, _, ..] => program::run(&program_of(binary)?, &args[2..]),
         ["paths-fuzz", binary, inputs, seed] => program::random::run(&program_of(binary)?, number(inputs)?, number(seed)?),
         _ => Err(USAGE.into()),
