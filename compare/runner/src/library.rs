@@ -124,14 +124,14 @@ fn check_graph(sample: &Sample, maxima: &GraphMaxima, lend: Lend, expected: &Out
     let lent_work = lent_lengths(work, std::array::from_fn(Slice::Workspace), lend)?;
     let handed = SampleBuffers::new(&borrowed(sample), lend.seed);
     let mut buffers = GraphBuffers::new(edges, nodes, lent_work, lend.seed);
-    let answer = buffers.call(handed.sample(), graph_maxima(maxima));
-    Some((|| {
-        let none = GraphWritten { edges: Vec::new(), nodes: Vec::new() };
-        let (refusal, written) = match expected {
-            Ok(written) => (0, written),
-            Err(number) => (*number, &none),
-        };
-        let wanted = GraphAnswer { refusal, edges: written.edges.len() as u32, nodes: written.nodes.len() as u32 };
+    let none = GraphWritten { edges: Vec::new(), nodes: Vec::new() };
+    let (refusal, written) = match expected {
+        Ok(written) => (0, written),
+        Err(number) => (*number, &none),
+    };
+    let wanted = GraphAnswer { refusal, edges: written.edges.len() as u32, nodes: written.nodes.len() as u32 };
+    let mut call_and_check = || {
+        let answer = buffers.call(handed.sample(), graph_maxima(maxima));
         require(answer == wanted, || format!("found {answer:?}, expected {wanted:?}"))?;
         check_rows(&buffers.edges, &written.edges, "edges")?;
         check_rows(&buffers.nodes, &written.nodes, "nodes")?;
@@ -139,7 +139,9 @@ fn check_graph(sample: &Sample, maxima: &GraphMaxima, lend: Lend, expected: &Out
             check_workspace(slice, told, refusal, name)?;
         }
         require(handed.still_holds(&borrowed(sample)), || "what was handed in has changed".into())
-    })())
+    };
+    // Twice: over the pattern, then in the same buffers as the first call left them.
+    Some(call_and_check().and_then(|()| call_and_check().map_err(|why| format!("{why}; in the same buffers once more"))))
 }
 
 impl Subject for Library {
@@ -211,18 +213,18 @@ mod listing {
             search: search_maxima(&input.search),
             column: column.slice(),
         };
-        let answer = buffers.call(handed.sample(), settings);
-        Some((|| {
-            let none = ListWritten { rows: Vec::new(), pushes: 0, longest: 0 };
-            let (refusal, written) = match expected {
-                Ok(written) => (0, written),
-                Err(number) => (*number, &none),
-            };
+        let none = ListWritten { rows: Vec::new(), pushes: 0, longest: 0 };
+        let (refusal, written) = match expected {
+            Ok(written) => (0, written),
+            Err(number) => (*number, &none),
+        };
+        let stride = input.search.path_edges as usize;
+        let mut call_and_check = || {
+            let answer = buffers.call(handed.sample(), settings);
             let fields = (answer.refusal, answer.paths, answer.pushes);
             let wanted = (refusal, written.rows.len() as u32, written.pushes);
             let mark = (written.longest..=written.pushes).contains(&answer.waiting_mark);
             require(fields == wanted && mark, || format!("found {answer:?}, expected {wanted:?}, mark from {}", written.longest))?;
-            let stride = input.search.path_edges as usize;
             check_path_rows(&buffers.rows, &written.rows)?;
             check_strided(&buffers.bases, sample.k as usize + stride, &written.rows, |row| row.bases.clone(), "bases")?;
             check_strided(&buffers.sequences, stride, &written.rows, |row| row.origins.iter().map(|o| o.0).collect(), "sequences")?;
@@ -233,7 +235,8 @@ mod listing {
             check_workspace(&buffers.scores, told.workspace.scores, refusal, "scores")?;
             require(column.still_holds(&input.column), || "the column has changed".into())?;
             require(handed.still_holds(&borrowed(sample)), || "what was handed in has changed".into())
-        })())
+        };
+        Some(call_and_check().and_then(|()| call_and_check().map_err(|why| format!("{why}; in the same buffers once more"))))
     }
 
     fn check_path_rows(slice: &Lent<PathRow>, rows: &[PathWritten]) -> Checked<()> {

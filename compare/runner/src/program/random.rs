@@ -87,17 +87,20 @@ fn text(random: &mut Random) -> Vec<u8> {
 fn healthy(random: &mut Random) -> Vec<Vec<u8>> {
     let alphabet: &[u8] = random.pick(&[&b"AC"[..], b"ACG", b"ACGT", b"ACGT", b"ACGTN"]);
     let k = random.between(2, 12);
-    let reference: Vec<u8> = (0..k + random.below(60)).map(|_| random.pick(alphabet)).collect();
-    let paths = random.pick(&[0, 1, 2, 5, 8]);
+    let most = random.pick(&[20, 60, 60, 124, 180]);
+    let reference: Vec<u8> = (0..k + random.below(most)).map(|_| random.pick(alphabet)).collect();
+    let paths = random.pick(&[0, 1, 2, 5, 8, 8]);
     let mut lines = vec![format!("{k} {} {paths} {} {}\n", random.pick(&[0, 10, 10, 20]), random.between(0, 6) as i32 - 1, random.below(2)).into_bytes()];
     lines.push([&reference[..], b"\n"].concat());
-    for _ in 0..random.below(10) {
+    let reads = random.pick(&[10, 10, 30]);
+    let (errors, wrong): (usize, &[u8]) = random.pick(&[(15, &b"ACGTNacgt-.\r"[..]), (15, b"ACGT"), (40, b"ACGT"), (200, b"ACGT")]);
+    for _ in 0..random.below(reads) {
         let start = random.below(reference.len());
         let end = random.between(start, reference.len());
         let mut bases = reference[start..end].to_vec();
         for base in &mut bases {
-            if random.once_in(15) {
-                *base = random.pick(b"ACGTNacgt-.\r");
+            if random.once_in(errors) {
+                *base = random.pick(wrong);
             }
         }
         let quality = |random: &mut Random| if random.once_in(20) { random.between(33, 126) as u8 } else { b'I' };
