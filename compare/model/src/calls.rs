@@ -88,11 +88,7 @@ pub fn graph(s: &Sample, maxima: &GraphMaxima, short: bool) -> Result<GraphRows,
     limits::lent(short)?;
     let built = build(s, maxima)?;
     let row = |(ends, e): (&Ends, &crate::graph::Edge)| [ends.0, ends.1, e.support, u32::from(e.is_ref), e.origin.0, e.origin.1];
-    Ok(GraphRows {
-        vertices: built.graph.vertices() as u32,
-        edges: built.graph.edges.iter().map(row).collect(),
-        nodes: built.trees.rows(),
-    })
+    Ok(GraphRows { vertices: built.graph.vertices() as u32, edges: built.graph.edges.iter().map(row).collect(), nodes: built.trees.rows() })
 }
 
 /// The call for the list. `short`: a slice is lent that is shorter than told.
@@ -153,11 +149,5 @@ pub fn lengths(k: u32, paths: u32, graph: &GraphMaxima, search: &SearchMaxima) -
     limits::graph_maxima(graph)?;
     limits::search_maxima(search)?;
     let (k, paths, path_edges) = (k as usize, paths as usize, search.path_edges as usize);
-    Ok(Told {
-        edges: 6 * graph.edges as usize,
-        nodes: 4 * graph.nodes as usize,
-        paths,
-        bases: paths * (k + path_edges),
-        origins: paths * path_edges,
-    })
+    Ok(Told { edges: 6 * graph.edges as usize, nodes: 4 * graph.nodes as usize, paths, bases: paths * (k + path_edges), origins: paths * path_edges })
 }

@@ -68,7 +68,7 @@ fn read(input: &[u8]) -> Option<Text<'_>> {
     }
     // "lines ended by line feeds": nothing stands behind the last one.
     let mut lines: Vec<&[u8]> = input.split(|&b| b == b'\n').collect();
-    if lines.pop() != Some(&[]) || lines.len() < 2 || lines.len() % 2 != 0 {
+    if lines.pop() != Some(&[]) || lines.len() < 2 || !lines.len().is_multiple_of(2) {
         return None;
     }
     let numbers: Option<Vec<i32>> = lines[0].split(|&b| b == b' ').map(number).collect();

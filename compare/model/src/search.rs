@@ -279,8 +279,7 @@ impl Search<'_> {
     fn extended(&mut self, path: &Path, chain: &[Ends], edge: Ends, penalty: f64, step: Step) -> Result<Path, Refusal> {
         let edges = [&path.edges[..], chain, &[edge]].concat();
         self.made(&edges)?;
-        let active: Vec<NodeId> =
-            path.active.iter().filter_map(|&n| self.trees.child(n, edge)).filter(|&n| self.trees.has_branch(n)).collect();
+        let active: Vec<NodeId> = path.active.iter().filter_map(|&n| self.trees.child(n, edge)).filter(|&n| self.trees.has_branch(n)).collect();
         let since = if !active.is_empty() || step == Step::Guided {
             0
         } else if step == Step::Free {
@@ -296,7 +295,7 @@ impl Search<'_> {
         let mut best: Option<&Closed> = None;
         for closed in &self.closed {
             let passes = edge.0 == self.source || closed.edges.iter().any(|e| e.1 == edge.0);
-            if passes && best.map_or(true, |b| b.score <= closed.score) {
+            if passes && best.is_none_or(|b| b.score <= closed.score) {
                 best = Some(closed);
             }
         }

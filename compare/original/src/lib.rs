@@ -102,12 +102,7 @@ macro_rules! graph_of {
 
 macro_rules! path_of {
     ($graph:expr, $path:expr) => {
-        Path {
-            score: $path.score.to_bits(),
-            edges: $path.edges.clone(),
-            bases: $path.bases(&$graph.0.graph),
-            is_ref: $path.is_reference,
-        }
+        Path { score: $path.score.to_bits(), edges: $path.edges.clone(), bases: $path.bases(&$graph.0.graph), is_ref: $path.is_reference }
     };
 }
 
@@ -139,8 +134,7 @@ pub mod patched {
         /// The list over a column, with pushes, closing numbers and longest waiting list.
         pub fn list(&self, paths: usize, threshold: i32, recover: bool, column: &[f64]) -> Told {
             notes::start(column);
-            let (list, order, pushes) =
-                find_junction_best_haplotypes(&self.0, paths, threshold, recover).expect("a reference was threaded");
+            let (list, order, pushes) = find_junction_best_haplotypes(&self.0, paths, threshold, recover).expect("a reference was threaded");
             let (longest, place_missing) = notes::end();
             let mut taken = vec![false; order.len()];
             let mut closings = Vec::with_capacity(list.len());

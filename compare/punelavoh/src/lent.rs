@@ -118,9 +118,7 @@ impl<T: Element> Lent<T> {
 
     /// The slice holds these values still, and all around it is as it was.
     pub fn still_holds(&self, values: &[T]) -> bool {
-        self.len() == values.len()
-            && self.slice().iter().zip(values).all(|(a, b)| a.same(*b))
-            && self.untouched_from(self.len())
+        self.len() == values.len() && self.slice().iter().zip(values).all(|(a, b)| a.same(*b)) && self.untouched_from(self.len())
     }
 
     /// What a slice of the pattern held at first.

@@ -5,6 +5,6 @@ pub mod ffi;
 pub mod lent;
 
 pub use ffi::{graph, lengths, origin};
-pub use ffi::{GraphAnswer, GraphMaxima, GraphSlices, Lengths, ListAnswer, OriginAnswer, PathRow, Sample, SearchMaxima, Workspace};
 #[cfg(feature = "list")]
 pub use ffi::{list, ListSettings, ListSlices};
+pub use ffi::{GraphAnswer, GraphMaxima, GraphSlices, Lengths, ListAnswer, OriginAnswer, PathRow, Sample, SearchMaxima, Workspace};

@@ -117,7 +117,12 @@ fn check_graph(sample: &Sample, maxima: &GraphMaxima, lend: Lend, expected: &Out
     let mut told = graph_told(sample.k, maxima);
     if told.refusal != 0 {
         let w = UNTOLD;
-        told = Lengths { edges: w, nodes: w, workspace: Workspace { vertices: w, edges: w, index: w, nodes: w, open: w, ..Workspace::default() }, ..told };
+        told = Lengths {
+            edges: w,
+            nodes: w,
+            workspace: Workspace { vertices: w, edges: w, index: w, nodes: w, open: w, ..Workspace::default() },
+            ..told
+        };
     }
     let work = graph_workspace(&told.workspace);
     let [edges, nodes] = lent_lengths([told.edges, told.nodes], [Slice::Edges, Slice::Nodes], lend)?;
@@ -241,7 +246,8 @@ mod listing {
 
     fn check_path_rows(slice: &Lent<PathRow>, rows: &[PathWritten]) -> Checked<()> {
         for (i, row) in rows.iter().enumerate() {
-            let wanted = PathRow { score: f64::from_bits(row.score), closing: row.closing, edges: row.origins.len() as u32, is_ref: u32::from(row.is_ref) };
+            let wanted =
+                PathRow { score: f64::from_bits(row.score), closing: row.closing, edges: row.origins.len() as u32, is_ref: u32::from(row.is_ref) };
             let found = slice.slice()[i];
             require(found.same(wanted), || format!("path row {i} is {found:?}, expected {wanted:?}"))?;
         }

@@ -111,8 +111,7 @@ fn every_vertex_has_an_edge(rows: &GraphRows) -> bool {
 fn same_list(model: &Listed, told: &Told) -> Result<(), String> {
     type PathTold = (u64, Vec<(usize, usize)>, Vec<u8>, bool, usize);
     let ends = |ends: &[(u32, u32)]| ends.iter().map(|e| (e.0 as usize, e.1 as usize)).collect();
-    let ours: Vec<PathTold> =
-        model.rows.iter().map(|r| (r.score.to_bits(), ends(&r.ends), r.bases.clone(), r.is_ref, r.closing as usize)).collect();
+    let ours: Vec<PathTold> = model.rows.iter().map(|r| (r.score.to_bits(), ends(&r.ends), r.bases.clone(), r.is_ref, r.closing as usize)).collect();
     let theirs: Vec<PathTold> =
         told.paths.iter().zip(&told.closings).map(|(p, &c)| (p.score, p.edges.clone(), p.bases.clone(), p.is_ref, c)).collect();
     equal("a place is missing", &false, &told.place_missing)?;

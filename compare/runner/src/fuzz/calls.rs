@@ -4,7 +4,7 @@ use super::Counts;
 use crate::answers::{GraphWritten, Lend, ListWritten, Outcome, Slice, Verdict};
 use crate::random::Random;
 use crate::subject::Subject;
-use model::{GraphMaxima, GraphRows, Listed, ListInput, Refusal, Sample, SearchMaxima};
+use model::{GraphMaxima, GraphRows, ListInput, Listed, Refusal, Sample, SearchMaxima};
 
 type Tested = Option<Box<dyn Subject>>;
 
@@ -134,7 +134,8 @@ pub fn lists(
     match (graph, full) {
         (Ok(rows), Ok(listed)) => {
             let tight = ListInput { graph: least_graph(rows), search: least_search(random, &listed.least.search, true), ..settings.clone() };
-            let room = ListInput { graph: roomy_graph(random, &tight.graph), search: least_search(random, &listed.least.search, false), ..settings.clone() };
+            let room =
+                ListInput { graph: roomy_graph(random, &tight.graph), search: least_search(random, &listed.least.search, false), ..settings.clone() };
             let mut least_column = tight.clone();
             least_column.column.truncate(listed.least.column as usize);
             if settings.paths > 0 {
@@ -167,6 +168,22 @@ pub fn lists(
                 };
                 several.column.truncate(random.between(2, listed.least.column as usize));
                 made.push((several, None, None));
+            }
+            let mut smaller = least_column.clone();
+            match random.below(12) {
+                0 if tight.graph.vertices > 2 => {
+                    smaller.graph.vertices -= 1;
+                    made.push((smaller, None, Some(8)));
+                }
+                1 if tight.graph.edges > 1 => {
+                    smaller.graph.edges -= 1;
+                    made.push((smaller, None, Some(8)));
+                }
+                2 if tight.graph.nodes > 1 => {
+                    smaller.graph.nodes -= 1;
+                    made.push((smaller, None, Some(9)));
+                }
+                _ => {}
             }
             made.push((least_column, None, Some(0)));
             if random.once_in(4) {

@@ -83,27 +83,56 @@ fn text(random: &mut Random) -> Vec<u8> {
     text
 }
 
+/// How the reads of an input lie: how many, how long, how often wrong, and by which bytes.
+#[derive(Clone)]
+struct Shape {
+    alphabets: &'static [&'static [u8]],
+    k: (usize, usize),
+    reference: usize,
+    reads: usize,
+    span: (usize, usize),
+    errors: usize,
+    wrong: &'static [u8],
+}
+
+const ANY: &[&[u8]] = &[b"AC", b"ACG", b"ACGT", b"ACGT", b"ACGT", b"ACGTN"];
+
+const SHAPES: &[Shape] = &[
+    Shape { alphabets: ANY, k: (2, 12), reference: 60, reads: 10, span: (0, 60), errors: 15, wrong: b"ACGTNacgt-.\r" },
+    Shape { alphabets: ANY, k: (2, 12), reference: 60, reads: 10, span: (0, 60), errors: 15, wrong: b"ACGT" },
+    Shape { alphabets: ANY, k: (6, 20), reference: 124, reads: 30, span: (10, 60), errors: 100, wrong: b"ACGT" },
+    Shape { alphabets: ANY, k: (6, 20), reference: 180, reads: 10, span: (10, 60), errors: 200, wrong: b"ACGT" },
+    // Short reads: many forks and little guidance, so that many paths wait.
+    Shape { alphabets: ANY, k: (3, 5), reference: 50, reads: 40, span: (3, 8), errors: 8, wrong: b"ACGT" },
+    Shape { alphabets: ANY, k: (2, 3), reference: 20, reads: 20, span: (3, 6), errors: 6, wrong: b"ACGT" },
+    // One or two reads that fork at nearly every base: many trees at once.
+    Shape { alphabets: &[b"AC", b"ACG"], k: (3, 4), reference: 32, reads: 3, span: (12, 30), errors: 60, wrong: b"AC" },
+    // Few reads over nearly all of the reference.
+    Shape { alphabets: ANY, k: (4, 8), reference: 110, reads: 4, span: (60, 110), errors: 12, wrong: b"ACGT" },
+];
+
 /// Lines with their line feeds.
 fn healthy(random: &mut Random) -> Vec<Vec<u8>> {
-    let alphabet: &[u8] = random.pick(&[&b"AC"[..], b"ACG", b"ACGT", b"ACGT", b"ACGTN"]);
-    let k = random.between(2, 12);
-    let most = random.pick(&[20, 60, 60, 124, 180]);
-    let reference: Vec<u8> = (0..k + random.below(most)).map(|_| random.pick(alphabet)).collect();
-    let paths = random.pick(&[0, 1, 2, 5, 8, 8]);
-    let mut lines = vec![format!("{k} {} {paths} {} {}\n", random.pick(&[0, 10, 10, 20]), random.between(0, 6) as i32 - 1, random.below(2)).into_bytes()];
+    let shape = random.pick(SHAPES);
+    let alphabet = random.pick(shape.alphabets);
+    let k = random.between(shape.k.0, shape.k.1);
+    let (reference, haplotype) = if random.once_in(3) { repeated(random, k, alphabet) } else { plain(random, k + shape.reference, k, alphabet) };
+    let paths = random.pick(&[0, 1, 2, 5, 8, 8, 8]);
+    let minimum = random.pick(&[0, 10, 10, 20]);
+    let threshold = random.pick(&[-1, 0, 1, 2, 3, 4, 5, 1000]);
+    let mut lines = vec![format!("{k} {minimum} {paths} {threshold} {}\n", random.below(2)).into_bytes()];
     lines.push([&reference[..], b"\n"].concat());
-    let reads = random.pick(&[10, 10, 30]);
-    let (errors, wrong): (usize, &[u8]) = random.pick(&[(15, &b"ACGTNacgt-.\r"[..]), (15, b"ACGT"), (40, b"ACGT"), (200, b"ACGT")]);
-    for _ in 0..random.below(reads) {
-        let start = random.below(reference.len());
-        let end = random.between(start, reference.len());
-        let mut bases = reference[start..end].to_vec();
+    for _ in 0..random.between(0, shape.reads) {
+        let span = if haplotype.len() > reference.len() && random.once_in(4) { haplotype.len() } else { random.between(shape.span.0, shape.span.1) };
+        let span = span.min(haplotype.len());
+        let start = if random.once_in(3) { 0 } else { random.between(0, haplotype.len() - span) };
+        let mut bases = haplotype[start..start + span].to_vec();
         for base in &mut bases {
-            if random.once_in(errors) {
-                *base = random.pick(wrong);
+            if random.once_in(shape.errors) {
+                *base = random.pick(shape.wrong);
             }
         }
-        let quality = |random: &mut Random| if random.once_in(20) { random.between(33, 126) as u8 } else { b'I' };
+        let quality = |random: &mut Random| if random.once_in(40) { random.between(33, 126) as u8 } else { b'I' };
         let qualities: Vec<u8> = bases.iter().map(|_| quality(random)).collect();
         lines.push([&bases[..], b"\n"].concat());
         lines.push([&qualities[..], b"\n"].concat());
@@ -111,10 +140,29 @@ fn healthy(random: &mut Random) -> Vec<Vec<u8>> {
     lines
 }
 
+/// A reference, and the same to take reads from.
+fn plain(random: &mut Random, most: usize, k: usize, alphabet: &[u8]) -> (Vec<u8>, Vec<u8>) {
+    let length = random.between(k, most);
+    let reference: Vec<u8> = (0..length).map(|_| random.pick(alphabet)).collect();
+    (reference.clone(), reference)
+}
+
+/// A reference with a piece twice, and a haplotype with that piece more often.
+fn repeated(random: &mut Random, k: usize, alphabet: &[u8]) -> (Vec<u8>, Vec<u8>) {
+    let mut bases = |n: usize| -> Vec<u8> { (0..n).map(|_| random.pick(alphabet)).collect() };
+    let (front, back) = (bases(k), bases(k));
+    let (length, times) = random.pick(&[(40, 3), (20, 6), (10, 20), (10, 40)]);
+    let length = random.between(1, length);
+    let piece: Vec<u8> = (0..length).map(|_| random.pick(alphabet)).collect();
+    let times = random.between(2, times);
+    let front = if random.once_in(2) { front } else { Vec::new() };
+    ([&front[..], &piece.repeat(2), &back].concat(), [&front[..], &piece.repeat(times), &back].concat())
+}
+
 fn damage_lines(random: &mut Random, lines: &mut Vec<Vec<u8>>) {
     let at = random.below(lines.len());
     match random.below(8) {
-        0 | 1 | 2 => damage_header(random, &mut lines[0]),
+        0..=2 => damage_header(random, &mut lines[0]),
         3 => {
             lines.remove(at);
             if lines.is_empty() {
@@ -156,8 +204,38 @@ fn damage_header(random: &mut Random, header: &mut Vec<u8>) {
     let mut words: Vec<String> = text.split(' ').map(str::to_owned).collect();
     let at = random.below(words.len());
     const ODD: &[&str] = &[
-        "", "-", "--1", "+1", "-0", "00", "007", "1", "2", "8", "9", "128", "129", "255", "256", "-1", "-2147483648", "-2147483649", "2147483647", "2147483648",
-        "99999999999999999999", "000000000000000000000000000003", "0x3", "1.0", "3 ", " 3", "\t3", "3\r", "a", "1e3", "18446744073709551619", "4294967299",
+        "",
+        "-",
+        "--1",
+        "+1",
+        "-0",
+        "00",
+        "007",
+        "1",
+        "2",
+        "8",
+        "9",
+        "128",
+        "129",
+        "255",
+        "256",
+        "-1",
+        "-2147483648",
+        "-2147483649",
+        "2147483647",
+        "2147483648",
+        "99999999999999999999",
+        "000000000000000000000000000003",
+        "0x3",
+        "1.0",
+        "3 ",
+        " 3",
+        "\t3",
+        "3\r",
+        "a",
+        "1e3",
+        "18446744073709551619",
+        "4294967299",
     ];
     match random.below(6) {
         0 => drop(words.remove(at)),

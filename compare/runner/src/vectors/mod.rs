@@ -59,7 +59,7 @@ fn replay(subject: &mut dyn Subject, sample: &Sample, call: &Call, log10: &[f64]
 fn lends(short: &[Slice], line: usize) -> Vec<Lend> {
     let seed = line as u32;
     if short.is_empty() {
-        return vec![Lend { short: None, extra: if line % 2 == 0 { 0 } else { 5 }, seed }];
+        return vec![Lend { short: None, extra: if line.is_multiple_of(2) { 0 } else { 5 }, seed }];
     }
     short.iter().map(|&slice| Lend { short: Some(slice), extra: 0, seed }).collect()
 }

@@ -16,10 +16,32 @@ pub struct Call {
 }
 
 pub enum Kind {
-    Graph { maxima: GraphMaxima, short: Vec<Slice>, expected: Outcome<GraphWritten> },
-    List { paths: u32, threshold: i32, recover: bool, graph: GraphMaxima, search: SearchMaxima, column: Column, short: Vec<Slice>, expected: Outcome<ListWritten> },
-    Origin { origin: (u32, u32), expected: Outcome<Vec<u8>> },
-    Lengths { k: u32, paths: u32, graph: GraphMaxima, search: SearchMaxima, expected: Outcome<Told> },
+    Graph {
+        maxima: GraphMaxima,
+        short: Vec<Slice>,
+        expected: Outcome<GraphWritten>,
+    },
+    List {
+        paths: u32,
+        threshold: i32,
+        recover: bool,
+        graph: GraphMaxima,
+        search: SearchMaxima,
+        column: Column,
+        short: Vec<Slice>,
+        expected: Outcome<ListWritten>,
+    },
+    Origin {
+        origin: (u32, u32),
+        expected: Outcome<Vec<u8>>,
+    },
+    Lengths {
+        k: u32,
+        paths: u32,
+        graph: GraphMaxima,
+        search: SearchMaxima,
+        expected: Outcome<Told>,
+    },
 }
 
 pub enum Column {
