@@ -1,7 +1,8 @@
 //! What is timed: files, and inputs at the limits.
 
 use crate::random::Random;
-use model::{GraphMaxima, Sample};
+use model::input::log10_column;
+use model::{GraphMaxima, ListInput, Sample, SearchMaxima};
 use std::path::Path;
 
 pub struct Input {
@@ -41,15 +42,27 @@ fn parse(text: &str, file: &str) -> Option<Input> {
     Some(Input { name, sample, paths: paths.try_into().ok()?, threshold: threshold.try_into().ok()?, recover: recover != 0 })
 }
 
-/// Inputs whose sizes are at their limits: reference, reads, read bases and k; then vertices, tree nodes.
+/// Inputs whose sizes are at their limits: reference, reads, read bases and k; then vertices, tree nodes. All are accepted at the greatest maxima.
 pub fn at_limits() -> Vec<Input> {
     let mut made = vec![
-        haplotypes("limit-512-reads-of-64", 25, 512, 64, 300),
-        haplotypes("limit-32-reads-of-1024", 25, 32, 1024, 300),
-        haplotypes("limit-k-128", 128, 128, 256, 1000),
+        haplotypes("limit-512-reads-of-64", 25, (512, 64), 40, 300),
+        haplotypes("limit-32-reads-of-1024", 25, (32, 1024), 150, 1500),
+        haplotypes("limit-k-128", 128, (128, 256), 40, 1000),
         vertices(),
     ];
     made.extend(nodes());
+    for input in &made {
+        let settings = ListInput {
+            paths: input.paths,
+            threshold: input.threshold,
+            recover: input.recover,
+            graph: GraphMaxima::FULL,
+            search: SearchMaxima::FULL,
+            column: log10_column(65536),
+        };
+        let list = model::list(&input.sample, &settings, false);
+        assert!(list.is_ok(), "{}: refused {:?}", input.name, list.err());
+    }
     made
 }
 
@@ -57,13 +70,14 @@ fn input(name: &str, sample: Sample) -> Input {
     Input { name: name.into(), sample, paths: 128, threshold: 3, recover: true }
 }
 
-/// Of a reference of 1,024 bases and a haplotype that differs from it about every 40 bases; an error in `errors` bases.
-fn haplotypes(name: &str, k: u32, reads: usize, span: usize, errors: usize) -> Input {
+/// Reads, so many of so many bases, of a reference of 1,024 bases and of a haplotype that differs from it about every `variants` bases; an error in
+/// `errors` bases.
+fn haplotypes(name: &str, k: u32, (reads, span): (usize, usize), variants: usize, errors: usize) -> Input {
     let mut random = Random::for_input(1, u64::from(k) + reads as u64);
     let reference: Vec<u8> = (0..1024).map(|_| random.pick(b"ACGT")).collect();
     let mut second = reference.clone();
     for base in &mut second {
-        if random.once_in(40) {
+        if random.once_in(variants) {
             *base = random.pick(b"ACGT");
         }
     }

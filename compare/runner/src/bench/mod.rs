@@ -84,9 +84,33 @@ fn all(files: &[String]) -> Result<Vec<Input>, String> {
     Ok(all)
 }
 
+/// A line of what an input comes to.
+fn print_size(input: &Input) {
+    let graph = model::graph(&input.sample, &model::GraphMaxima::FULL, false);
+    let settings = model::ListInput {
+        paths: input.paths,
+        threshold: input.threshold,
+        recover: input.recover,
+        graph: model::GraphMaxima::FULL,
+        search: model::SearchMaxima::FULL,
+        column: model::input::log10_column(65536),
+    };
+    let list = model::list(&input.sample, &settings, false);
+    let s = &input.sample;
+    print!("size {} k {} reference {} reads {} bases {}", input.name, s.k, s.reference.len(), s.ends.len(), s.bases.len());
+    if let Ok(rows) = graph {
+        print!(" vertices {} edges {} nodes {}", rows.vertices, rows.edges.len(), rows.nodes.len());
+    }
+    if let Ok(listed) = list {
+        print!(" paths {} pushes {}", listed.rows.len(), listed.pushes);
+    }
+    println!();
+}
+
 /// The original alone.
 pub fn original(files: &[String]) -> Result<bool, String> {
     for input in all(files)? {
+        print_size(&input);
         let mut rust = Rust::new(&input);
         rounds(|| rust.round());
         for (part, times) in [("build", &rust.build), ("search", &rust.search)] {
@@ -119,6 +143,7 @@ mod library {
         println!("ours: at the greatest maxima; buffers made once and not cleared before a call, which leaves its workspace zero itself");
         println!("rust: allocates in each call; what it hands back is dropped outside of the time");
         for input in all(files)? {
+            print_size(&input);
             let mut rust = Rust::new(&input);
             let mut ours = Ours::new(&input)?;
             rounds(|| {
