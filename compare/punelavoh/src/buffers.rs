@@ -1,0 +1,157 @@
+//! Buffers for the calls: what is handed in, what is written, and the workspace, each slice lent out of a watched buffer.
+
+use crate::ffi::{GraphAnswer, GraphMaxima, GraphSlices, Lengths, OriginAnswer, Sample, Workspace};
+use crate::lent::Lent;
+
+/// What is handed in, copied into watched buffers.
+pub struct SampleBuffers {
+    k: u32,
+    quality: u8,
+    reference: Lent<u8>,
+    ends: Lent<u32>,
+    bases: Lent<u8>,
+    qualities: Lent<u8>,
+}
+
+impl SampleBuffers {
+    pub fn new(s: &Sample, seed: u32) -> Self {
+        Self {
+            k: s.k,
+            quality: s.quality,
+            reference: Lent::holding(s.reference, seed),
+            ends: Lent::holding(s.ends, seed),
+            bases: Lent::holding(s.bases, seed),
+            qualities: Lent::holding(s.qualities, seed),
+        }
+    }
+
+    pub fn sample(&self) -> Sample<'_> {
+        Sample {
+            k: self.k,
+            quality: self.quality,
+            reference: self.reference.slice(),
+            ends: self.ends.slice(),
+            bases: self.bases.slice(),
+            qualities: self.qualities.slice(),
+        }
+    }
+
+    /// No call writes to what it is handed.
+    pub fn still_holds(&self, s: &Sample) -> bool {
+        self.reference.still_holds(s.reference)
+            && self.ends.still_holds(s.ends)
+            && self.bases.still_holds(s.bases)
+            && self.qualities.still_holds(s.qualities)
+    }
+
+    pub fn origin(&self, sequence: u32, place: u32) -> OriginAnswer {
+        crate::ffi::origin(self.sample(), sequence, place)
+    }
+}
+
+/// The number slices of the workspace that the call for edges and trees is lent, in its order.
+pub const GRAPH_WORKSPACE: [&str; 5] = ["vertices", "edges", "index", "nodes", "open"];
+
+/// The lengths told of those.
+pub fn graph_workspace(w: &Workspace) -> [usize; 5] {
+    [w.vertices, w.edges, w.index, w.nodes, w.open]
+}
+
+/// The slices of the call for edges and trees.
+pub struct GraphBuffers {
+    pub edges: Lent<u32>,
+    pub nodes: Lent<u32>,
+    pub workspace: [Lent<u32>; 5],
+}
+
+impl GraphBuffers {
+    pub fn new(edges: usize, nodes: usize, workspace: [usize; 5], seed: u32) -> Self {
+        Self { edges: Lent::new(edges, seed), nodes: Lent::new(nodes, seed), workspace: workspace.map(|n| Lent::new(n, seed)) }
+    }
+
+    /// Slices of exactly the lengths told.
+    pub fn told(lengths: &Lengths) -> Self {
+        Self::new(lengths.edges, lengths.nodes, graph_workspace(&lengths.workspace), 0)
+    }
+
+    pub fn call(&mut self, sample: Sample, maxima: GraphMaxima) -> GraphAnswer {
+        let [w_vertices, w_edges, w_index, w_nodes, w_open] = &mut self.workspace;
+        let slices = GraphSlices {
+            edges: self.edges.slice_mut(),
+            nodes: self.nodes.slice_mut(),
+            w_vertices: w_vertices.slice_mut(),
+            w_edges: w_edges.slice_mut(),
+            w_index: w_index.slice_mut(),
+            w_nodes: w_nodes.slice_mut(),
+            w_open: w_open.slice_mut(),
+        };
+        crate::ffi::graph(sample, maxima, slices)
+    }
+}
+
+#[cfg(feature = "list")]
+pub use listing::{list_workspace, ListBuffers, LIST_WORKSPACE};
+
+/// The slices of the call for the list.
+#[cfg(feature = "list")]
+mod listing {
+    use crate::ffi::{list, Lengths, ListAnswer, ListSettings, ListSlices, PathRow, Sample, Workspace};
+    use crate::lent::Lent;
+
+    /// The number slices of the workspace, in the call's order; the scores stand apart.
+    pub const LIST_WORKSPACE: [&str; 9] = ["vertices", "edges", "index", "nodes", "open", "paths", "active", "queue", "pivotal"];
+
+    /// The lengths told of those.
+    pub fn list_workspace(w: &Workspace) -> [usize; 9] {
+        [w.vertices, w.edges, w.index, w.nodes, w.open, w.paths, w.active, w.queue, w.pivotal]
+    }
+
+    pub struct ListBuffers {
+        pub rows: Lent<PathRow>,
+        pub bases: Lent<u8>,
+        pub sequences: Lent<u32>,
+        pub places: Lent<u32>,
+        pub workspace: [Lent<u32>; 9],
+        pub scores: Lent<f64>,
+    }
+
+    impl ListBuffers {
+        pub fn new(outputs: [usize; 4], workspace: [usize; 9], scores: usize, seed: u32) -> Self {
+            let [rows, bases, sequences, places] = outputs;
+            Self {
+                rows: Lent::new(rows, seed),
+                bases: Lent::new(bases, seed),
+                sequences: Lent::new(sequences, seed),
+                places: Lent::new(places, seed),
+                workspace: workspace.map(|n| Lent::new(n, seed)),
+                scores: Lent::new(scores, seed),
+            }
+        }
+
+        /// Slices of exactly the lengths told.
+        pub fn told(l: &Lengths) -> Self {
+            Self::new([l.paths, l.bases, l.origins, l.origins], list_workspace(&l.workspace), l.workspace.scores, 0)
+        }
+
+        pub fn call(&mut self, sample: Sample, settings: ListSettings) -> ListAnswer {
+            let [w_vertices, w_edges, w_index, w_nodes, w_open, w_paths, w_active, w_queue, w_pivotal] = &mut self.workspace;
+            let slices = ListSlices {
+                rows: self.rows.slice_mut(),
+                bases: self.bases.slice_mut(),
+                sequences: self.sequences.slice_mut(),
+                places: self.places.slice_mut(),
+                w_vertices: w_vertices.slice_mut(),
+                w_edges: w_edges.slice_mut(),
+                w_index: w_index.slice_mut(),
+                w_nodes: w_nodes.slice_mut(),
+                w_open: w_open.slice_mut(),
+                w_paths: w_paths.slice_mut(),
+                w_scores: self.scores.slice_mut(),
+                w_active: w_active.slice_mut(),
+                w_queue: w_queue.slice_mut(),
+                w_pivotal: w_pivotal.slice_mut(),
+            };
+            list(sample, settings, slices)
+        }
+    }
+}

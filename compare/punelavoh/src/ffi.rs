@@ -1,0 +1,347 @@
+//! The library's exported functions, as C sees them. Everything that depends on their form stands in this file:
+//! the declarations, and below each its call over Rust slices. A slice is two arguments, pointer then length in elements.
+
+#[repr(C)]
+#[derive(Clone, Copy, Debug, PartialEq)]
+pub struct GraphMaxima {
+    pub vertices: u32,
+    pub edges: u32,
+    pub nodes: u32,
+}
+
+#[repr(C)]
+#[derive(Clone, Copy, Debug, PartialEq)]
+pub struct SearchMaxima {
+    pub path_edges: u32,
+    pub active: u32,
+    pub pushes: u32,
+}
+
+/// Lengths of the workspace slices, in elements: u32 but for `scores`, f64.
+#[repr(C)]
+#[derive(Clone, Copy, Debug, Default, PartialEq)]
+pub struct Workspace {
+    pub vertices: usize,
+    pub edges: usize,
+    pub index: usize,
+    pub nodes: usize,
+    pub open: usize,
+    pub paths: usize,
+    pub scores: usize,
+    pub active: usize,
+    pub queue: usize,
+    pub pivotal: usize,
+}
+
+#[repr(C)]
+#[derive(Clone, Copy, Debug, Default, PartialEq)]
+pub struct Lengths {
+    pub refusal: u32,
+    pub edges: usize,
+    pub nodes: usize,
+    pub paths: usize,
+    pub bases: usize,
+    pub origins: usize,
+    pub workspace: Workspace,
+}
+
+#[repr(C)]
+#[derive(Clone, Copy, Debug, PartialEq)]
+pub struct GraphAnswer {
+    pub refusal: u32,
+    pub edges: u32,
+    pub nodes: u32,
+}
+
+#[repr(C)]
+#[derive(Clone, Copy, Debug, PartialEq)]
+pub struct OriginAnswer {
+    pub refusal: u32,
+    pub in_reads: u32,
+    pub start: usize,
+    pub length: usize,
+}
+
+#[repr(C)]
+#[derive(Clone, Copy, Debug)]
+pub struct PathRow {
+    pub score: f64,
+    pub closing: u32,
+    pub edges: u32,
+    pub is_ref: u32,
+}
+
+#[repr(C)]
+#[derive(Clone, Copy, Debug, PartialEq)]
+pub struct ListAnswer {
+    pub refusal: u32,
+    pub paths: u32,
+    pub pushes: u32,
+    pub waiting_mark: u32,
+}
+
+/// What is threaded.
+#[derive(Clone, Copy)]
+pub struct Sample<'a> {
+    pub k: u32,
+    pub quality: u8,
+    pub reference: &'a [u8],
+    pub ends: &'a [u32],
+    pub bases: &'a [u8],
+    pub qualities: &'a [u8],
+}
+
+/// The slices that the call for edges and trees is lent.
+pub struct GraphSlices<'a> {
+    pub edges: &'a mut [u32],
+    pub nodes: &'a mut [u32],
+    pub w_vertices: &'a mut [u32],
+    pub w_edges: &'a mut [u32],
+    pub w_index: &'a mut [u32],
+    pub w_nodes: &'a mut [u32],
+    pub w_open: &'a mut [u32],
+}
+
+extern "C" {
+    fn punelavoh_lengths(k: u32, paths: u32, g: GraphMaxima, s: SearchMaxima) -> Lengths;
+
+    fn punelavoh_graph(
+        k: u32,
+        quality: u8,
+        reference: *const u8,
+        reference_length: usize,
+        ends: *const u32,
+        ends_length: usize,
+        bases: *const u8,
+        bases_length: usize,
+        qualities: *const u8,
+        qualities_length: usize,
+        maxima: GraphMaxima,
+        edges: *mut u32,
+        edges_length: usize,
+        nodes: *mut u32,
+        nodes_length: usize,
+        w_vertices: *mut u32,
+        w_vertices_length: usize,
+        w_edges: *mut u32,
+        w_edges_length: usize,
+        w_index: *mut u32,
+        w_index_length: usize,
+        w_nodes: *mut u32,
+        w_nodes_length: usize,
+        w_open: *mut u32,
+        w_open_length: usize,
+    ) -> GraphAnswer;
+
+    fn punelavoh_origin(
+        k: u32,
+        reference: *const u8,
+        reference_length: usize,
+        ends: *const u32,
+        ends_length: usize,
+        bases: *const u8,
+        bases_length: usize,
+        sequence: u32,
+        place: u32,
+    ) -> OriginAnswer;
+}
+
+/// The call for lengths.
+pub fn lengths(k: u32, paths: u32, g: GraphMaxima, s: SearchMaxima) -> Lengths {
+    // SAFETY: numbers only.
+    unsafe { punelavoh_lengths(k, paths, g, s) }
+}
+
+/// The call for edges and trees.
+pub fn graph(sample: Sample, maxima: GraphMaxima, slices: GraphSlices) -> GraphAnswer {
+    // SAFETY: each pair is a whole slice, borrowed for the call; those that are written to are borrowed alone. The call asks nothing else of its
+    // caller: slices that are too short are refused.
+    unsafe {
+        punelavoh_graph(
+            sample.k,
+            sample.quality,
+            sample.reference.as_ptr(),
+            sample.reference.len(),
+            sample.ends.as_ptr(),
+            sample.ends.len(),
+            sample.bases.as_ptr(),
+            sample.bases.len(),
+            sample.qualities.as_ptr(),
+            sample.qualities.len(),
+            maxima,
+            slices.edges.as_mut_ptr(),
+            slices.edges.len(),
+            slices.nodes.as_mut_ptr(),
+            slices.nodes.len(),
+            slices.w_vertices.as_mut_ptr(),
+            slices.w_vertices.len(),
+            slices.w_edges.as_mut_ptr(),
+            slices.w_edges.len(),
+            slices.w_index.as_mut_ptr(),
+            slices.w_index.len(),
+            slices.w_nodes.as_mut_ptr(),
+            slices.w_nodes.len(),
+            slices.w_open.as_mut_ptr(),
+            slices.w_open.len(),
+        )
+    }
+}
+
+/// The call for the bytes at an origin; it is not given the qualities.
+pub fn origin(sample: Sample, sequence: u32, place: u32) -> OriginAnswer {
+    // SAFETY: each pair is a whole slice, borrowed for the call.
+    unsafe {
+        punelavoh_origin(
+            sample.k,
+            sample.reference.as_ptr(),
+            sample.reference.len(),
+            sample.ends.as_ptr(),
+            sample.ends.len(),
+            sample.bases.as_ptr(),
+            sample.bases.len(),
+            sequence,
+            place,
+        )
+    }
+}
+
+#[cfg(feature = "list")]
+pub use listing::{list, ListSettings, ListSlices};
+
+/// The call for the list.
+#[cfg(feature = "list")]
+mod listing {
+    use super::{GraphMaxima, ListAnswer, PathRow, Sample, SearchMaxima};
+
+    /// What the call is given beside the sample and the slices.
+    #[derive(Clone, Copy)]
+    pub struct ListSettings<'a> {
+        pub paths: u32,
+        pub threshold: i32,
+        pub recover: bool,
+        pub graph: GraphMaxima,
+        pub search: SearchMaxima,
+        pub column: &'a [f64],
+    }
+
+    /// The slices that the call is lent.
+    pub struct ListSlices<'a> {
+        pub rows: &'a mut [PathRow],
+        pub bases: &'a mut [u8],
+        pub sequences: &'a mut [u32],
+        pub places: &'a mut [u32],
+        pub w_vertices: &'a mut [u32],
+        pub w_edges: &'a mut [u32],
+        pub w_index: &'a mut [u32],
+        pub w_nodes: &'a mut [u32],
+        pub w_open: &'a mut [u32],
+        pub w_paths: &'a mut [u32],
+        pub w_scores: &'a mut [f64],
+        pub w_active: &'a mut [u32],
+        pub w_queue: &'a mut [u32],
+        pub w_pivotal: &'a mut [u32],
+    }
+
+    extern "C" {
+        fn punelavoh_list(
+            k: u32,
+            quality: u8,
+            paths: u32,
+            threshold: i32,
+            recover: bool,
+            g: GraphMaxima,
+            s: SearchMaxima,
+            reference: *const u8,
+            reference_length: usize,
+            ends: *const u32,
+            ends_length: usize,
+            bases: *const u8,
+            bases_length: usize,
+            qualities: *const u8,
+            qualities_length: usize,
+            column: *const f64,
+            column_length: usize,
+            rows: *mut PathRow,
+            rows_length: usize,
+            bases_out: *mut u8,
+            bases_out_length: usize,
+            sequences: *mut u32,
+            sequences_length: usize,
+            places: *mut u32,
+            places_length: usize,
+            w_vertices: *mut u32,
+            w_vertices_length: usize,
+            w_edges: *mut u32,
+            w_edges_length: usize,
+            w_index: *mut u32,
+            w_index_length: usize,
+            w_nodes: *mut u32,
+            w_nodes_length: usize,
+            w_open: *mut u32,
+            w_open_length: usize,
+            w_paths: *mut u32,
+            w_paths_length: usize,
+            w_scores: *mut f64,
+            w_scores_length: usize,
+            w_active: *mut u32,
+            w_active_length: usize,
+            w_queue: *mut u32,
+            w_queue_length: usize,
+            w_pivotal: *mut u32,
+            w_pivotal_length: usize,
+        ) -> ListAnswer;
+    }
+
+    pub fn list(sample: Sample, settings: ListSettings, slices: ListSlices) -> ListAnswer {
+        // SAFETY: as for the call for edges and trees. A path row is numbers only, so that whatever is written there is one.
+        unsafe {
+            punelavoh_list(
+                sample.k,
+                sample.quality,
+                settings.paths,
+                settings.threshold,
+                settings.recover,
+                settings.graph,
+                settings.search,
+                sample.reference.as_ptr(),
+                sample.reference.len(),
+                sample.ends.as_ptr(),
+                sample.ends.len(),
+                sample.bases.as_ptr(),
+                sample.bases.len(),
+                sample.qualities.as_ptr(),
+                sample.qualities.len(),
+                settings.column.as_ptr(),
+                settings.column.len(),
+                slices.rows.as_mut_ptr(),
+                slices.rows.len(),
+                slices.bases.as_mut_ptr(),
+                slices.bases.len(),
+                slices.sequences.as_mut_ptr(),
+                slices.sequences.len(),
+                slices.places.as_mut_ptr(),
+                slices.places.len(),
+                slices.w_vertices.as_mut_ptr(),
+                slices.w_vertices.len(),
+                slices.w_edges.as_mut_ptr(),
+                slices.w_edges.len(),
+                slices.w_index.as_mut_ptr(),
+                slices.w_index.len(),
+                slices.w_nodes.as_mut_ptr(),
+                slices.w_nodes.len(),
+                slices.w_open.as_mut_ptr(),
+                slices.w_open.len(),
+                slices.w_paths.as_mut_ptr(),
+                slices.w_paths.len(),
+                slices.w_scores.as_mut_ptr(),
+                slices.w_scores.len(),
+                slices.w_active.as_mut_ptr(),
+                slices.w_active.len(),
+                slices.w_queue.as_mut_ptr(),
+                slices.w_queue.len(),
+                slices.w_pivotal.as_mut_ptr(),
+                slices.w_pivotal.len(),
+            )
+        }
+    }
+}
