@@ -8,3 +8,4 @@ pub mod Outs
 pub mod Sorted
 pub mod Symbolic
 pub mod Paths
+pub mod Degrees

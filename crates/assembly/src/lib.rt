@@ -5,6 +5,7 @@
 ghost use mathlib.Core.Path.{_≡_};
 ghost use mathlib.Core.List.{_++_};
 ghost use Prim.Native.Nat.{ℕ, _+_, _-_, _*_, _^_, _<_, _≤_};
+ghost use lib.Dec.{ltb};
 ghost use lib.ListN.{length, getD, take};
 ghost use lib.Seq.{paste};
 ghost use Rattle.laws.specs.Numbers.{eqList};
@@ -15,6 +16,7 @@ ghost use Rattle.assembly.specs.Kmers.{part, born};
 ghost use Rattle.assembly.specs.Moves.{gained, addedE, addedV, newEdge};
 ghost use Rattle.assembly.specs.Symbolic.{symbolic, linked};
 ghost use Rattle.assembly.specs.Outs.{Names, Lesser, Slots, Nexts};
+ghost use Rattle.assembly.specs.Degrees.{one, filled};
 ghost use Rattle.assembly.specs.Paths.{basesOf, Spells};
 ghost use Rattle.assembly.specs.Sorted.{Orders, Ordered};
 
@@ -80,6 +82,30 @@ pub fn incoming_edge(vertices: &[u32], v: usize) -> usize
     ensures { λ r. ⌜ r ≡ field (now (vertices .entry)) 12 v 10 ⌝ }
 {
     wide(vertices[v * VERTEX + INTO])
+}
+
+// 1 where there is an edge, by its number plus 1.
+fn there(slot: usize) -> usize
+    ensures { λ r. ⌜ r ≡ one (ltb 0 slot) ⌝ }
+{
+    if slot > 0 {
+        return 1;
+    }
+    0
+}
+
+// How many edges leave v: the symbolic one too, once it is linked.
+pub fn outgoing_count(vertices: &[u32], v: usize) -> usize
+    requires { ⌜ v * 12 + 12 ≤ length (now vertices) ⌝ }
+    ensures { λ r. ⌜ r ≡ filled (now (vertices .entry)) v 8 ⌝ }
+{
+    let mut n: usize = 0;
+    let mut c: usize = 0;
+    while c < 8 {
+        n += there(out_edge(vertices, v, c));
+        c += 1;
+    }
+    n
 }
 
 // ---- reading an edge

@@ -1,0 +1,19 @@
+use mathlib.Core.Path.{_≡_, refl, sym, ap}
+use borrow.Author.Tests.{lt-ltb, le-ltb}
+use Rattle.assembly.specs.Degrees.{one}
+use borrow.Author.Needs.{needs}
+use Rattle.assembly.proofs.there.Statement.{statement}
+use Rattle.assembly.proofs.there.Tie as tie
+use Rattle.assembly.proofs.there.Reads as reads
+use Rattle.assembly.proofs.there.Lts as lts
+
+-- src/lib.rt:92:9
+returns : tie.Need-returns
+returns c = sym (ap one (lt-ltb 0 ((c .before .args) .slot) ((c .if1) .taken)))
+
+-- src/lib.rt:88:1
+returns-2 : tie.Need-returns-2
+returns-2 c = sym (ap one (le-ltb 0 ((c .before .args) .slot) ((c .if1) .left)))
+
+pub there-spec : {M : Type 1} → statement M
+there-spec = tie.close (tie.spec returns returns-2)
