@@ -5,6 +5,7 @@ pub mod Insertion
 pub mod Records
 pub mod Rows
 pub mod BoolLaws
+pub mod Stores
 pub mod Sorting
 pub mod Heaps
 pub mod FloatOrder

@@ -1,2 +1,4 @@
 pub mod Walk
 pub mod Steps
+pub mod Cells
+pub mod Path
