@@ -2,3 +2,4 @@
 pub mod chains; // chains.rt: the chain of single edges after a vertex
 pub mod records; // records.rt: the record of a path, read from the slices and written to them
 pub mod walks; // walks.rt: a path's vertices counted, and its edges written, along its ancestors
+pub mod growth; // growth.rt: paths are made
