@@ -22,15 +22,15 @@ pub before : List ℕ → ℕ → ℕ
 before t r = elim (parentOf t r) [ zero ↦ 0 | suc p ↦ countOf t p ]
 
 -- the ancestor whose own piece holds the path's edge k - 1
-pub ownerBy : List ℕ → ℕ → ℕ → ℕ → ℕ
+unfoldable pub ownerBy : List ℕ → ℕ → ℕ → ℕ → ℕ
 ownerBy t k zero r = r
 ownerBy t k (suc n) r = elim (leb k (before t r)) [ true ↦ ownerBy t k n (parentOf t r - 1) | false ↦ r ]
 
-pub ownerOf : List ℕ → ℕ → ℕ → ℕ
+unfoldable pub ownerOf : List ℕ → ℕ → ℕ → ℕ
 ownerOf t k r = ownerBy t k r r
 
 -- the cut below its owner a: in the owner's chain, or behind all of its piece
-pub cutAt : List ℕ → ℕ → ℕ → Cut
+unfoldable pub cutAt : List ℕ → ℕ → ℕ → Cut
 cutAt t k a =
     elim (leb (k - countOf t (parentOf t a - 1)) (chainOf t a)) [
       | true ↦ record { parent = parentOf t a; chain = k - countOf t (parentOf t a - 1) }
@@ -82,12 +82,12 @@ before-some t r p e h = before-suc t r (p - 1) (sym e ∙ omega arith)
 
 -- ---- cut_owner
 module _ (t : List ℕ) (k : ℕ) where
-  owner-here : (n r : ℕ) → before t r < k → ownerBy t k n r ≡ r
+  pub owner-here : (n r : ℕ) → before t r < k → ownerBy t k n r ≡ r
   unfolding ownerBy
   owner-here zero r h = refl
   owner-here (suc n) r h = rw (lt-leb k (before t r) h, ownerBy)
 
-  owner-up : (n r : ℕ) → k ≤ before t r → ownerBy t k (suc n) r ≡ ownerBy t k n (parentOf t r - 1)
+  pub owner-up : (n r : ℕ) → k ≤ before t r → ownerBy t k (suc n) r ≡ ownerBy t k n (parentOf t r - 1)
   unfolding ownerBy
   owner-up n r h = rw (le-leb k (before t r) h, ownerBy)
 

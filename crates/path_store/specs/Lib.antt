@@ -5,3 +5,5 @@ pub mod Path
 pub mod Push
 pub mod Cut
 pub mod Grow
+pub mod Extend
+pub mod Visit

@@ -5,6 +5,9 @@ ghost use lib.ListN.{length};
 ghost use lib.Seq.{sets};
 ghost use Rattle.path_store.specs.Walk.{hits, times};
 ghost use Rattle.path_store.specs.Cells.{parentOf, countOf};
+ghost use lib.Dec.{eqb};
+ghost use Rattle.laws.specs.Lists.{any};
+ghost use Rattle.path_store.specs.Visit.{seen, keeps};
 ghost use Rattle.path_store.specs.Path.{lastEdge, Piece, pieceOf, Table, edges};
 use crate::chains::at;
 use crate::chains::count_chain;
@@ -114,4 +117,50 @@ pub fn write_path(
         let row = path_at(paths, scores, r);
         p = row.parent;
     }
+}
+
+// Whether the tree at v counts as visited by a path: it joined the path or an ancestor, or it stands on the nearest recovered path above.
+pub fn has_visited(
+    paths: &[u32],
+    scores: &[f64],
+    only: &[u32],
+    to: &[u32],
+    source: u32,
+    path: u32,
+    v: u32,
+) -> bool
+    requires { ⌜ Table (now only) (now to) (now paths) (now scores) (path + 1) × (path + 1 < 4294967296) × (v + 1 < 4294967296) ⌝ }
+    ensures { λ r. ⌜ r ≡ any (eqb v) (seen (now (only .entry)) (now (to .entry)) source (now (paths .entry)) path) ⌝ }
+{
+    let mut up = path + 1;
+    while up > 0 {
+        let row = path_at(paths, scores, up - 1);
+        if row.joined == v + 1 {
+            return true;
+        }
+        if row.recovered {
+            return count_in_path(paths, scores, only, to, source, up - 1, v) > 0;
+        }
+        up = row.parent;
+    }
+    false
+}
+
+// The repeat rule: a path is kept if it has guidance, or its last vertex stands in it once.
+pub fn repeat_rule(
+    paths: &[u32],
+    scores: &[f64],
+    only: &[u32],
+    to: &[u32],
+    source: u32,
+    path: u32,
+) -> bool
+    requires { ⌜ Table (now only) (now to) (now paths) (now scores) (path + 1) ⌝ }
+    ensures { λ r. ⌜ r ≡ keeps (now (only .entry)) (now (to .entry)) source (now (paths .entry)) path ⌝ }
+{
+    let row = path_at(paths, scores, path);
+    if row.since == 0 {
+        return true;
+    }
+    count_in_path(paths, scores, only, to, source, path, row.end) <= 1
 }
