@@ -7,3 +7,5 @@ pub mod Cut
 pub mod Grow
 pub mod Extend
 pub mod Visit
+pub mod Link
+pub mod View
