@@ -9,3 +9,4 @@ pub mod Extend
 pub mod Visit
 pub mod Link
 pub mod View
+pub mod Join
