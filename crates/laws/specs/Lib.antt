@@ -6,6 +6,7 @@ pub mod Records
 pub mod Rows
 pub mod BoolLaws
 pub mod Stores
+pub mod Finding
 pub mod Sorting
 pub mod Heaps
 pub mod FloatOrder

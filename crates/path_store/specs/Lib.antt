@@ -10,3 +10,5 @@ pub mod Visit
 pub mod Link
 pub mod View
 pub mod Join
+pub mod Cross
+pub mod Best

@@ -3,3 +3,4 @@ pub mod chains; // chains.rt: the chain of single edges after a vertex
 pub mod records; // records.rt: the record of a path, read from the slices and written to them
 pub mod walks; // walks.rt: a path's vertices counted, and its edges written, along its ancestors
 pub mod growth; // growth.rt: paths are made
+pub mod pivotal; // pivotal.rt: pivotal edges struck out, the best closed path, and where it is split
