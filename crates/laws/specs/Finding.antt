@@ -4,7 +4,9 @@ use mathlib.Core.Logic.{_⊎_, inl, inr}
 use mathlib.Core.Bool.{Bool, true, false, cond}
 use mathlib.Core.List.{List, [], _∷_, _++_, map}
 use mathlib.Core.Option.{Option, none, some}
-use Prim.Native.Nat.{ℕ, zero, suc, _<_}
+use Prim.Native.Nat.{ℕ, zero, suc, _<_, _≤_}
+use native.Mathlib.Omega.{arith}
+use lib.ListN.{length}
 use Rattle.laws.specs.Lists.{dropFirst, position, findLast}
 use Rattle.laws.specs.ListLaws.{All, nil, cons}
 use Rattle.laws.specs.BoolLaws.{Bool-cases}
@@ -21,6 +23,14 @@ module _ {A : Type 0} (p : A → Bool) where
 
   pub position-past : (x : A) (xs : List A) → p x ≡ false → position p (x ∷ xs) ≡ suc (position p xs)
   position-past x xs h = rw (h, position)
+
+  pub position-le : (xs : List A) → position p xs ≤ length xs
+  position-le [] = omega arith
+  position-le (x ∷ xs) = go (Bool-cases (p x)) (position-le xs)
+    where
+      go : (p x ≡ true) ⊎ (p x ≡ false) → position p xs ≤ length xs → position p (x ∷ xs) ≤ suc (length xs)
+      go (inl h) ih = omega (arith, position-hit x xs h)
+      go (inr h) ih = omega (arith, position-past x xs h)
 
   -- the last that passes: by the rest, or else the first element
   pub last-later : (x y : A) (xs : List A) → findLast p xs ≡ some y → findLast p (x ∷ xs) ≡ some y

@@ -12,3 +12,4 @@ pub mod View
 pub mod Join
 pub mod Cross
 pub mod Best
+pub mod Split
