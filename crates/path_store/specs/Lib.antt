@@ -13,3 +13,4 @@ pub mod Join
 pub mod Cross
 pub mod Best
 pub mod Split
+pub mod Recover

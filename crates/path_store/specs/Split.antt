@@ -12,7 +12,7 @@ use lib.Dec.{eqb}
 use lib.ListN.{length, getD, take, drop, drop-of-length-le}
 use lib.Seq.{take-suc, drop-cons, length-take-le, getD-take, take-take}
 use Rattle.laws.specs.Lists.{findLast, position}
-use Rattle.laws.specs.ListLaws.{All, nil, cons, all-mono, all-findLast}
+use Rattle.laws.specs.ListLaws.{All, nil, cons, all-mono}
 use Rattle.laws.specs.BoolLaws.{Bool-cases}
 use Rattle.laws.specs.Finding.{position-le, position-hit, position-past, last-hit, last-miss, last-map, position-map, onSome}
 use Rattle.definition.specs.Threading.{Ends, eqEnds}
@@ -28,7 +28,7 @@ abbrev pub lastInto : List ℕ → ℕ → List ℕ → Option ℕ
 lastInto to v es = findLast (λ d. eqb (getD to d 0) v) es
 
 -- how many edges are kept: 0 where none enters v
-pub splitAt : List ℕ → ℕ → List ℕ → ℕ
+unfoldable pub splitAt : List ℕ → ℕ → List ℕ → ℕ
 splitAt to v es = elim (lastInto to v es) [ none ↦ 0 | some d ↦ suc (position (eqb d) es) ]
 
 -- ---- newer and last_into
@@ -135,24 +135,13 @@ split-some to v es d k e h p = split-some′ to v es (lastInto to v es) (d - 1) 
 
 -- ---- over the definition's edges
 
--- how the definition splits: the last edge into the vertex, and the first place of that edge
-abbrev pub splitEnds : ℕ → List Ends → ℕ
-splitEnds v es = elim (findLast (λ d. eqb (d .to) v) es) [ none ↦ 0 | some d ↦ suc (position (eqEnds d) es) ]
-
--- the last that passes is one of the elements
-last-in : (p : ℕ → Bool) (P : ℕ → Type 0) (es : List ℕ) → All P es → (d : ℕ) → findLast p es ≡ some d → P d
-last-in p P es a d h = all-last a h
-  where
-    all-last : {xs : List ℕ} → All P xs → findLast p xs ≡ some d → P d
-    all-last a h = all-findLast p a h .0
-
 module _ (f : SearchInput) (only to : List ℕ) (ends : ℕ → Ends) (A : Agrees f only to ends) where
-  last-ends : (v : ℕ) (es : List ℕ) → findLast (λ (d : Ends). eqb (d .to) v) (map ends es) ≡ onSome ends (lastInto to v es)
+  pub last-ends : (v : ℕ) (es : List ℕ) → findLast (λ (d : Ends). eqb (d .to) v) (map ends es) ≡ onSome ends (lastInto to v es)
   last-ends v es = last-map (λ d. eqb (getD to d 0) v) (λ (d : Ends). eqb (d .to) v) ends es (every es)
     where
       every : (es : List ℕ) → All (λ x. eqb (ends x .to) v ≡ eqb (getD to x 0) v) es
       every [] = nil
       every (x ∷ es) = cons (ap (λ y. eqb y v) (A .target x)) (every es)
 
-  place-ends : (d : ℕ) (es : List ℕ) → d < length to → All (λ x. x < length to) es → position (eqEnds (ends d)) (map ends es) ≡ position (eqb d) es
+  pub place-ends : (d : ℕ) (es : List ℕ) → d < length to → All (λ x. x < length to) es → position (eqEnds (ends d)) (map ends es) ≡ position (eqb d) es
   place-ends d es l a = position-map (eqb d) (eqEnds (ends d)) ends es (all-mono (λ x h. A .apart d x l h) a)
