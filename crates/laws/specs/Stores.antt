@@ -1,10 +1,10 @@
 -- Runs of stores into a list: one after the other, and from the back.
 use mathlib.Core.Path.{_≡_, refl, sym, ap, _∙_}
 use mathlib.Core.List.{List, [], _∷_, _++_}
-use Prim.Native.Nat.{ℕ, zero, suc, _+_, _<_}
+use Prim.Native.Nat.{ℕ, zero, suc, _+_, _<_, _≤_}
 use native.Mathlib.Omega.{arith}
-use lib.ListN.{length, set}
-use lib.Seq.{sets, set-comm}
+use lib.ListN.{length, set, take, drop}
+use lib.Seq.{sets, set-comm, sets-eq, take-append-le, take-length}
 
 module _ {A : Type 0} where
   pub sets-append : (l : List A) (i : ℕ) (a b : List A) → sets l i (a ++ b) ≡ sets (sets l i a) (i + length a) b
@@ -27,3 +27,14 @@ module _ {A : Type 0} where
       ap (λ (m : List A). sets m (suc i) a) (set-sets l i x (i + suc (length a)) b (omega arith))
       ∙ ap (λ (k : ℕ). sets (sets (set l i x) k b) (suc i) a) e
       ∙ sets-back (set l i x) (suc i) a b
+
+  -- what was stored at the front is read there
+  pub take-sets : (l vs : List A) → length vs ≤ length l → take (length vs) (sets l 0 vs) ≡ vs
+  take-sets l vs h =
+      ap (λ (x : List A). take (length vs) x) (sets-eq vs l 0 (omega arith))
+      ∙ take-append-le (length vs) vs (drop (0 + length vs) l) (omega arith)
+      ∙ take-length vs
+
+  -- one store behind a run of stores
+  pub sets-more : (l : List A) (i : ℕ) (a : List A) (x : A) → sets l i (a ++ x ∷ []) ≡ set (sets l i a) (i + length a) x
+  sets-more l i a x = sets-append l i a (x ∷ [])

@@ -4,3 +4,4 @@ pub mod records; // records.rt: the record of a path, read from the slices and w
 pub mod walks; // walks.rt: a path's vertices counted, and its edges written, along its ancestors
 pub mod growth; // growth.rt: paths are made
 pub mod pivotal; // pivotal.rt: pivotal edges struck out, the best closed path, and where it is split
+pub mod writing; // writing.rt: the bases and origins of a path
