@@ -33,7 +33,7 @@ pub record Store : Type 0 where
   pub scores : List Float
 
 -- the record n becomes `row`, or the path has too many edges
-pub grow : List ℕ → List Float → ℕ → PathRecord → ℕ → Store
+unfoldable pub grow : List ℕ → List Float → ℕ → PathRecord → ℕ → Store
 grow t sc n row most =
     elim (leb (row .edges) most) [
       | true ↦ record { answer = Made n; cells = putCells t n row; scores = set sc n (row .score) }
@@ -126,7 +126,7 @@ joinedRow row v =
     }
 
 -- the tree at v joins the path r, or there are too many
-pub join : List ℕ → List Float → ℕ → ℕ → ℕ → Store
+unfoldable pub join : List ℕ → List Float → ℕ → ℕ → ℕ → Store
 join t sc r v most =
     elim (ltb (treesOf t r) most) [
       | true ↦ record { answer = Made r; cells = putCells t r (joinedRow (pathAt t sc r) v); scores = set sc r (scoreOf sc r) }

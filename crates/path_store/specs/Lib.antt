@@ -16,3 +16,4 @@ pub mod Split
 pub mod Recover
 pub mod Close
 pub mod Writing
+pub mod Held
