@@ -4,6 +4,11 @@ pub mod Numbers
 pub mod Insertion
 pub mod Records
 pub mod Rows
+pub mod BoolLaws
+pub mod Stores
+pub mod Finding
+pub mod Sorting
+pub mod Heaps
 pub mod FloatOrder
 pub mod FloatFacts
 pub mod FloatSums

@@ -1,0 +1,167 @@
+// Chains of single edges. `only` has for each vertex the number + 1 of its sole out-edge where a chain goes on there, else 0; `to` has each edge's target.
+ghost use mathlib.Core.Path.{_≡_};
+ghost use mathlib.Core.Bool.{cond};
+ghost use Prim.Native.Nat.{ℕ, _+_, _-_, _*_, _<_, _≤_};
+ghost use lib.Dec.{eqb};
+ghost use lib.ListN.{length, getD};
+ghost use lib.Seq.{sets};
+ghost use Rattle.laws.specs.Lists.{any};
+ghost use Rattle.path_store.specs.Walk.{Graph, Runs, after, run, next, sole, hits};
+ghost use Rattle.path_store.specs.Steps.{Plain, Chained};
+
+pub fn wide(x: u32) -> usize
+    ensures { λ r. ⌜ (r ≡ x) × (r < 4294967296) ⌝ }
+{
+    x as usize
+}
+
+// 1 if the two are equal, else 0.
+pub fn same(a: u32, b: u32) -> usize
+    ensures { λ r. ⌜ r ≡ cond (eqb a b) 1 0 ⌝ }
+{
+    if a == b {
+        return 1;
+    }
+    0
+}
+
+// The number at a place.
+pub fn at(s: &[u32], i: u32) -> u32
+    requires { ⌜ i < length (now s) ⌝ }
+    ensures { λ r. ⌜ r ≡ getD (now (s .entry)) i 0 ⌝ }
+{
+    s[i as usize]
+}
+
+// The sole edge at a vertex where a chain goes on.
+pub fn sole(only: &[u32], v: u32) -> u32
+    requires { ⌜ (v < length (now only)) × (0 < getD (now only) v 0) ⌝ }
+    ensures { λ r. ⌜ r ≡ sole (now (only .entry)) v ⌝ }
+{
+    let e = at(only, v);
+    e - 1
+}
+
+// Where that edge leads.
+pub fn next(only: &[u32], to: &[u32], v: u32) -> u32
+    requires { ⌜ Graph (now only) (now to) × (v < length (now only)) × (0 < getD (now only) v 0) ⌝ }
+    ensures { λ r. ⌜ r ≡ next (now (only .entry)) (now (to .entry)) v ⌝ }
+{
+    at(to, sole(only, v))
+}
+
+// The steps from v until a stop, or the limit.
+fn chain_plain(only: &[u32], to: &[u32], v: u32, limit: usize) -> usize
+    requires { ⌜ Graph (now only) (now to) × (v < length (now only)) ⌝ }
+    ensures { λ r. ⌜ Plain (now (only .entry)) (now (to .entry)) v limit r ⌝ }
+{
+    let mut u = v;
+    let mut i: usize = 0;
+    while i < limit {
+        let e = at(only, u);
+        if e == 0 {
+            return i;
+        }
+        u = next(only, to, u);
+        i += 1;
+    }
+    i
+}
+
+// The edge e is one of the n that follow v.
+fn among_chain(only: &[u32], to: &[u32], v: u32, n: usize, e: u32) -> bool
+    requires { ⌜ Graph (now only) (now to) × (v < length (now only)) × Runs (now only) (now to) v n ⌝ }
+    ensures { λ r. ⌜ r ≡ any (eqb e) (run (now (only .entry)) (now (to .entry)) v n) ⌝ }
+{
+    let mut u = v;
+    let mut left = n;
+    while left > 0 {
+        let d = sole(only, u);
+        if e == d {
+            return true;
+        }
+        u = next(only, to, u);
+        left -= 1;
+    }
+    false
+}
+
+// The length of the chain of v where it may close a ring: each edge is looked up among those before it.
+fn chain_slow(only: &[u32], to: &[u32], v: u32) -> usize
+    requires { ⌜ Graph (now only) (now to) × (v < length (now only)) ⌝ }
+    ensures { λ r. ⌜ Chained (now (only .entry)) (now (to .entry)) v r ⌝ }
+{
+    let mut u = v;
+    let mut i: usize = 0;
+    while i < to.len() {
+        let x = at(only, u);
+        if x == 0 {
+            return i;
+        }
+        let e = sole(only, u);
+        if among_chain(only, to, v, i, e) {
+            return i;
+        }
+        u = next(only, to, u);
+        i += 1;
+    }
+    i
+}
+
+// The length of the chain of v. A run that stops within the number of edges meets no edge twice, so the slow way is left for rings.
+pub fn chain_length(only: &[u32], to: &[u32], v: u32) -> usize
+    requires { ⌜ Graph (now only) (now to) × (v < length (now only)) ⌝ }
+    ensures { λ r. ⌜ Chained (now (only .entry)) (now (to .entry)) v r ⌝ }
+{
+    let c = chain_plain(only, to, v, to.len());
+    if c < to.len() {
+        return c;
+    }
+    chain_slow(only, to, v)
+}
+
+// The vertex c steps after v.
+pub fn walk(only: &[u32], to: &[u32], v: u32, c: usize) -> u32
+    requires { ⌜ Graph (now only) (now to) × (v < length (now only)) × Runs (now only) (now to) v c ⌝ }
+    ensures { λ r. ⌜ r ≡ after (now (only .entry)) (now (to .entry)) v c ⌝ }
+{
+    let mut u = v;
+    let mut left = c;
+    while left > 0 {
+        u = next(only, to, u);
+        left -= 1;
+    }
+    u
+}
+
+// How often v stands among the c vertices that follow the start.
+pub fn count_chain(only: &[u32], to: &[u32], start: u32, c: u32, v: u32) -> usize
+    requires { ⌜ Graph (now only) (now to) × (start < length (now only)) × Runs (now only) (now to) start c ⌝ }
+    ensures { λ r. ⌜ r ≡ hits (now (to .entry)) v (run (now (only .entry)) (now (to .entry)) start c) ⌝ }
+{
+    let mut u = start;
+    let mut left = c;
+    let mut n: usize = 0;
+    while left > 0 {
+        u = next(only, to, u);
+        left -= 1;
+        n += same(v, u);
+    }
+    n
+}
+
+// The c edges that follow the start, from the place at on.
+pub fn write_chain(only: &[u32], to: &[u32], out: &mut [u32], at: usize, start: u32, c: u32)
+    requires { ⌜ Graph (now only) (now to) × (start < length (now only)) × Runs (now only) (now to) start c × (at + c ≤ length (now out)) ⌝ }
+    ensures { λ _. ⌜ now (out .exit) ≡ sets (now (out .entry)) at (run (now (only .entry)) (now (to .entry)) start c) ⌝ }
+{
+    let mut u = start;
+    let mut left = c;
+    let mut i = at;
+    while left > 0 {
+        out[i] = sole(only, u);
+        u = next(only, to, u);
+        left -= 1;
+        i += 1;
+    }
+}

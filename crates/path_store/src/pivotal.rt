@@ -1,0 +1,189 @@
+// Pivotal edges: those of a path are struck out, the best closed path through a vertex is found, and the place where it is split.
+ghost use mathlib.Core.Path.{_≡_};
+ghost use Prim.Native.Nat.{ℕ, _+_, _-_, _*_, _<_, _≤_};
+ghost use lib.ListN.{length, getD, take};
+ghost use Rattle.path_store.specs.Walk.{Graph, Runs, run};
+ghost use Rattle.path_store.specs.Path.{lastEdge, Piece, pieceOf, Table, edges};
+ghost use Rattle.path_store.specs.Cross.{clears};
+ghost use Rattle.path_store.specs.Cells.{Inside};
+ghost use Rattle.path_store.specs.Best.{better, bestOf, ClosedIn};
+ghost use Rattle.path_store.specs.Split.{newer, found, lastInto, splitAt};
+ghost use Rattle.laws.specs.Lists.{position};
+ghost use lib.Dec.{eqb};
+use crate::chains::at;
+use crate::chains::next;
+use crate::chains::sole;
+use crate::chains::wide;
+use crate::records::path_at;
+use crate::walks::count_in_path;
+
+// The marks of the c edges that follow the start are cleared.
+fn clear_chain(only: &[u32], to: &[u32], marks: &mut [u32], start: u32, c: u32)
+    requires { ⌜ Graph (now only) (now to) × (start < length (now only)) × Runs (now only) (now to) start c × (length (now to) ≤ length (now marks)) ⌝ }
+    ensures { λ _. ⌜ now (marks .exit) ≡ clears (now (marks .entry)) (run (now (only .entry)) (now (to .entry)) start c) ⌝ }
+{
+    let mut u = start;
+    let mut left = c;
+    while left > 0 {
+        let i = wide(sole(only, u));
+        marks[i] = 0;
+        u = next(only, to, u);
+        left -= 1;
+    }
+}
+
+// The mark of a last edge is cleared, whose number + 1 is l.
+fn clear_last(marks: &mut [u32], l: u32)
+    requires { ⌜ l ≤ length (now marks) ⌝ }
+    ensures { λ _. ⌜ now (marks .exit) ≡ clears (now (marks .entry)) (lastEdge l) ⌝ }
+{
+    if l == 0 {
+        return;
+    }
+    let i = wide(l - 1);
+    marks[i] = 0;
+}
+
+// The marks of the edges that the path adds to its parent are cleared.
+fn clear_piece(
+    paths: &[u32],
+    scores: &[f64],
+    only: &[u32],
+    to: &[u32],
+    marks: &mut [u32],
+    path: u32,
+)
+    requires { ⌜ Piece (now only) (now to) (now paths) (now scores) path × (length (now to) ≤ length (now marks)) ⌝ }
+    ensures { λ _. ⌜ now (marks .exit) ≡ clears (now (marks .entry)) (pieceOf (now (only .entry)) (now (to .entry)) (now (paths .entry)) path) ⌝ }
+{
+    let row = path_at(paths, scores, path);
+    let parent = path_at(paths, scores, row.parent - 1);
+    clear_chain(only, to, marks, parent.end, row.chain);
+    clear_last(marks, row.edge);
+}
+
+// The edges of a path are no longer pivotal: their marks are cleared.
+pub fn cross_off(
+    paths: &[u32],
+    scores: &[f64],
+    only: &[u32],
+    to: &[u32],
+    marks: &mut [u32],
+    path: u32,
+)
+    requires { ⌜ Table (now only) (now to) (now paths) (now scores) (path + 1) × (length (now to) ≤ length (now marks)) ⌝ }
+    ensures { λ _. ⌜ now (marks .exit) ≡ clears (now (marks .entry)) (edges (now (only .entry)) (now (to .entry)) (now (paths .entry)) path) ⌝ }
+{
+    let mut r = path;
+    let first = path_at(paths, scores, r);
+    let mut p = first.parent;
+    while p > 0 {
+        clear_piece(paths, scores, only, to, marks, r);
+        r = p - 1;
+        let row = path_at(paths, scores, r);
+        p = row.parent;
+    }
+}
+
+// Of a closed path and the best of those that closed after it, whose number + 1 is best (0: none): ties go to the later.
+fn better(
+    paths: &[u32],
+    scores: &[f64],
+    only: &[u32],
+    to: &[u32],
+    source: u32,
+    path: u32,
+    v: u32,
+    best: u32,
+) -> u32
+    requires { ⌜ Table (now only) (now to) (now paths) (now scores) (path + 1) × (path + 1 < 4294967296) × (0 < best → Inside (now paths) (now scores) (best - 1)) ⌝ }
+    ensures { λ r. ⌜ r ≡ better (now (only .entry)) (now (to .entry)) source (now (paths .entry)) (now (scores .entry)) v path best ⌝ }
+{
+    if count_in_path(paths, scores, only, to, source, path, v) == 0 {
+        return best;
+    }
+    if best == 0 {
+        return path + 1;
+    }
+    let later = path_at(paths, scores, best - 1);
+    let row = path_at(paths, scores, path);
+    if later.score < row.score {
+        return path + 1;
+    }
+    best
+}
+
+// The number + 1 of the best of the closed paths that go through v, or 0: the greatest score, ties to the later closed.
+pub fn best_through(
+    paths: &[u32],
+    scores: &[f64],
+    only: &[u32],
+    to: &[u32],
+    source: u32,
+    closed: &[u32],
+    count: usize,
+    v: u32,
+) -> u32
+    requires { ⌜ ClosedIn (now only) (now to) source (now paths) (now scores) v (now closed) count ⌝ }
+    ensures { λ r. ⌜ r ≡ bestOf (now (only .entry)) (now (to .entry)) source (now (paths .entry)) (now (scores .entry)) v (take count (now (closed .entry))) ⌝ }
+{
+    let mut best: u32 = 0;
+    let mut i = count;
+    while i > 0 {
+        i -= 1;
+        best = better(paths, scores, only, to, source, closed[i], v, best);
+    }
+    best
+}
+
+// The edge e where it enters v, else the one that was found last; each as its number + 1.
+fn newer(to: &[u32], e: u32, v: u32, last: u32) -> u32
+    requires { ⌜ (e < length (now to)) × (e + 1 < 4294967296) ⌝ }
+    ensures { λ r. ⌜ r ≡ newer (now (to .entry)) v e last ⌝ }
+{
+    if at(to, e) == v {
+        return e + 1;
+    }
+    last
+}
+
+// The number + 1 of the last of the first n edges of a walk that enters v, or 0.
+fn last_into(walk: &[u32], n: usize, to: &[u32], v: u32) -> u32
+    requires { ⌜ (n ≤ length (now walk)) × ((i : ℕ) → i < n → getD (now walk) i 0 < length (now to)) × (length (now to) < 4294967295) ⌝ }
+    ensures { λ r. ⌜ r ≡ found (lastInto (now (to .entry)) v (take n (now (walk .entry)))) ⌝ }
+{
+    let mut last: u32 = 0;
+    let mut i: usize = 0;
+    while i < n {
+        last = newer(to, walk[i], v, last);
+        i += 1;
+    }
+    last
+}
+
+// The first place of the edge e among the first n of a walk; n where it is not there.
+fn first_place(walk: &[u32], n: usize, e: u32) -> usize
+    requires { ⌜ n ≤ length (now walk) ⌝ }
+    ensures { λ r. ⌜ r ≡ position (eqb e) (take n (now (walk .entry))) ⌝ }
+{
+    let mut i: usize = 0;
+    while i < n {
+        if e == walk[i] {
+            return i;
+        }
+        i += 1;
+    }
+    i
+}
+
+// How many of the first n edges of a walk a recovered path keeps: those up to the first place of the last edge into v; 0 where none enters v.
+pub fn split_place(walk: &[u32], n: usize, to: &[u32], v: u32) -> usize
+    requires { ⌜ (n ≤ length (now walk)) × ((i : ℕ) → i < n → getD (now walk) i 0 < length (now to)) × (length (now to) < 4294967295) ⌝ }
+    ensures { λ r. ⌜ r ≡ splitAt (now (to .entry)) v (take n (now (walk .entry))) ⌝ }
+{
+    let d = last_into(walk, n, to, v);
+    if d == 0 {
+        return 0;
+    }
+    first_place(walk, n, d - 1) + 1
+}

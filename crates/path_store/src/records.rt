@@ -1,0 +1,73 @@
+// The record of a path: a struct by value, read from the lent slices by `path_at` and written by `path_put`.
+ghost use mathlib.Core.Path.{_≡_};
+ghost use mathlib.Core.Bool.{cond};
+ghost use Prim.Native.Nat.{_<_, _≤_};
+ghost use Rattle.path_store.specs.Cells.{pathAt, Inside, Stored};
+
+// A path: its score, its parent's number + 1 (0: the start path, which has no edges), the piece that it adds to its parent's edges (the length of the
+// chain followed from the parent's last vertex, then the last edge + 1, or 0 where it ends with the chain), how many edges it has in all, its last
+// vertex, the decisions since guidance, the vertex + 1 whose tree joined when the path was taken (0: none), how many active trees it has, and whether
+// it was recovered, so that all its vertices with a tree count as visited.
+pub struct PathRecord {
+    pub score: f64,
+    pub parent: u32,
+    pub chain: u32,
+    pub edge: u32,
+    pub edges: u32,
+    pub end: u32,
+    pub since: u32,
+    pub joined: u32,
+    pub trees: u32,
+    pub recovered: bool,
+}
+
+// 1 for true, 0 for false.
+fn bit(b: bool) -> u32
+    ensures { λ r. ⌜ (r ≡ cond b 1 0) × (r ≤ 1) ⌝ }
+{
+    if b {
+        return 1;
+    }
+    0
+}
+
+// The record r.
+pub fn path_at(paths: &[u32], scores: &[f64], r: u32) -> PathRecord
+    requires { ⌜ Inside (now paths) (now scores) r ⌝ }
+    ensures { λ row. ⌜ row ≡ pathAt (now (paths .entry)) (now (scores .entry)) r ⌝ }
+{
+    let i = r as usize;
+    let at = i * 8;
+    let marks = paths[at + 7];
+    PathRecord {
+        score: scores[i],
+        parent: paths[at + 0],
+        chain: paths[at + 1],
+        edge: paths[at + 2],
+        edges: paths[at + 3],
+        end: paths[at + 4],
+        since: paths[at + 5],
+        joined: paths[at + 6],
+        trees: marks / 2,
+        recovered: marks % 2 == 1,
+    }
+}
+
+// The record r becomes `row`. The mark of a recovered path stands in the lowest bit beside the number of trees.
+pub fn path_put(paths: &mut [u32], scores: &mut [f64], r: u32, row: PathRecord)
+    requires { ⌜ Inside (now paths) (now scores) r × (row .trees < 2147483648) ⌝ }
+    ensures { λ _. ⌜ Stored (now (paths .entry)) (now (scores .entry)) r row (now (paths .exit)) (now (scores .exit)) ⌝ }
+{
+    let i = r as usize;
+    let at = i * 8;
+    let marks = row.trees * 2 + bit(row.recovered);
+    scores[i] = row.score;
+    paths[at + 0] = row.parent;
+    paths[at + 1] = row.chain;
+    paths[at + 2] = row.edge;
+    paths[at + 3] = row.edges;
+    paths[at + 4] = row.end;
+    paths[at + 5] = row.since;
+    paths[at + 6] = row.joined;
+    paths[at + 7] = marks;
+}

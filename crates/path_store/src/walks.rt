@@ -1,0 +1,166 @@
+// Walks up the parents of a path: how often a vertex stands in it, and its edges in order.
+ghost use mathlib.Core.Path.{_≡_};
+ghost use Prim.Native.Nat.{ℕ, _+_, _-_, _*_, _<_, _≤_};
+ghost use lib.ListN.{length};
+ghost use lib.Seq.{sets};
+ghost use Rattle.path_store.specs.Walk.{hits, times};
+ghost use Rattle.path_store.specs.Cells.{parentOf, countOf};
+ghost use lib.Dec.{eqb};
+ghost use Rattle.laws.specs.Lists.{any};
+ghost use Rattle.path_store.specs.Visit.{seen, keeps};
+ghost use Rattle.path_store.specs.Path.{lastEdge, Piece, pieceOf, Table, edges};
+use crate::chains::at;
+use crate::chains::count_chain;
+use crate::chains::same;
+use crate::chains::wide;
+use crate::chains::write_chain;
+use crate::records::path_at;
+
+// How often v is the target of a last edge, whose number + 1 is l.
+fn count_last(to: &[u32], l: u32, v: u32) -> usize
+    requires { ⌜ l ≤ length (now to) ⌝ }
+    ensures { λ r. ⌜ r ≡ hits (now (to .entry)) v (lastEdge l) ⌝ }
+{
+    if l == 0 {
+        return 0;
+    }
+    same(v, at(to, l - 1))
+}
+
+// How often v is the target of an edge that the path adds to its parent.
+fn count_piece(paths: &[u32], scores: &[f64], only: &[u32], to: &[u32], path: u32, v: u32) -> usize
+    requires { ⌜ Piece (now only) (now to) (now paths) (now scores) path ⌝ }
+    ensures { λ k. ⌜ k ≡ hits (now (to .entry)) v (pieceOf (now (only .entry)) (now (to .entry)) (now (paths .entry)) path) ⌝ }
+{
+    let row = path_at(paths, scores, path);
+    let parent = path_at(paths, scores, row.parent - 1);
+    count_chain(only, to, parent.end, row.chain, v) + count_last(to, row.edge, v)
+}
+
+// How often v stands among the vertices of a path.
+pub fn count_in_path(
+    paths: &[u32],
+    scores: &[f64],
+    only: &[u32],
+    to: &[u32],
+    source: u32,
+    path: u32,
+    v: u32,
+) -> usize
+    requires { ⌜ Table (now only) (now to) (now paths) (now scores) (path + 1) ⌝ }
+    ensures { λ k. ⌜ k ≡ times (now (to .entry)) source v (edges (now (only .entry)) (now (to .entry)) (now (paths .entry)) path) ⌝ }
+{
+    let mut k: usize = 0;
+    let mut r = path;
+    let first = path_at(paths, scores, r);
+    let mut p = first.parent;
+    while p > 0 {
+        k += count_piece(paths, scores, only, to, r, v);
+        r = p - 1;
+        let row = path_at(paths, scores, r);
+        p = row.parent;
+    }
+    k + same(v, source)
+}
+
+// A last edge is written, whose number + 1 is l.
+fn write_last(out: &mut [u32], at: usize, l: u32)
+    requires { ⌜ at + length (lastEdge l) ≤ length (now out) ⌝ }
+    ensures { λ _. ⌜ now (out .exit) ≡ sets (now (out .entry)) at (lastEdge l) ⌝ }
+{
+    if l == 0 {
+        return;
+    }
+    out[at] = l - 1;
+}
+
+// The edges that the path adds are written behind its parent's, which start at the place at.
+fn write_piece(
+    paths: &[u32],
+    scores: &[f64],
+    only: &[u32],
+    to: &[u32],
+    out: &mut [u32],
+    at: usize,
+    path: u32,
+)
+    requires { ⌜ Piece (now only) (now to) (now paths) (now scores) path × (at + countOf (now paths) (parentOf (now paths) path - 1) + length (pieceOf (now only) (now to) (now paths) path) ≤ length (now out)) ⌝ }
+    ensures { λ _. ⌜ now (out .exit) ≡ sets (now (out .entry)) (at + countOf (now (paths .entry)) (parentOf (now (paths .entry)) path - 1)) (pieceOf (now (only .entry)) (now (to .entry)) (now (paths .entry)) path) ⌝ }
+{
+    let row = path_at(paths, scores, path);
+    let parent = path_at(paths, scores, row.parent - 1);
+    let from = at + wide(parent.edges);
+    let c = wide(row.chain);
+    write_chain(only, to, out, from, parent.end, row.chain);
+    write_last(out, from + c, row.edge);
+}
+
+// The edges of a path, in order, from the place at on: filled from the back.
+pub fn write_path(
+    paths: &[u32],
+    scores: &[f64],
+    only: &[u32],
+    to: &[u32],
+    out: &mut [u32],
+    at: usize,
+    path: u32,
+)
+    requires { ⌜ Table (now only) (now to) (now paths) (now scores) (path + 1) × (at + countOf (now paths) path ≤ length (now out)) ⌝ }
+    ensures { λ _. ⌜ now (out .exit) ≡ sets (now (out .entry)) at (edges (now (only .entry)) (now (to .entry)) (now (paths .entry)) path) ⌝ }
+{
+    let mut r = path;
+    let first = path_at(paths, scores, r);
+    let mut p = first.parent;
+    while p > 0 {
+        write_piece(paths, scores, only, to, out, at, r);
+        r = p - 1;
+        let row = path_at(paths, scores, r);
+        p = row.parent;
+    }
+}
+
+// Whether the tree at v counts as visited by a path: it joined the path or an ancestor, or it stands on the nearest recovered path above.
+pub fn has_visited(
+    paths: &[u32],
+    scores: &[f64],
+    only: &[u32],
+    to: &[u32],
+    source: u32,
+    path: u32,
+    v: u32,
+) -> bool
+    requires { ⌜ Table (now only) (now to) (now paths) (now scores) (path + 1) × (path + 1 < 4294967296) × (v + 1 < 4294967296) ⌝ }
+    ensures { λ r. ⌜ r ≡ any (eqb v) (seen (now (only .entry)) (now (to .entry)) source (now (paths .entry)) path) ⌝ }
+{
+    let mut up = path + 1;
+    while up > 0 {
+        let row = path_at(paths, scores, up - 1);
+        if row.joined == v + 1 {
+            return true;
+        }
+        if row.recovered {
+            return count_in_path(paths, scores, only, to, source, up - 1, v) > 0;
+        }
+        up = row.parent;
+    }
+    false
+}
+
+// The repeat rule: a path is kept if it has guidance, or its last vertex stands in it once.
+pub fn repeat_rule(
+    paths: &[u32],
+    scores: &[f64],
+    only: &[u32],
+    to: &[u32],
+    source: u32,
+    path: u32,
+) -> bool
+    requires { ⌜ Table (now only) (now to) (now paths) (now scores) (path + 1) ⌝ }
+    ensures { λ r. ⌜ r ≡ keeps (now (only .entry)) (now (to .entry)) source (now (paths .entry)) path ⌝ }
+{
+    let row = path_at(paths, scores, path);
+    if row.since == 0 {
+        return true;
+    }
+    count_in_path(paths, scores, only, to, source, path, row.end) <= 1
+}
