@@ -1,0 +1,4 @@
+pub mod Degrees
+pub mod Roots
+pub mod Steps
+pub mod Stretches
