@@ -7,6 +7,7 @@ use assembly::find_kmer;
 use assembly::incoming_count;
 use assembly::out_edge;
 use assembly::wide;
+use junction_tree_graph::Built;
 use junction_tree_graph::run_end;
 use junction_tree_graph::wide_byte;
 use threading_tree::Grown;
@@ -20,10 +21,14 @@ ghost use Prim.Native.Nat.{ℕ, _+_, _-_, _*_, _^_, _<_, _≤_};
 ghost use lib.ListN.{length, getD};
 ghost use Rattle.laws.specs.Records.{field, putField};
 ghost use Rattle.assembly.specs.Store.{code};
+ghost use Rattle.junction_tree_graph.specs.Reads.{readOf, readsOf};
+ghost use Rattle.junction_tree_graph.specs.Built.{sampleOf};
 ghost use Rattle.junction_trees.specs.Degrees.{slotsFull, Outs, sharedAt, anyShared, Warrants, OnlyOut};
 ghost use Rattle.junction_trees.specs.Roots.{Cleared};
 ghost use Rattle.junction_trees.specs.Steps.{Passing, Passed, Ending, Ended};
 ghost use Rattle.junction_trees.specs.Stretches.{Walks, Walking, walkOf};
+ghost use Rattle.junction_trees.specs.Reads.{ReadWalks, ReadsWalk, walksOf};
+ghost use Rattle.junction_trees.specs.Trees.{Gathers, Gathered};
 
 const VERTEX: usize = 12;
 
@@ -270,4 +275,170 @@ fn walk_stretch(
         return Evidence::Refused(9);
     };
     Evidence::Trees(t.nodes)
+}
+
+// ---- all walks
+
+// A usable run of `len` bytes at place a of the text: only stretches longer than k are walked.
+fn walk_run(
+    reference: &[u8],
+    bases: &[u8],
+    vertices: &mut [u32],
+    edges: &[u32],
+    nodes: &mut [u32],
+    active: &mut [u32],
+    d: Ground,
+    a: usize,
+    len: usize,
+    count: usize,
+) -> Evidence
+    requires { ⌜ Walks d (now reference ++ now bases) (now vertices) (now edges) (now nodes) (now active) a len count ⌝ }
+    ensures { λ r. ⌜ Walking (walkOf d (now (reference .entry) ++ now (bases .entry)) (now (vertices .entry)) (now (edges .entry)) a len) d a (a + len) count (now (vertices .entry)) (now (vertices .exit)) (now (nodes .entry)) (now (nodes .exit)) (now (active .entry)) (now (active .exit)) r ⌝ }
+{
+    if len <= d.k {
+        return Evidence::Trees(count);
+    }
+    walk_stretch(
+        reference,
+        bases,
+        vertices,
+        edges,
+        nodes,
+        active,
+        d,
+        a,
+        len,
+        count,
+    )
+}
+
+// The read that lies from `start` to `end` of the bases: one usable run after the other.
+fn walk_read(
+    reference: &[u8],
+    bases: &[u8],
+    qualities: &[u8],
+    vertices: &mut [u32],
+    edges: &[u32],
+    nodes: &mut [u32],
+    active: &mut [u32],
+    quality: u8,
+    d: Ground,
+    start: usize,
+    end: usize,
+    count: usize,
+) -> Evidence
+    requires { ⌜ ReadWalks d (now reference) (now bases) (now qualities) (now vertices) (now edges) (now nodes) (now active) start end count ⌝ }
+    ensures { λ r. ⌜ ((q : ℕ) → Walking (walksOf d (now (reference .entry) ++ now (bases .entry)) (now (vertices .entry)) (now (edges .entry)) (readOf (d .k) quality (now (bases .entry)) (now (qualities .entry)) q start end)) d (length (now (reference .entry)) + start) (length (now (reference .entry)) + end) count (now (vertices .entry)) (now (vertices .exit)) (now (nodes .entry)) (now (nodes .exit)) (now (active .entry)) (now (active .exit)) r) ⌝ }
+{
+    let n = reference.len();
+    let mut c = count;
+    let mut p = start;
+    while p < end {
+        let q = run_end(bases, qualities, quality, p, end);
+        let r = walk_run(
+            reference,
+            bases,
+            vertices,
+            edges,
+            nodes,
+            active,
+            d,
+            n + p,
+            q - p,
+            c,
+        );
+        let Evidence::Trees(more) = r else {
+            return r;
+        };
+        c = more;
+        p = q + 1;
+    }
+    Evidence::Trees(c)
+}
+
+// All reads in order; read j ends at ends[j].
+fn generate_junction_trees(
+    reference: &[u8],
+    ends: &[u32],
+    bases: &[u8],
+    qualities: &[u8],
+    vertices: &mut [u32],
+    edges: &[u32],
+    nodes: &mut [u32],
+    active: &mut [u32],
+    quality: u8,
+    d: Ground,
+    count: usize,
+) -> Evidence
+    requires { ⌜ ReadsWalk d (now reference) (now ends) (now bases) (now qualities) (now vertices) (now edges) (now nodes) (now active) count ⌝ }
+    ensures { λ r. ⌜ Walking (walksOf d (now (reference .entry) ++ now (bases .entry)) (now (vertices .entry)) (now (edges .entry)) (readsOf (d .k) quality (now (ends .entry)) (now (bases .entry)) (now (qualities .entry)))) d (length (now (reference .entry))) (length (now (reference .entry) ++ now (bases .entry))) count (now (vertices .entry)) (now (vertices .exit)) (now (nodes .entry)) (now (nodes .exit)) (now (active .entry)) (now (active .exit)) r ⌝ }
+{
+    let mut c = count;
+    let mut start: usize = 0;
+    let mut j: usize = 0;
+    while j < ends.len() {
+        let end = wide(ends[j]);
+        let r = walk_read(
+            reference,
+            bases,
+            qualities,
+            vertices,
+            edges,
+            nodes,
+            active,
+            quality,
+            d,
+            start,
+            end,
+            c,
+        );
+        let Evidence::Trees(more) = r else {
+            return r;
+        };
+        c = more;
+        start = end;
+        j += 1;
+    }
+    Evidence::Trees(c)
+}
+
+// The junction trees of a sample whose graph is built, in a table that is zero so far; or 9, just where they have more than `most` nodes.
+pub fn build_trees(
+    k: usize,
+    quality: u8,
+    reference: &[u8],
+    ends: &[u32],
+    bases: &[u8],
+    qualities: &[u8],
+    vertices: &mut [u32],
+    edges: &[u32],
+    nodes: &mut [u32],
+    active: &mut [u32],
+    built: Built,
+    most: usize,
+) -> Evidence
+    requires { ⌜ Gathers (sampleOf k quality (now reference) (now ends) (now bases) (now qualities)) (now vertices) (now edges) (now nodes) (now active) built most ⌝ }
+    ensures { λ r. ⌜ Gathered (sampleOf k quality (now (reference .entry)) (now (ends .entry)) (now (bases .entry)) (now (qualities .entry))) (now (vertices .entry)) (now (vertices .exit)) (now (nodes .entry)) (now (nodes .exit)) (now (active .entry)) (now (active .exit)) built most r ⌝ }
+{
+    let d = Ground {
+        k: k,
+        vertices: built.vertices,
+        edges: built.edges,
+        sink: built.sink,
+        most: most,
+    };
+    clear_roots(vertices, d.vertices);
+    generate_junction_trees(
+        reference,
+        ends,
+        bases,
+        qualities,
+        vertices,
+        edges,
+        nodes,
+        active,
+        quality,
+        d,
+        0,
+    )
 }
