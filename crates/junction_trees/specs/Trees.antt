@@ -1,9 +1,8 @@
 -- The whole: what the built graph gives, the roots cleared and then all walks, and when the trees fit the maximum. Assumes nothing.
-use mathlib.Core.Path.{_≡_, refl, sym, ap, _∙_}
-use mathlib.Core.Logic.{_≢_, inl, inr}
-use mathlib.Core.Bool.{Bool, true, false}
-use mathlib.Core.List.{List, [], _∷_, _++_}
-use Prim.Native.Nat.{ℕ, zero, suc, _+_, _-_, _*_, _^_, _<_, _≤_}
+use mathlib.Core.Path.{_≡_, sym, ap, _∙_}
+use mathlib.Core.Bool.{true}
+use mathlib.Core.List.{List, [], _++_}
+use Prim.Native.Nat.{ℕ, zero, suc, _*_, _^_, _<_, _≤_}
 use native.Mathlib.Omega.{arith}
 use native.Mathlib.Nat.{mul-le-mul-right}
 use native.Mathlib.Decide.{decLt}
@@ -15,24 +14,23 @@ use Rattle.laws.specs.Numbers.{within}
 use Rattle.laws.specs.Records.{field}
 use Rattle.definition.specs.Refusal.{firstBroken}
 use Rattle.definition.specs.Limits.{Sample, sampleRules}
-use Rattle.definition.specs.Stretch.{Stretch, stretches}
-use Rattle.definition.specs.Threading.{Ends, Graph, threaded, sinkOf, symbolicOf}
-use Rattle.definition.specs.Evidence.{Tree, walkAll, evidence, nodes}
-use Rattle.assembly.specs.Store.{graphOf, kmersOf}
+use Rattle.definition.specs.Stretch.{stretches}
+use Rattle.definition.specs.Threading.{Graph, threaded, symbolicOf}
+use Rattle.definition.specs.Evidence.{evidence, nodes}
+use Rattle.assembly.specs.Store.{graphOf}
 use Rattle.assembly.specs.Kmers.{length-of}
 use Rattle.junction_tree_graph.specs.declared.Built.{Built}
 use Rattle.junction_tree_graph.specs.Built.{Fits, fits-of, BuiltAt}
 use Rattle.junction_tree_graph.specs.Reads.{readsOf}
 use Rattle.threading_tree.specs.Ends.{ends}
 use Rattle.threading_tree.specs.Slots.{told, Beyond}
-use Rattle.threading_tree.specs.Take.{Wide}
 use Rattle.threading_tree.specs.Held.{HeldWalk, held-start, held-under, held-nodes, held-room}
 use Rattle.junction_trees.specs.declared.Ground.{Ground}
 use Rattle.junction_trees.specs.declared.Evidence.{Evidence}
 use Rattle.junction_trees.specs.declared.Evidence.the-variants.{Trees, Refused as Full}
 use Rattle.junction_trees.specs.Roots.{rootOf, Kept, kept-on, Cleared, graph-kept, good-kept}
-use Rattle.junction_trees.specs.Steps.{Sound, sound-kept, State, Frame}
-use Rattle.junction_trees.specs.Stretches.{begun, groundOf, symbolicEnds, Answered, Walking}
+use Rattle.junction_trees.specs.Steps.{Sound, sound-kept, State}
+use Rattle.junction_trees.specs.Stretches.{begun, groundOf, Answered, Walking}
 use Rattle.junction_trees.specs.Reads.{ReadsWalk, walksOf}
 
 -- what the whole asks: the sample obeys its rules, the tables hold its graph as build_graph leaves it (within any maxima), and the nodes are zero
