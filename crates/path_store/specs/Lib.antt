@@ -17,3 +17,4 @@ pub mod Recover
 pub mod Close
 pub mod Writing
 pub mod Held
+pub mod Pivots
