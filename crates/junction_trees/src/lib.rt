@@ -34,9 +34,9 @@ const VERTEX: usize = 12;
 
 const ROOT: usize = 11;
 
-// ---- the slot of a vertex's root
+// ---- the slot of a vertex's root, 0 where it has no tree
 
-fn root_slot(vertices: &[u32], v: usize) -> usize
+pub fn root_slot(vertices: &[u32], v: usize) -> usize
     requires { ⌜ v * 12 + 12 ≤ length (now vertices) ⌝ }
     ensures { λ r. ⌜ r ≡ field (now (vertices .entry)) 12 v 11 ⌝ }
 {
