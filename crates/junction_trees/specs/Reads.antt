@@ -111,9 +111,6 @@ pub record ReadLeft (d : Ground) (least : ℕ) (reference bases quals es : List 
       ≡ walksOf d (reference ++ bases) vs₁ es (readOf (d .k) least bases quals sq start e) ts
 
 module _ {d : Ground} {reference bases quals vs₁ es x₁ op₁ : List ℕ} {start e count₁ : ℕ} (y : ReadWalks d reference bases quals vs₁ es x₁ op₁ start e count₁) (least : ℕ) where
-  abbrev text : List ℕ
-  text = reference ++ bases
-
   abbrev G : Graph
   G = groundOf d (reference ++ bases) vs₁ es
 

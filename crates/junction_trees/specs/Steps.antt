@@ -257,9 +257,6 @@ pub record Ended (d : Ground) (s : Way) (x x' op op' : List ℕ) (r : Walked) : 
   pub beyond-open : Beyond (d .most * 2) op op'
 
 module _ {d : Ground} {s : Way} {x op : List ℕ} (q : Ending d s x op) where
-  abbrev sym-edge : Ends
-  sym-edge = ends (d .sink) (d .vertices)
-
   pub end-stays : (s .here ≡ d .sink → ⊥) → Ended d s x x op op (Next s)
   end-stays h = record { is = λ w p vs st. rw (end-no d (s .here) w h) (state-more (suc p) (omega arith) st); beyond = λ i j. refl; beyond-open = λ i j. refl }
 

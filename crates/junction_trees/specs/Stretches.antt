@@ -86,9 +86,6 @@ state-closed {op = op} s = record { held = held-again op (s .held .in-open) (s .
 
 -- ---- the loop
 module _ (d : Ground) (text es : List ℕ) (a len first count : ℕ) (vs₁ x₁ op₁ : List ℕ) where
-  abbrev bytes : List ℕ
-  bytes = take len (drop a text)
-
   abbrev wholeWalk : List Tree → Walk
   wholeWalk ts = walkBases (groundOf d text vs₁ es) (d .sink) (symbolicEnds d) first (drop (d .k) (take len (drop a text))) (begun ts)
 
@@ -186,9 +183,6 @@ module _ {d : Ground} {text vs₁ es x₁ op₁ : List ℕ} {a len count : ℕ} 
 
     -- ---- a base more
     module _ (l : j < len - d .k) where
-      abbrev byte : ℕ
-      byte = getD text (a + d .k + j) 0
-
       pub left-place : a + d .k + j < length text
       left-place = let z = q .inside in omega arith
 

@@ -8,14 +8,15 @@ use native.Mathlib.Nat.{mul-le-mul-right}
 use native.Mathlib.Decide.{decLt}
 use lib.Dec.{leb}
 use lib.ListN.{length, getD, length-append}
-use borrow.Author.Tests.{leb-true}
+use borrow.Author.Tests.{leb-true, le-leb, lt-leb}
 use Rattle.laws.specs.ListLaws.{and-right}
 use Rattle.laws.specs.Numbers.{within}
 use Rattle.laws.specs.Records.{field}
-use Rattle.definition.specs.Refusal.{firstBroken}
+use Rattle.definition.specs.Refusal.{firstBroken, ok, refused}
+use Rattle.definition.specs.Building.{built, builtOf}
 use Rattle.definition.specs.Limits.{Sample, sampleRules}
 use Rattle.definition.specs.Stretch.{stretches}
-use Rattle.definition.specs.Threading.{Graph, threaded, symbolicOf}
+use Rattle.definition.specs.Threading.{Graph, threaded, symbolicOf, withSymbolic}
 use Rattle.definition.specs.Evidence.{evidence, nodes}
 use Rattle.assembly.specs.Store.{graphOf}
 use Rattle.assembly.specs.Kmers.{length-of}
@@ -86,6 +87,17 @@ built-kept {s = s} {es = es} {m = m} p a =
       to = a .to;
       supports = a .supports;
     }
+
+-- ---- the definition's answer for the graph with its trees
+module _ {s : Sample} {v e : ℕ} {vs es : List ℕ} {n m sink : ℕ} (a : BuiltAt s v e vs es n m sink) (most : ℕ) where
+  pub built-fits : length (nodes (evidence s (threaded s))) ≤ most
+      → built s (record { vertices = v; edges = e; nodes = most }) ≡ ok (record { graph = threaded s; edges = withSymbolic s (threaded s); trees = evidence s (threaded s) })
+  unfolding built builtOf
+  built-fits h = rw (a .fits, builtOf, le-leb (length (nodes (evidence s (threaded s)))) most h)
+
+  pub built-over : (r : ℕ) → NotEvident s most r → built s (record { vertices = v; edges = e; nodes = most }) ≡ refused r
+  unfolding built builtOf
+  built-over r o = rw (a .fits, builtOf, lt-leb (length (nodes (evidence s (threaded s)))) most (o .over), o .nine)
 
 abbrev pub groundFor : Sample → Built → ℕ → Ground
 groundFor s b most = record { k = s .k; vertices = b .vertices; edges = b .edges; sink = b .sink; most = most }

@@ -17,7 +17,7 @@ use threading_tree::add_edge_to_junction_tree_nodes;
 use threading_tree::pass_edge;
 ghost use mathlib.Core.Path.{_≡_};
 ghost use mathlib.Core.List.{_++_};
-ghost use Prim.Native.Nat.{ℕ, _+_, _-_, _*_, _^_, _<_, _≤_};
+ghost use Prim.Native.Nat.{ℕ, _+_, _*_, _^_, _<_, _≤_};
 ghost use lib.ListN.{length, getD};
 ghost use Rattle.laws.specs.Records.{field, putField};
 ghost use Rattle.assembly.specs.Store.{code};
@@ -34,9 +34,9 @@ const VERTEX: usize = 12;
 
 const ROOT: usize = 11;
 
-// ---- the slot of a vertex's root
+// ---- the slot of a vertex's root, 0 where it has no tree
 
-fn root_slot(vertices: &[u32], v: usize) -> usize
+pub fn root_slot(vertices: &[u32], v: usize) -> usize
     requires { ⌜ v * 12 + 12 ≤ length (now vertices) ⌝ }
     ensures { λ r. ⌜ r ≡ field (now (vertices .entry)) 12 v 11 ⌝ }
 {
@@ -50,7 +50,7 @@ fn keep_root(vertices: &mut [u32], v: usize, slot: usize)
     vertices[v * VERTEX + ROOT] = slot as u32;
 }
 
-// No vertex has a tree yet.
+// No vertex has a tree yet; building the graph leaves open what field 11 holds.
 fn clear_roots(vertices: &mut [u32], n: usize)
     requires { ⌜ n * 12 ≤ length (now vertices) ⌝ }
     ensures { λ _. ⌜ Cleared (now (vertices .entry)) n (now (vertices .exit)) n ⌝ }
@@ -226,6 +226,7 @@ fn walk_stretch(
     let mut j: usize = 0;
     while j < last {
         let slot = next_edge(reference, bases, vertices, s.here, a + d.k + j);
+        // The definition stops here too; a stretch that was threaded never does (its theorem Visits.walk-visits).
         if slot == 0 {
             return Evidence::Trees(s.nodes);
         }
