@@ -248,6 +248,9 @@ slots-of {k = k} {text = text} {vs = vs} {n = n} {es = es} {v = v} g h =
       all = λ i l e. (code (lastOf k text vs n (field es 6 i 1)), code-lt (lastOf k text vs n (field es 6 i 1)), rw e at (g .slot i l));
     }
 
+pub slots-names : {vs es : List ℕ} {m v : ℕ} → Slots vs es m v → m * 6 ≤ length es → (c : ℕ) → c < 8 → Names es (field vs 12 v c)
+slots-names s r c h z = let w = s .full c h z .0 in omega arith
+
 -- after c slots: what was found stands in one of them, and is the least of them from t on
 pub record Best (vs es : List ℕ) (v t c r : ℕ) : Type 0 where
   pub within : c ≤ 8

@@ -91,8 +91,8 @@ module _ {k : ℕ} {text vs : List ℕ} {n : ℕ} {es : List ℕ} {m : ℕ} (g :
   unfolding linked
   other-v v c h e = row-other vs 12 sink 4 (m + 1) v c (omega arith) (omega arith) e
 
-  distinct : Distinct (edgeAt es) (m + 1)
-  distinct i j h l e = go (ℕ-discrete i m) (ℕ-discrete j m)
+  pub linked-distinct : Distinct (edgeAt es) (m + 1)
+  linked-distinct i j h l e = go (ℕ-discrete i m) (ℕ-discrete j m)
     where
       to : field es 6 i 1 ≡ field es 6 j 1
       to = ap (λ (d : Ends). d .to) e
@@ -154,7 +154,7 @@ module _ {k : ℕ} {text vs : List ℕ} {n : ℕ} {es : List ℕ} {m : ℕ} (g :
   pub linked-orders : (out : List ℕ) → (m + 1) * 6 ≤ length es → m + 1 ≤ length out → m + 1 ≤ 8192 → Orders (linked vs sink m) es out (m + 1)
   linked-orders out re ro f =
       record {
-        distinct = distinct;
+        distinct = linked-distinct;
         from-in = λ i h. rw (length-linked vs sink m) (from i h (ℕ-discrete i m));
         slots = λ v h. linked-slots v;
         room-e = re;

@@ -1,11 +1,18 @@
 -- What the enums of the code answer, case by case. Assumes nothing.
 use mathlib.Core.Path.{_≡_, refl, sym, ap, _∙_}
+use mathlib.Core.Bool.{Bool, true, false, _&&_}
 use mathlib.Core.List.{List, _++_}
+use lib.Dec.{leb}
+use Rattle.laws.specs.ListLaws.{and-left, and-right}
+use Rattle.laws.specs.Numbers.{within}
 use Prim.Native.Nat.{ℕ, _+_, _-_, _*_, _^_, _<_, _≤_}
 use native.Mathlib.Omega.{arith}
 use lib.ListN.{length}
-use Rattle.definition.specs.Limits.{Sample}
-use Rattle.definition.specs.Threading.{threaded, numberOf}
+use Rattle.definition.specs.Refusal.{Result, ok, refused}
+use Rattle.definition.specs.Limits.{Sample, GraphMaxima, graphMaximaFit}
+use Rattle.definition.specs.Evidence.{evidence, nodes}
+use Rattle.definition.specs.Building.{built, builtOf}
+use Rattle.definition.specs.Threading.{threaded, numberOf, withSymbolic}
 use Rattle.laws.specs.Records.{field}
 use Rattle.assembly.specs.Store.{kmersOf}
 use Rattle.assembly.specs.Moves.{addedE}
@@ -17,7 +24,7 @@ use Rattle.junction_tree_graph.specs.declared.Step.the-variants.{Next, R
 use Rattle.junction_tree_graph.specs.declared.Answer.{Answer}
 use Rattle.junction_tree_graph.specs.declared.Answer.the-variants as answer
 use Rattle.junction_tree_graph.specs.Stretches.{OverG, CameG, Threaded}
-use Rattle.junction_tree_graph.specs.Built.{Builds, BuiltAt, NotBuilt, mostOf, textOf, build-stop, sink-asks, symbolic-asks, built-at}
+use Rattle.junction_tree_graph.specs.Built.{Builds, graphFits, BuiltAt, NotBuilt, mostOf, textOf, build-stop, sink-asks, symbolic-asks, built-at}
 
 abbrev pub refusalOf : Step → ℕ
 refusalOf (Next s) = 0
@@ -49,3 +56,22 @@ module _ {s : Sample} {v e : ℕ} {vs es : List ℕ} (x : Builds s v e vs es) (v
 
       pub answer-done : (fs : List ℕ) → fs ≡ addedE es' (t .edges) (symbolic sink (t .vertices) (length (s .reference) - s .k)) 1 → BuiltAt s v e vs' fs (t .vertices) (t .edges) sink
       answer-done fs f = built-at x came le sink hs (omega arith) fs f
+
+-- ---- what this is to the call for the graph: its maxima's limits, and refusal 8
+pub maxima-in : (m : GraphMaxima) → graphMaximaFit m ≡ true → (within 2 4096 (m .vertices) ≡ true) × (within 1 8192 (m .edges) ≡ true)
+unfolding graphMaximaFit
+maxima-in m h =
+    let a = and-left (within 2 4096 (m .vertices) && within 1 8192 (m .edges)) (within 1 16384 (m .nodes)) h in
+    (and-left (within 2 4096 (m .vertices)) (within 1 8192 (m .edges)) a, and-right (within 2 4096 (m .vertices)) (within 1 8192 (m .edges)) a)
+
+pub not-built : (s : Sample) (m : GraphMaxima) (r : ℕ) → NotBuilt s (m .vertices) (m .edges) r → built s m ≡ refused r
+unfolding built builtOf
+not-built s m r n = rw (n .fits-not, builtOf, n .eight)
+
+pub is-built : (s : Sample) (m : GraphMaxima) → graphFits s (m .vertices) (m .edges) ≡ true
+    → built s m ≡ elim (leb (length (nodes (evidence s (threaded s)))) (m .nodes)) [
+      | false ↦ refused 9
+      | true ↦ ok (record { graph = threaded s; edges = withSymbolic s (threaded s); trees = evidence s (threaded s) })
+    ]
+unfolding built builtOf
+is-built s m h = rw (h, builtOf)

@@ -37,7 +37,7 @@ pub struct Most {
     pub edges: usize,
 }
 
-// How much of the tables is used, the vertex reached, and how many counts were made.
+// How much of the tables is used, the vertex reached, and a bound of the counts made: no support is above it, so that all fit.
 pub struct At {
     pub vertices: usize,
     pub edges: usize,
