@@ -62,7 +62,7 @@ pub enum Answer {
     Refused(u32),
 }
 
-fn wide_byte(x: u8) -> usize
+pub fn wide_byte(x: u8) -> usize
     ensures { λ r. ⌜ r ≡ x ⌝ }
 {
     x as usize
@@ -265,7 +265,7 @@ fn is_usable(quality: u8, b: u8, q: u8) -> bool
 }
 
 // Where the usable run at place p of the bases ends: at the next unusable byte, or at `end`.
-fn run_end(bases: &[u8], qualities: &[u8], quality: u8, p: usize, end: usize) -> usize
+pub fn run_end(bases: &[u8], qualities: &[u8], quality: u8, p: usize, end: usize) -> usize
     requires { ⌜ (p ≤ end) × (end ≤ length (now bases)) × (end ≤ length (now qualities)) ⌝ }
     ensures { λ r. ⌜ RunEnd (usable quality) (now (bases .entry)) (now (qualities .entry)) p end r ⌝ }
 {
