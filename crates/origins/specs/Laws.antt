@@ -231,7 +231,7 @@ module _ (k : ℕ) (reference ends bases : List ℕ) (o : Origin) (call : Origin
         go true h = let l = found-room true h in omega arith
         go false h = let l = found-room false h in omega arith
 
-  -- ---- punelavoh_origin
+  -- ---- origin_part
 
   refused-fields : (n : ℕ) → r ≡ Refused n → (m : ℕ) → call .refusal ≡ m → record { refusal = n; «in_reads» = 0; start = 0; length = 0 } ≡ answered k ends o m
   refused-fields n e zero f = let q = number-of n e 0 f in absurd (omega arith)

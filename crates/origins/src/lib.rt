@@ -121,8 +121,7 @@ pub struct OriginAnswer {
 }
 
 // As `origin_bytes` and `origin_refusal` together; 0 in every other field when refused.
-#[no_mangle]
-pub extern "C" fn punelavoh_origin(
+pub fn origin_part(
     k: u32,
     reference: &[u8],
     ends: &[u32],

@@ -1,11 +1,11 @@
--- `punelavoh_origin` meets its contract: the part found, by its start and length, or the refusal alone. Assumes nothing.
+-- `origin_part` meets its contract: the part found, by its start and length, or the refusal alone. Assumes nothing.
 use mathlib.Core.Bool.{true, false}
 use native.Mathlib.Numerals.{add-one}
 use mathlib.Core.Logic.{⊎-elim}
 use borrow.Author.Needs.{needs}
 use Rattle.origins.specs.Laws.{names-none, names-part}
-use Rattle.origins.proofs.punelavoh_origin.Statement.{statement}
-use Rattle.origins.proofs.punelavoh_origin.Tie as tie
+use Rattle.origins.proofs.origin_part.Statement.{statement}
+use Rattle.origins.proofs.origin_part.Tie as tie
 
 find-origin-requires : tie.Need-find-origin-requires
 find-origin-requires c κs = tt
@@ -29,7 +29,7 @@ returns c =
 returns-2 : tie.Need-returns-2
 returns-2 c = names-none _ _ _ _ _ _ _ (c .before .before .before .find-origin .ensures) _ (c .before .found2 .given .1)
 
-pub punelavoh-origin-spec : {M : Type 1} → statement M
-punelavoh-origin-spec =
+pub origin-part-spec : {M : Type 1} → statement M
+origin-part-spec =
     tie.close
     (tie.spec find-origin-requires enum-known-found add-t14 enum-known-found-2 returns returns-2)

@@ -1,0 +1,360 @@
+// The public calls. They check what is lent, do the work over the lengths told, and leave the workspace zero.
+use assembly::link_symbolic_edge;
+use graph_rows::clear;
+use graph_rows::write_edges;
+use junction_tree_graph::Answer;
+use junction_tree_graph::Built;
+use junction_tree_graph::Most;
+use junction_tree_graph::build_graph;
+use junction_trees::Evidence;
+use junction_trees::build_trees;
+use limits::GraphMaxima;
+use limits::LengthsTold;
+use limits::SearchMaxima;
+use limits::check_graph;
+use origins::OriginAnswer;
+use threading_tree::write_nodes;
+ghost use mathlib.Core.Path.{_≡_};
+ghost use mathlib.Core.List.{[], _∷_};
+ghost use lib.ListN.{length, replicate};
+ghost use Rattle.definition.specs.Limits.{longEnough, graphTold};
+ghost use Rattle.definition.specs.Building.{built};
+ghost use Rattle.definition.specs.Calls.{graphOf, originCall};
+ghost use Rattle.limits.specs.Handed.{sampleOf, graphMaximaOf, searchMaximaOf};
+ghost use Rattle.limits.specs.Lengths.{Told};
+ghost use Rattle.origins.specs.Parts.{origin, Names};
+ghost use Rattle.caller.specs.Lent.{workspaceTold, Lent};
+ghost use Rattle.caller.specs.Outcome.{outcome, refusedAnswer, graphRefusal, treesRefusal, Graphed};
+ghost use Rattle.caller.specs.Clear.{Zeroed};
+ghost use Rattle.caller.specs.Fill.{Fills, Writes, Wrote};
+ghost use Rattle.caller.specs.Made.{Made};
+
+// The answer of `graph`: a refusal, or how many rows of edges and of nodes were written.
+#[repr(C)]
+pub struct GraphAnswer {
+    pub refusal: u32,
+    pub edges: u32,
+    pub nodes: u32,
+}
+
+// 7: whether each lent slice is as long as told for these maxima.
+fn lent_fits(
+    g: GraphMaxima,
+    edges: usize,
+    nodes: usize,
+    vertex_table: usize,
+    edge_table: usize,
+    node_table: usize,
+    open_trees: usize,
+) -> bool
+    ensures { λ r. ⌜ r ≡ longEnough (graphTold (graphMaximaOf g) (workspaceTold (graphMaximaOf g)))
+        (edges ∷ nodes ∷ «vertex_table» ∷ «edge_table» ∷ «node_table» ∷ «open_trees» ∷ []) ⌝ }
+{
+    if edges < g.edges as usize * 6 {
+        return false;
+    }
+    if nodes < g.nodes as usize * 4 {
+        return false;
+    }
+    if vertex_table < g.vertices as usize * 12 {
+        return false;
+    }
+    if edge_table < g.edges as usize * 6 {
+        return false;
+    }
+    if node_table < (g.nodes as usize + 1) * 5 {
+        return false;
+    }
+    if open_trees < g.nodes as usize * 2 {
+        return false;
+    }
+    true
+}
+
+// A refused answer holds 0 in every other field.
+fn refused(number: u32) -> GraphAnswer
+    ensures { λ r. ⌜ r ≡ refusedAnswer number ⌝ }
+{
+    GraphAnswer {
+        refusal: number,
+        edges: 0,
+        nodes: 0,
+    }
+}
+
+fn graph_refusal(r: Answer) -> u32
+    ensures { λ n. ⌜ n ≡ graphRefusal r ⌝ }
+{
+    match r {
+        Answer::Done(_) => 0,
+        Answer::Refused(n) => n,
+    }
+}
+
+fn trees_refusal(r: Evidence) -> u32
+    ensures { λ n. ⌜ n ≡ treesRefusal r ⌝ }
+{
+    match r {
+        Evidence::Trees(_) => 0,
+        Evidence::Refused(n) => n,
+    }
+}
+
+// All of the workspace becomes 0.
+fn clear_all(w_vertices: &mut [u32], w_edges: &mut [u32], w_nodes: &mut [u32], w_open: &mut [u32])
+    ensures { λ _. ⌜ Zeroed (now («w_vertices» .entry)) (now («w_vertices» .exit)) (now («w_edges» .entry)) (now («w_edges» .exit)) (now («w_nodes» .entry)) (now («w_nodes» .exit)) (now («w_open» .entry)) (now («w_open» .exit)) ⌝ }
+{
+    clear(w_vertices, w_vertices.len());
+    clear(w_edges, w_edges.len());
+    clear(w_nodes, w_nodes.len());
+    clear(w_open, w_open.len());
+}
+
+// The rows of edges and nodes; nothing can be refused any more.
+fn write_rows(
+    w_vertices: &mut [u32],
+    w_edges: &[u32],
+    w_nodes: &[u32],
+    w_open: &mut [u32],
+    edges: &mut [u32],
+    nodes: &mut [u32],
+    b: Built,
+    n: usize,
+    cap: usize,
+)
+    requires { ⌜ Writes (now «w_vertices») (now «w_edges») (now «w_nodes») (now «w_open») (now edges) (now nodes) b n cap ⌝ }
+    ensures { λ _. ⌜ Wrote (now («w_edges» .entry)) (now («w_nodes» .entry)) (now («w_open» .entry)) (now («w_open» .exit)) (now (edges .entry)) (now (edges .exit)) (now (nodes .entry)) (now (nodes .exit)) b n ⌝ }
+{
+    link_symbolic_edge(w_vertices, b.sink, b.edges);
+    write_edges(w_vertices, w_edges, b.edges + 1, edges);
+    write_nodes(w_nodes, w_open, nodes, n, cap);
+}
+
+// The graph and its trees over a workspace that is zero; the output is written once both are known to fit.
+fn fill(
+    k: u32,
+    quality: u8,
+    reference: &[u8],
+    ends: &[u32],
+    bases: &[u8],
+    qualities: &[u8],
+    maxima: GraphMaxima,
+    edges: &mut [u32],
+    nodes: &mut [u32],
+    w_vertices: &mut [u32],
+    w_edges: &mut [u32],
+    w_nodes: &mut [u32],
+    w_open: &mut [u32],
+) -> GraphAnswer
+    requires { ⌜ Fills (sampleOf k quality (now reference) (now ends) (now bases) (now qualities)) (graphMaximaOf maxima) (now edges) (now nodes) (now «w_vertices») (now «w_edges») (now «w_nodes») (now «w_open») ⌝ }
+    ensures { λ r. ⌜ outcome r (now (edges .exit)) (now (nodes .exit)) ≡ graphOf (built (sampleOf k quality (now (reference .entry)) (now (ends .entry)) (now (bases .entry)) (now (qualities .entry))) (graphMaximaOf maxima)) (now (edges .entry)) (now (nodes .entry)) ⌝ }
+{
+    let size = k as usize;
+    let cap = maxima.nodes as usize;
+    let most = Most {
+        vertices: maxima.vertices as usize,
+        edges: maxima.edges as usize,
+    };
+    let r = build_graph(
+        size,
+        quality,
+        reference,
+        ends,
+        bases,
+        qualities,
+        w_vertices,
+        w_edges,
+        most,
+    );
+    let Answer::Done(b) = r else {
+        return refused(graph_refusal(r));
+    };
+    let t = build_trees(
+        size,
+        quality,
+        reference,
+        ends,
+        bases,
+        qualities,
+        w_vertices,
+        w_edges,
+        w_nodes,
+        w_open,
+        b,
+        cap,
+    );
+    let Evidence::Trees(n) = t else {
+        return refused(trees_refusal(t));
+    };
+    write_rows(
+        w_vertices,
+        w_edges,
+        w_nodes,
+        w_open,
+        edges,
+        nodes,
+        b,
+        n,
+        cap,
+    );
+    GraphAnswer {
+        refusal: 0,
+        edges: (b.edges + 1) as u32,
+        nodes: n as u32,
+    }
+}
+
+// The whole work over a workspace of just the lengths told: it may hold anything before, and is zero after.
+fn make_graph(
+    k: u32,
+    quality: u8,
+    reference: &[u8],
+    ends: &[u32],
+    bases: &[u8],
+    qualities: &[u8],
+    maxima: GraphMaxima,
+    edges: &mut [u32],
+    nodes: &mut [u32],
+    w_vertices: &mut [u32],
+    w_edges: &mut [u32],
+    w_nodes: &mut [u32],
+    w_open: &mut [u32],
+) -> GraphAnswer
+    requires { ⌜ Lent (sampleOf k quality (now reference) (now ends) (now bases) (now qualities)) (graphMaximaOf maxima) (now edges) (now nodes) (now «w_vertices») (now «w_edges») (now «w_nodes») (now «w_open») ⌝ }
+    ensures { λ r. ⌜ Made (sampleOf k quality (now (reference .entry)) (now (ends .entry)) (now (bases .entry)) (now (qualities .entry))) (graphMaximaOf maxima) r (now (edges .entry)) (now (edges .exit)) (now (nodes .entry)) (now (nodes .exit)) (now («w_vertices» .entry)) (now («w_vertices» .exit)) (now («w_edges» .entry)) (now («w_edges» .exit)) (now («w_nodes» .entry)) (now («w_nodes» .exit)) (now («w_open» .entry)) (now («w_open» .exit)) ⌝ }
+{
+    clear_all(w_vertices, w_edges, w_nodes, w_open);
+    let r = fill(
+        k,
+        quality,
+        reference,
+        ends,
+        bases,
+        qualities,
+        maxima,
+        edges,
+        nodes,
+        w_vertices,
+        w_edges,
+        w_nodes,
+        w_open,
+    );
+    clear_all(w_vertices, w_edges, w_nodes, w_open);
+    r
+}
+
+// The call for edges and trees.
+pub fn graph(
+    k: u32,
+    quality: u8,
+    reference: &[u8],
+    ends: &[u32],
+    bases: &[u8],
+    qualities: &[u8],
+    maxima: GraphMaxima,
+    edges: &mut [u32],
+    nodes: &mut [u32],
+    w_vertices: &mut [u32],
+    w_edges: &mut [u32],
+    w_nodes: &mut [u32],
+    w_open: &mut [u32],
+) -> GraphAnswer
+    ensures { λ r. ⌜ Graphed (sampleOf k quality (now (reference .entry)) (now (ends .entry)) (now (bases .entry)) (now (qualities .entry))) (graphMaximaOf maxima) r (now (edges .entry)) (now (edges .exit)) (now (nodes .entry)) (now (nodes .exit)) (now («w_vertices» .entry)) (now («w_vertices» .exit)) (now («w_edges» .entry)) (now («w_edges» .exit)) (now («w_nodes» .entry)) (now («w_nodes» .exit)) (now («w_open» .entry)) (now («w_open» .exit)) ⌝ }
+{
+    let fits = lent_fits(
+        maxima,
+        edges.len(),
+        nodes.len(),
+        w_vertices.len(),
+        w_edges.len(),
+        w_nodes.len(),
+        w_open.len(),
+    );
+    let refusal = check_graph(k, reference, ends, bases, qualities, maxima, fits);
+    if refusal > 0 {
+        return refused(refusal);
+    }
+    let a = maxima.vertices as usize * 12;
+    let b = maxima.edges as usize * 6;
+    let c = (maxima.nodes as usize + 1) * 5;
+    let d = maxima.nodes as usize * 2;
+    make_graph(
+        k,
+        quality,
+        reference,
+        ends,
+        bases,
+        qualities,
+        maxima,
+        edges,
+        nodes,
+        &mut w_vertices[..a],
+        &mut w_edges[..b],
+        &mut w_nodes[..c],
+        &mut w_open[..d],
+    )
+}
+
+// ---- for C and Rust
+
+#[no_mangle]
+pub extern "C" fn punelavoh_graph(
+    k: u32,
+    quality: u8,
+    reference: &[u8],
+    ends: &[u32],
+    bases: &[u8],
+    qualities: &[u8],
+    maxima: GraphMaxima,
+    edges: &mut [u32],
+    nodes: &mut [u32],
+    w_vertices: &mut [u32],
+    w_edges: &mut [u32],
+    w_nodes: &mut [u32],
+    w_open: &mut [u32],
+) -> GraphAnswer
+    ensures { λ r. ⌜ Graphed (sampleOf k quality (now (reference .entry)) (now (ends .entry)) (now (bases .entry)) (now (qualities .entry))) (graphMaximaOf maxima) r (now (edges .entry)) (now (edges .exit)) (now (nodes .entry)) (now (nodes .exit)) (now («w_vertices» .entry)) (now («w_vertices» .exit)) (now («w_edges» .entry)) (now («w_edges» .exit)) (now («w_nodes» .entry)) (now («w_nodes» .exit)) (now («w_open» .entry)) (now («w_open» .exit)) ⌝ }
+{
+    graph(
+        k,
+        quality,
+        reference,
+        ends,
+        bases,
+        qualities,
+        maxima,
+        edges,
+        nodes,
+        w_vertices,
+        w_edges,
+        w_nodes,
+        w_open,
+    )
+}
+
+#[no_mangle]
+pub extern "C" fn punelavoh_lengths(
+    k: u32,
+    paths: u32,
+    g: GraphMaxima,
+    s: SearchMaxima,
+) -> LengthsTold
+    ensures { λ r. ⌜ Told k paths (graphMaximaOf g) (searchMaximaOf s) r ⌝ }
+{
+    limits::lengths(k, paths, g, s)
+}
+
+#[no_mangle]
+pub extern "C" fn punelavoh_origin(
+    k: u32,
+    reference: &[u8],
+    ends: &[u32],
+    bases: &[u8],
+    sequence: u32,
+    place: u32,
+) -> OriginAnswer
+    ensures { λ r. ⌜ Names k (now (reference .entry)) (now (ends .entry)) (now (bases .entry)) (origin sequence place)
+        (originCall k (now (reference .entry)) (now (ends .entry)) (now (bases .entry)) (origin sequence place)) r ⌝ }
+{
+    origins::origin_part(k, reference, ends, bases, sequence, place)
+}
