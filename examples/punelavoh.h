@@ -1,0 +1,31 @@
+/* The calls of the static library target/staticlib/libcaller.a. A slice is two arguments: a pointer and a number of elements. */
+#ifndef PUNELAVOH_H
+#define PUNELAVOH_H
+#include <stddef.h>
+#include <stdint.h>
+
+typedef struct { uint32_t vertices, edges, nodes; } GraphMaxima;
+typedef struct { uint32_t path_edges, active, pushes; } SearchMaxima;
+
+/* Elements of each workspace slice: uint32_t, but double for scores. */
+typedef struct { size_t vertices, edges, index, nodes, open, paths, scores, active, queue, pivotal; } Workspace;
+
+/* Elements of each output slice; there are two slices of `origins` numbers. */
+typedef struct { uint32_t refusal; size_t edges, nodes, paths, bases, origins; Workspace workspace; } LengthsTold;
+
+typedef struct { uint32_t refusal, edges, nodes; } GraphAnswer;
+typedef struct { uint32_t refusal, in_reads; size_t start, length; } OriginAnswer;
+
+LengthsTold punelavoh_lengths(uint32_t k, uint32_t paths, GraphMaxima g, SearchMaxima s);
+
+/* Edge rows of six numbers (from, to, support, mark, sequence, place), node rows of four (from, to, count, depth). */
+GraphAnswer punelavoh_graph(uint32_t k, uint8_t quality, const uint8_t *reference, size_t reference_length, const uint32_t *ends, size_t reads,
+    const uint8_t *bases, size_t bases_length, const uint8_t *qualities, size_t qualities_length, GraphMaxima maxima, uint32_t *edges,
+    size_t edges_length, uint32_t *nodes, size_t nodes_length, uint32_t *w_vertices, size_t w_vertices_length, uint32_t *w_edges,
+    size_t w_edges_length, uint32_t *w_nodes, size_t w_nodes_length, uint32_t *w_open, size_t w_open_length);
+
+/* The part of the reference (in_reads 0) or of the read bases (in_reads 1) that an origin names. */
+OriginAnswer punelavoh_origin(uint32_t k, const uint8_t *reference, size_t reference_length, const uint32_t *ends, size_t reads,
+    const uint8_t *bases, size_t bases_length, uint32_t sequence, uint32_t place);
+
+#endif
