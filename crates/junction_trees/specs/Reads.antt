@@ -1,12 +1,11 @@
 -- A run, a read and all reads: what each call asks, and the loops that keep "what is left of the walks from here is the whole". Assumes nothing.
 use mathlib.Core.Path.{_≡_, refl, sym, ap, _∙_}
-use mathlib.Core.Logic.{_≢_, inl, inr}
 use mathlib.Core.Bool.{Bool, true, false}
 use mathlib.Core.List.{List, [], _∷_, _++_}
-use Prim.Native.Nat.{ℕ, zero, suc, _+_, _-_, _*_, _^_, _<_, _≤_}
+use Prim.Native.Nat.{ℕ, suc, _+_, _-_, _^_, _<_, _≤_}
 use native.Mathlib.Omega.{arith}
 use native.Mathlib.Numerals.{add-one}
-use lib.Dec.{eqb, leb}
+use lib.Dec.{leb}
 use lib.ListN.{length, getD, take, drop, length-append, length-drop}
 use lib.Seq.{drop-cons, drop-drop, length-take-le, drop-append-add, getD-append-add, drop-length}
 use borrow.Author.Tests.{leb-true, leb-false}
@@ -23,9 +22,9 @@ use Rattle.threading_tree.specs.Grows.{all-grows}
 use Rattle.junction_trees.specs.declared.Ground.{Ground}
 use Rattle.junction_trees.specs.declared.Evidence.{Evidence}
 use Rattle.junction_trees.specs.declared.Evidence.the-variants.{Trees, Refused as Full}
-use Rattle.junction_trees.specs.Roots.{Kept, graph-kept}
+use Rattle.junction_trees.specs.Roots.{graph-kept}
 use Rattle.junction_trees.specs.Steps.{Sound, sound-kept, State, state-more, Frame, frame-self, frame-on}
-use Rattle.junction_trees.specs.Stretches.{begun, groundOf, symbolicEnds, walkOf, Answered, Walking, Walks, stretch-short}
+use Rattle.junction_trees.specs.Stretches.{begun, groundOf, symbolicEnds, walkOf, Walking, Walks, stretch-short}
 
 -- ---- a run
 module _ {d : Ground} {text vs es x op : List ℕ} {a len count : ℕ} (q : Walks d text vs es x op a len count) where
@@ -112,9 +111,6 @@ pub record ReadLeft (d : Ground) (least : ℕ) (reference bases quals es : List 
       ≡ walksOf d (reference ++ bases) vs₁ es (readOf (d .k) least bases quals sq start e) ts
 
 module _ {d : Ground} {reference bases quals vs₁ es x₁ op₁ : List ℕ} {start e count₁ : ℕ} (y : ReadWalks d reference bases quals vs₁ es x₁ op₁ start e count₁) (least : ℕ) where
-  abbrev text : List ℕ
-  text = reference ++ bases
-
   abbrev G : Graph
   G = groundOf d (reference ++ bases) vs₁ es
 

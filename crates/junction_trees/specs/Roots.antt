@@ -1,13 +1,11 @@
 -- The slots of the roots: field 11 of a vertex's record, which the graph does not read. Assumes nothing.
-use mathlib.Core.Path.{_≡_, refl, sym, ap, _∙_}
-use mathlib.Core.Logic.{_≢_, inl, inr}
-use mathlib.Core.List.{List, [], _∷_}
-use Prim.Native.Nat.{ℕ, zero, suc, _+_, _-_, _*_, _<_, _≤_}
+use mathlib.Core.Path.{_≡_, refl, _∙_}
+use mathlib.Core.List.{List}
+use Prim.Native.Nat.{ℕ, _+_, _*_, _<_, _≤_}
 use native.Mathlib.Omega.{arith}
 use native.Mathlib.Decide.{ℕ-discrete, decLt}
-use lib.ListN.{length, getD, length-set}
+use lib.ListN.{length, length-set}
 use Rattle.laws.specs.Records.{field, putField, field-same, field-other, row-other}
-use Rattle.definition.specs.Threading.{Graph}
 use Rattle.assembly.specs.Store.{graphOf, kmersOf, lastOf, code, code-lt, Good}
 use Rattle.assembly.specs.Moves.{kmers-same}
 

@@ -1,9 +1,8 @@
 -- One base of a walk, and the walk's end: what the code asks, and that it is the definition's step. Assumes nothing.
-use mathlib.Core.Path.{_≡_, refl, sym, ap, _∙_}
-use mathlib.Core.Logic.{_≢_, inl, inr}
+use mathlib.Core.Path.{_≡_, refl, sym, _∙_}
 use mathlib.Core.Bool.{Bool, true, false}
-use mathlib.Core.List.{List, [], _∷_}
-use Prim.Native.Nat.{ℕ, zero, suc, _+_, _-_, _*_, _^_, _<_, _≤_}
+use mathlib.Core.List.{List, []}
+use Prim.Native.Nat.{ℕ, zero, suc, _+_, _*_, _^_, _<_, _≤_}
 use native.Mathlib.Nat.{mul-le-mul-right, suc-mul}
 use native.Mathlib.Omega.{arith}
 use native.Mathlib.Decide.{ℕ-discrete}
@@ -11,18 +10,16 @@ use lib.Dec.{eqb}
 use lib.ListN.{length}
 use borrow.Author.Tests.{eq-eqb, ne-eqb}
 use Rattle.laws.specs.Records.{field, putField}
-use Rattle.definition.specs.Threading.{Ends, Edge, Graph, leaving}
-use Rattle.definition.specs.Evidence.{Tree, Walk, opens, openTree, takeEdge, pass, walkBases, nodes}
-use Rattle.assembly.specs.Store.{edgeAt, edgesOf, graphOf, Good}
+use Rattle.definition.specs.Threading.{Ends, Graph, leaving}
+use Rattle.definition.specs.Evidence.{Walk, takeEdge, pass, walkBases, nodes}
+use Rattle.assembly.specs.Store.{edgeAt, edgesOf, Good}
 use Rattle.threading_tree.specs.Ends.{ends}
 use Rattle.threading_tree.specs.Slots.{cols, told, Beyond}
-use Rattle.threading_tree.specs.Nodes.{At}
 use Rattle.threading_tree.specs.Good.{slot-live}
-use Rattle.threading_tree.specs.Open.{RootAt}
 use Rattle.threading_tree.specs.All.{Walking as Asks, TookAll}
 use Rattle.threading_tree.specs.Held.{HeldWalk, held-under, held-few, held-walking, held-takes, held-full}
-use Rattle.threading_tree.specs.Grows.{many, open-many, take-many, bound-step, pass-grows}
-use Rattle.threading_tree.specs.Pass.{openWhere, takeUnless, pass-is, Stepping, Steps, passing, SteppedTo}
+use Rattle.threading_tree.specs.Grows.{many, open-many, take-many, bound-step}
+use Rattle.threading_tree.specs.Pass.{openWhere, takeUnless, pass-is, Stepping, Steps, passing}
 use Rattle.threading_tree.specs.declared.ThreadingState.{ThreadingState}
 use Rattle.threading_tree.specs.declared.Grown.{Grown}
 use Rattle.threading_tree.specs.declared.Grown.the-variants.{Nodes as Many, Refused as Stopped}
@@ -32,7 +29,7 @@ use Rattle.junction_trees.specs.declared.Ground.{Ground}
 use Rattle.junction_trees.specs.declared.Way.{Way}
 use Rattle.junction_trees.specs.declared.Walked.{Walked}
 use Rattle.junction_trees.specs.declared.Walked.the-variants.{Next, Refused}
-use Rattle.junction_trees.specs.Degrees.{Outs, Warrants, OnlyOut}
+use Rattle.junction_trees.specs.Degrees.{OutDegree, Warrants}
 use Rattle.junction_trees.specs.Roots.{rootOf, Kept, kept-self, kept-on, kept-put, root-same, root-other, good-kept}
 
 -- ---- the graph that is walked, which the tables hold
@@ -129,22 +126,8 @@ module _ {d : Ground} {s : Way} {i : ℕ} {vs es x op : List ℕ} (q : Passing d
   pub pass-row : s .here * 12 + 12 ≤ length vs
   pass-row = let a = here-in in let b = q .sound .room-v in omega arith
 
-  edge-room : (j : ℕ) → j < d .edges → j * 6 + 6 ≤ length es
-  edge-room j h = let b = q .sound .room-e in omega arith
-
   pub pass-edge-in : i * 6 + 6 ≤ length es
-  pass-edge-in = edge-room i (q .edge)
-
-  pub pass-outs : Outs vs es (s .here)
-  pass-outs =
-      record {
-        row = pass-row;
-        edge = λ c l z. edge-room (field vs 12 (s .here) c - 1) (named c l z);
-        target = λ c l z. (let a = q .sound .good .to-in (field vs 12 (s .here) c - 1) (named c l z) in let b = q .sound .room-v in omega arith);
-      }
-    where
-      named : (c : ℕ) → c < 8 → 0 < field vs 12 (s .here) c → field vs 12 (s .here) c - 1 < d .edges
-      named c l z = let w = q .sound .good .full (s .here) c here-in l z .0 in omega arith
+  pass-edge-in = let a = q .edge in let b = q .sound .room-e in omega arith
 
   pub pass-here-fits : s .here < 2 ^ 32
   pass-here-fits = let a = here-in in let b = q .sound .few in omega arith
@@ -152,6 +135,9 @@ module _ {d : Ground} {s : Way} {i : ℕ} {vs es x op : List ℕ} (q : Passing d
   module _ (to : ℕ) (ht : to ≡ field es 6 i 1) where
     to-in : to < d .vertices
     to-in = rw ht (q .sound .good .to-in i (q .edge))
+
+    pub pass-to-row : to * 12 + 12 ≤ length vs
+    pass-to-row = let a = to-in in let b = q .sound .room-v in omega arith
 
     pub pass-to-fits : to < 2 ^ 32
     pass-to-fits = let a = to-in in let b = q .sound .few in omega arith
@@ -178,16 +164,17 @@ module _ {d : Ground} {s : Way} {i : ℕ} {vs es x op : List ℕ} (q : Passing d
             spare = bound-fits (q .steps) (length (q .walk .opened)) (q .low) (q .state .few);
           }
 
-      module _ (o n : Bool) (ho : Warrants vs es (s .here) o) (hn : OnlyOut vs (s .here) n) (x' op' : List ℕ) (r : Joined)
-          (k : Steps (λ w. takeUnless n (ends (s .here) to) (openWhere o (s .here) w)) passing (d .most) (s .here) told-of x x' op op' r) where
-        step-is : (w : Walk) → takeUnless n (ends (s .here) to) (openWhere o (s .here) w) ≡ passOf d es i w
+      module _ (outs : ℕ) (hd : OutDegree vs (s .here) outs) (o : Bool) (ho : Warrants vs outs to o) (x' op' : List ℕ) (r : Joined)
+          (k : Steps (λ w. takeUnless (eqb outs 1) (ends (s .here) to) (openWhere o (s .here) w)) passing (d .most) (s .here) told-of x x' op op' r) where
+        step-is : (w : Walk) → takeUnless (eqb outs 1) (ends (s .here) to) (openWhere o (s .here) w) ≡ passOf d es i w
         step-is w =
-            rw (ho .is (q .sound .good) here-in, hn .is (q .sound .good) here-in, ends-are)
+            let m : outs ≡ length (leaving (edgesOf es (d .edges)) (s .here)) = hd .is (q .sound .good) here-in in
+            rw (ho .is (q .sound .good) (s .here) i (q .edge) (q .from) (sym ht) m, m, ends-are)
             (sym (pass-is (edgesOf es (d .edges)) (ends (s .here) to) w))
 
         pass-few : (w : Walk) → length (passOf d es i w .opened) ≤ length (w .opened) + 1
         pass-few w =
-            let a = unless-many n (ends (s .here) to) (openWhere o (s .here) w) in
+            let a = unless-many (eqb outs 1) (ends (s .here) to) (openWhere o (s .here) w) in
             let b = where-many o (s .here) w in
             rw (← step-is w) (omega arith)
 
@@ -195,7 +182,7 @@ module _ {d : Ground} {s : Way} {i : ℕ} {vs es x op : List ℕ} (q : Passing d
         module _ (h : ThreadingState) (e : r ≡ Holds h) where
           went : (w : Walk) (p : ℕ) → State d w p (s .nodes) (s .groups) vs x op → State d (passOf d es i w) (suc p) (h .nodes) (h .groups) (putField vs 12 (s .here) 11 (h .root)) x' op'
           went w p st =
-              let k' : Steps (λ u. takeUnless n (ends (s .here) to) (openWhere o (s .here) u)) passing (d .most) (s .here) told-of x x' op op' (Holds h) = rw e at k in
+              let k' : Steps (λ u. takeUnless (eqb outs 1) (ends (s .here) to) (openWhere o (s .here) u)) passing (d .most) (s .here) told-of x x' op op' (Holds h) = rw e at k in
               let c = k' .is w (p * suc p) (rootOf vs) (st .held) (sym hr) (rootOf (putField vs 12 (s .here) 11 (h .root))) (root-same vs (s .here) (h .root) pass-row)
               (λ u z. root-other vs (s .here) (h .root) u z) in
               let f = st .few in
@@ -228,7 +215,7 @@ module _ {d : Ground} {s : Way} {i : ℕ} {vs es x op : List ℕ} (q : Passing d
 
         pub pass-stop : (m : ℕ) → r ≡ Turned m → Passed d s i vs vs es x x' op op' (Refused 9)
         pass-stop m e =
-            let k' : Steps (λ u. takeUnless n (ends (s .here) to) (openWhere o (s .here) u)) passing (d .most) (s .here) told-of x x' op op' (Turned m) = rw e at k in
+            let k' : Steps (λ u. takeUnless (eqb outs 1) (ends (s .here) to) (openWhere o (s .here) u)) passing (d .most) (s .here) told-of x x' op op' (Turned m) = rw e at k in
             record {
               is = λ w p st. (refl, rw (← step-is w) (k' .is w (p * suc p) (rootOf vs) (st .held) (sym hr) .1));
               arrives = tt;
@@ -270,9 +257,6 @@ pub record Ended (d : Ground) (s : Way) (x x' op op' : List ℕ) (r : Walked) : 
   pub beyond-open : Beyond (d .most * 2) op op'
 
 module _ {d : Ground} {s : Way} {x op : List ℕ} (q : Ending d s x op) where
-  abbrev sym-edge : Ends
-  sym-edge = ends (d .sink) (d .vertices)
-
   pub end-stays : (s .here ≡ d .sink → ⊥) → Ended d s x x op op (Next s)
   end-stays h = record { is = λ w p vs st. rw (end-no d (s .here) w h) (state-more (suc p) (omega arith) st); beyond = λ i j. refl; beyond-open = λ i j. refl }
 

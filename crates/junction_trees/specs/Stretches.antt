@@ -1,15 +1,12 @@
 -- A whole stretch: the loop keeps "what is left of the walk from here is the whole walk", for every list of trees that the tables may hold at its start.
 -- Assumes nothing.
 use mathlib.Core.Path.{_≡_, refl, sym, ap, _∙_}
-use mathlib.Core.Logic.{_≢_, inl, inr}
-use mathlib.Core.Bool.{Bool, true, false}
-use mathlib.Core.Option.{Option, none, some}
+use mathlib.Core.Bool.{true}
+use mathlib.Core.Option.{none, some}
 use mathlib.Core.List.{List, [], _∷_, _++_}
-use Prim.Native.Nat.{ℕ, zero, suc, _+_, _-_, _*_, _^_, _<_, _≤_}
-use native.Mathlib.Numerals.{add-one}
+use Prim.Native.Nat.{ℕ, suc, _+_, _-_, _*_, _^_, _<_, _≤_}
 use native.Mathlib.Omega.{arith}
-use native.Mathlib.Decide.{ℕ-discrete, decLt}
-use lib.Dec.{eqb, ltb}
+use native.Mathlib.Decide.{decLt}
 use lib.ListN.{length, getD, take, drop, length-drop, length-append, drop-of-length-le}
 use lib.Seq.{take-take, drop-cons, getD-take, getD-drop, length-take-le}
 use borrow.Author.Tests.{lt-ltb, le-ltb}
@@ -18,21 +15,20 @@ use Rattle.definition.specs.Limits.{isBase}
 use Rattle.definition.specs.Stretch.{Stretch}
 use Rattle.definition.specs.Threading.{Ends, Edge, Graph, follow, numberOf}
 use Rattle.definition.specs.Evidence.{Tree, Walk, pass, walkBases, walkStretch, nodes}
-use Rattle.assembly.specs.Store.{edgeAt, edgesOf, kmersOf, graphOf, code, code-lt, Good, follow-none, follow-some}
+use Rattle.assembly.specs.Store.{edgeAt, kmersOf, graphOf, code, code-lt, follow-none, follow-some}
 use Rattle.assembly.specs.Kmers.{part, number-le}
 use Rattle.junction_tree_graph.specs.Stretches.{stretchAt}
 use Rattle.threading_tree.specs.Ends.{ends}
-use Rattle.threading_tree.specs.Slots.{told, Beyond}
-use Rattle.threading_tree.specs.Held.{HeldWalk, held-again}
-use Rattle.threading_tree.specs.Grows.{many, walk-grows, stretch-grows}
+use Rattle.threading_tree.specs.Held.{held-again}
+use Rattle.threading_tree.specs.Grows.{many, walk-grows}
 use Rattle.junction_trees.specs.declared.Ground.{Ground}
 use Rattle.junction_trees.specs.declared.Way.{Way}
 use Rattle.junction_trees.specs.declared.Walked.{Walked}
 use Rattle.junction_trees.specs.declared.Walked.the-variants.{Next, Refused}
 use Rattle.junction_trees.specs.declared.Evidence.{Evidence}
 use Rattle.junction_trees.specs.declared.Evidence.the-variants.{Trees, Refused as Full}
-use Rattle.junction_trees.specs.Roots.{rootOf, Kept, kept-self, good-kept, graph-kept}
-use Rattle.junction_trees.specs.Steps.{Sound, sound-kept, State, state-more, Frame, frame-self, frame-on, passOf, Passing, Passed, PassedTo, Arrives, endOf, end-is, Ending, Ended}
+use Rattle.junction_trees.specs.Roots.{kept-self, graph-kept}
+use Rattle.junction_trees.specs.Steps.{Sound, sound-kept, State, state-more, Frame, frame-self, frame-on, passOf, Passing, Passed, endOf, end-is, Ending, Ended}
 
 -- ---- trees to trees
 abbrev pub begun : List Tree → Walk
@@ -90,9 +86,6 @@ state-closed {op = op} s = record { held = held-again op (s .held .in-open) (s .
 
 -- ---- the loop
 module _ (d : Ground) (text es : List ℕ) (a len first count : ℕ) (vs₁ x₁ op₁ : List ℕ) where
-  abbrev bytes : List ℕ
-  bytes = take len (drop a text)
-
   abbrev wholeWalk : List Tree → Walk
   wholeWalk ts = walkBases (groundOf d text vs₁ es) (d .sink) (symbolicEnds d) first (drop (d .k) (take len (drop a text))) (begun ts)
 
@@ -190,9 +183,6 @@ module _ {d : Ground} {text vs₁ es x₁ op₁ : List ℕ} {a len count : ℕ} 
 
     -- ---- a base more
     module _ (l : j < len - d .k) where
-      abbrev byte : ℕ
-      byte = getD text (a + d .k + j) 0
-
       pub left-place : a + d .k + j < length text
       left-place = let z = q .inside in omega arith
 

@@ -1,38 +1,37 @@
 -- The whole: what the built graph gives, the roots cleared and then all walks, and when the trees fit the maximum. Assumes nothing.
-use mathlib.Core.Path.{_≡_, refl, sym, ap, _∙_}
-use mathlib.Core.Logic.{_≢_, inl, inr}
-use mathlib.Core.Bool.{Bool, true, false}
-use mathlib.Core.List.{List, [], _∷_, _++_}
-use Prim.Native.Nat.{ℕ, zero, suc, _+_, _-_, _*_, _^_, _<_, _≤_}
+use mathlib.Core.Path.{_≡_, sym, ap, _∙_}
+use mathlib.Core.Bool.{true}
+use mathlib.Core.List.{List, [], _++_}
+use Prim.Native.Nat.{ℕ, zero, suc, _*_, _^_, _<_, _≤_}
 use native.Mathlib.Omega.{arith}
 use native.Mathlib.Nat.{mul-le-mul-right}
 use native.Mathlib.Decide.{decLt}
 use lib.Dec.{leb}
 use lib.ListN.{length, getD, length-append}
-use borrow.Author.Tests.{leb-true}
+use borrow.Author.Tests.{leb-true, le-leb, lt-leb}
 use Rattle.laws.specs.ListLaws.{and-right}
 use Rattle.laws.specs.Numbers.{within}
 use Rattle.laws.specs.Records.{field}
-use Rattle.definition.specs.Refusal.{firstBroken}
+use Rattle.definition.specs.Refusal.{firstBroken, ok, refused}
+use Rattle.definition.specs.Building.{built, builtOf}
 use Rattle.definition.specs.Limits.{Sample, sampleRules}
-use Rattle.definition.specs.Stretch.{Stretch, stretches}
-use Rattle.definition.specs.Threading.{Ends, Graph, threaded, sinkOf, symbolicOf}
-use Rattle.definition.specs.Evidence.{Tree, walkAll, evidence, nodes}
-use Rattle.assembly.specs.Store.{graphOf, kmersOf}
+use Rattle.definition.specs.Stretch.{stretches}
+use Rattle.definition.specs.Threading.{Graph, threaded, symbolicOf, withSymbolic}
+use Rattle.definition.specs.Evidence.{evidence, nodes}
+use Rattle.assembly.specs.Store.{graphOf}
 use Rattle.assembly.specs.Kmers.{length-of}
 use Rattle.junction_tree_graph.specs.declared.Built.{Built}
 use Rattle.junction_tree_graph.specs.Built.{Fits, fits-of, BuiltAt}
 use Rattle.junction_tree_graph.specs.Reads.{readsOf}
 use Rattle.threading_tree.specs.Ends.{ends}
 use Rattle.threading_tree.specs.Slots.{told, Beyond}
-use Rattle.threading_tree.specs.Take.{Wide}
 use Rattle.threading_tree.specs.Held.{HeldWalk, held-start, held-under, held-nodes, held-room}
 use Rattle.junction_trees.specs.declared.Ground.{Ground}
 use Rattle.junction_trees.specs.declared.Evidence.{Evidence}
 use Rattle.junction_trees.specs.declared.Evidence.the-variants.{Trees, Refused as Full}
 use Rattle.junction_trees.specs.Roots.{rootOf, Kept, kept-on, Cleared, graph-kept, good-kept}
-use Rattle.junction_trees.specs.Steps.{Sound, sound-kept, State, Frame}
-use Rattle.junction_trees.specs.Stretches.{begun, groundOf, symbolicEnds, Answered, Walking}
+use Rattle.junction_trees.specs.Steps.{Sound, sound-kept, State}
+use Rattle.junction_trees.specs.Stretches.{begun, groundOf, Answered, Walking}
 use Rattle.junction_trees.specs.Reads.{ReadsWalk, walksOf}
 
 -- what the whole asks: the sample obeys its rules, the tables hold its graph as build_graph leaves it (within any maxima), and the nodes are zero
@@ -88,6 +87,17 @@ built-kept {s = s} {es = es} {m = m} p a =
       to = a .to;
       supports = a .supports;
     }
+
+-- ---- the definition's answer for the graph with its trees
+module _ {s : Sample} {v e : ℕ} {vs es : List ℕ} {n m sink : ℕ} (a : BuiltAt s v e vs es n m sink) (most : ℕ) where
+  pub built-fits : length (nodes (evidence s (threaded s))) ≤ most
+      → built s (record { vertices = v; edges = e; nodes = most }) ≡ ok (record { graph = threaded s; edges = withSymbolic s (threaded s); trees = evidence s (threaded s) })
+  unfolding built builtOf
+  built-fits h = rw (a .fits, builtOf, le-leb (length (nodes (evidence s (threaded s)))) most h)
+
+  pub built-over : (r : ℕ) → NotEvident s most r → built s (record { vertices = v; edges = e; nodes = most }) ≡ refused r
+  unfolding built builtOf
+  built-over r o = rw (a .fits, builtOf, lt-leb (length (nodes (evidence s (threaded s)))) most (o .over), o .nine)
 
 abbrev pub groundFor : Sample → Built → ℕ → Ground
 groundFor s b most = record { k = s .k; vertices = b .vertices; edges = b .edges; sink = b .sink; most = most }

@@ -17,13 +17,13 @@ use threading_tree::add_edge_to_junction_tree_nodes;
 use threading_tree::pass_edge;
 ghost use mathlib.Core.Path.{_≡_};
 ghost use mathlib.Core.List.{_++_};
-ghost use Prim.Native.Nat.{ℕ, _+_, _-_, _*_, _^_, _<_, _≤_};
+ghost use Prim.Native.Nat.{ℕ, _+_, _*_, _^_, _<_, _≤_};
 ghost use lib.ListN.{length, getD};
 ghost use Rattle.laws.specs.Records.{field, putField};
 ghost use Rattle.assembly.specs.Store.{code};
 ghost use Rattle.junction_tree_graph.specs.Reads.{readOf, readsOf};
 ghost use Rattle.junction_tree_graph.specs.Built.{sampleOf};
-ghost use Rattle.junction_trees.specs.Degrees.{slotsFull, Outs, sharedAt, anyShared, Warrants, OnlyOut};
+ghost use Rattle.junction_trees.specs.Degrees.{OutDegree, Warrants};
 ghost use Rattle.junction_trees.specs.Roots.{Cleared};
 ghost use Rattle.junction_trees.specs.Steps.{Passing, Passed, Ending, Ended};
 ghost use Rattle.junction_trees.specs.Stretches.{Walks, Walking, walkOf};
@@ -34,9 +34,9 @@ const VERTEX: usize = 12;
 
 const ROOT: usize = 11;
 
-// ---- the slot of a vertex's root
+// ---- the slot of a vertex's root, 0 where it has no tree
 
-fn root_slot(vertices: &[u32], v: usize) -> usize
+pub fn root_slot(vertices: &[u32], v: usize) -> usize
     requires { ⌜ v * 12 + 12 ≤ length (now vertices) ⌝ }
     ensures { λ r. ⌜ r ≡ field (now (vertices .entry)) 12 v 11 ⌝ }
 {
@@ -50,7 +50,7 @@ fn keep_root(vertices: &mut [u32], v: usize, slot: usize)
     vertices[v * VERTEX + ROOT] = slot as u32;
 }
 
-// No vertex has a tree yet.
+// No vertex has a tree yet; building the graph leaves open what field 11 holds.
 fn clear_roots(vertices: &mut [u32], n: usize)
     requires { ⌜ n * 12 ≤ length (now vertices) ⌝ }
     ensures { λ _. ⌜ Cleared (now (vertices .entry)) n (now (vertices .exit)) n ⌝ }
@@ -64,10 +64,10 @@ fn clear_roots(vertices: &mut [u32], n: usize)
 
 // ---- the out-edges of a vertex
 
-// How many of the eight slots of v name an edge.
+// How many edges leave v: its slots that name one.
 fn out_degree(vertices: &[u32], v: usize) -> usize
     requires { ⌜ v * 12 + 12 ≤ length (now vertices) ⌝ }
-    ensures { λ r. ⌜ r ≡ slotsFull (now (vertices .entry)) v 8 ⌝ }
+    ensures { λ r. ⌜ OutDegree (now (vertices .entry)) v r ⌝ }
 {
     let mut n: usize = 0;
     let mut c: usize = 0;
@@ -80,50 +80,16 @@ fn out_degree(vertices: &[u32], v: usize) -> usize
     n
 }
 
-// Whether slot c of v names an edge whose target has two or more in-edges.
-fn target_is_shared(vertices: &[u32], edges: &[u32], v: usize, c: usize) -> bool
-    requires { ⌜ Outs (now vertices) (now edges) v × (c < 8) ⌝ }
-    ensures { λ r. ⌜ r ≡ sharedAt (now (vertices .entry)) (now (edges .entry)) v c ⌝ }
+// Whether leaving a vertex by an edge to `to` opens the vertex's tree: it has two or more out-edges, or a target has two or more in-edges. Where it has
+// just one out-edge `to` is the only target.
+fn vertex_warrants_junction_tree(vertices: &[u32], outs: usize, to: usize) -> bool
+    requires { ⌜ to * 12 + 12 ≤ length (now vertices) ⌝ }
+    ensures { λ r. ⌜ Warrants (now (vertices .entry)) outs to r ⌝ }
 {
-    let slot = out_edge(vertices, v, c);
-    if slot == 0 {
-        return false;
-    }
-    let to = edge_to(edges, slot - 1);
-    incoming_count(vertices, to) > 1
-}
-
-fn any_target_is_shared(vertices: &[u32], edges: &[u32], v: usize) -> bool
-    requires { ⌜ Outs (now vertices) (now edges) v ⌝ }
-    ensures { λ r. ⌜ r ≡ anyShared (now (vertices .entry)) (now (edges .entry)) v 8 ⌝ }
-{
-    let mut c: usize = 0;
-    while c < 8 {
-        if target_is_shared(vertices, edges, v, c) {
-            return true;
-        }
-        c += 1;
-    }
-    false
-}
-
-// Whether leaving v opens its tree: it has two or more out-edges, or a target has two or more in-edges.
-pub fn vertex_warrants_junction_tree(vertices: &[u32], edges: &[u32], v: usize) -> bool
-    requires { ⌜ Outs (now vertices) (now edges) v ⌝ }
-    ensures { λ r. ⌜ Warrants (now (vertices .entry)) (now (edges .entry)) v r ⌝ }
-{
-    if out_degree(vertices, v) > 1 {
+    if outs > 1 {
         return true;
     }
-    any_target_is_shared(vertices, edges, v)
-}
-
-// Whether v has just one out-edge.
-pub fn is_only_out(vertices: &[u32], v: usize) -> bool
-    requires { ⌜ v * 12 + 12 ≤ length (now vertices) ⌝ }
-    ensures { λ r. ⌜ OnlyOut (now (vertices .entry)) v r ⌝ }
-{
-    out_degree(vertices, v) == 1
+    incoming_count(vertices, to) > 1
 }
 
 // ---- one walk
@@ -179,8 +145,8 @@ fn extend_junction_threading_by_one(
 {
     let v = s.here;
     let to = edge_to(edges, i);
-    let warrants = vertex_warrants_junction_tree(vertices, edges, v);
-    let only = is_only_out(vertices, v);
+    let outs = out_degree(vertices, v);
+    let warrants = vertex_warrants_junction_tree(vertices, outs, to);
     let held = ThreadingState {
         nodes: s.nodes,
         groups: s.groups,
@@ -194,7 +160,7 @@ fn extend_junction_threading_by_one(
         v as u32,
         to as u32,
         warrants,
-        only,
+        outs == 1,
     );
     let Joined::Next(h) = r else {
         return Walked::Refused(9);
@@ -260,6 +226,7 @@ fn walk_stretch(
     let mut j: usize = 0;
     while j < last {
         let slot = next_edge(reference, bases, vertices, s.here, a + d.k + j);
+        // The definition stops here too; a stretch that was threaded never does (its theorem Visits.walk-visits).
         if slot == 0 {
             return Evidence::Trees(s.nodes);
         }

@@ -1,35 +1,23 @@
 use mathlib.Core.Path.{_∙_}
-use borrow.Author.Needs.{needs}
 use Rattle.junction_trees.specs.Trees.{gather-room, gather-walks, gather-done}
-use borrow.Author.Needs.{needs}
 use Rattle.junction_trees.proofs.build_trees.Statement.{statement}
 use Rattle.junction_trees.proofs.build_trees.Tie as tie
-use Rattle.junction_trees.proofs.build_trees.Reads as reads
-use Rattle.junction_trees.proofs.build_trees.Lts as lts
-use Rattle.junction_trees.proofs.clear_roots.Reads as clear-roots-reads
-use Rattle.junction_trees.proofs.generate_junction_trees.Reads as generate-junction-trees-reads
 
--- src/lib.rt:421:5
 clear-roots-requires : tie.Need-clear-roots-requires
 clear-roots-requires c κs = gather-room (c .before .before .before .before .before .before .before .before .before .pre)
 
--- src/lib.rt:422:5
 generate-junction-trees-requires : tie.Need-generate-junction-trees-requires
 generate-junction-trees-requires c κs = gather-walks (c .before .before .before .before .before .before .before .before .before .before .before .before .before .before .before .pre) _ ((c .before .before .before .before .before .clear-roots) .ensures)
 
--- src/lib.rt:397:1
 same-length : tie.Need-same-length
 same-length c = (c .before .before .before .before .before .before .generate-junction-trees) .kept .1 .1 .1 .1 .0 ∙ (c .before .before .before .before .before .before .before .before .before .before .before .before .clear-roots) .kept .0
 
--- src/lib.rt:397:1
 same-length-2 : tie.Need-same-length-2
 same-length-2 c = (c .before .before .before .before .before .before .generate-junction-trees) .kept .1 .1 .1 .1 .1 .1 .0
 
--- src/lib.rt:397:1
 same-length-3 : tie.Need-same-length-3
 same-length-3 c = (c .before .before .before .before .before .before .generate-junction-trees) .kept .1 .1 .1 .1 .1 .1 .1 .0
 
--- src/lib.rt:397:1
 returns : tie.Need-returns
 returns c = gather-done (c .before .before .before .before .before .before .before .before .before .before .before .before .before .before .before .before .before .before .before .before .before .before .pre) _ ((c .before .before .before .before .before .before .before .before .before .before .before .before .clear-roots) .ensures) _ _ _ _ ((c .before .before .before .before .before .before .generate-junction-trees) .ensures)
 

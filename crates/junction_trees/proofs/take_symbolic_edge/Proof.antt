@@ -4,55 +4,40 @@ use Rattle.junction_trees.specs.Steps.{end-stays, end-asks, end-sink-fit
 use borrow.Author.Needs.{needs}
 use Rattle.junction_trees.proofs.take_symbolic_edge.Statement.{statement}
 use Rattle.junction_trees.proofs.take_symbolic_edge.Tie as tie
-use Rattle.junction_trees.proofs.take_symbolic_edge.Reads as reads
-use Rattle.junction_trees.proofs.take_symbolic_edge.Lts as lts
-use Rattle.threading_tree.proofs.add_edge_to_junction_tree_nodes.Reads as add-edge-to-junction-tree-nodes-reads
 
--- src/lib.rt:202:9
 returns : tie.Need-returns
 returns c = end-stays (c .before .before .before .before .before .pre) ((c .if1) .taken)
 
--- src/lib.rt:210:9
 cast-add-edge-to-junction-tree-nodes : tie.Need-cast-add-edge-to-junction-tree-nodes
 cast-add-edge-to-junction-tree-nodes c = let h = end-sink-fits (c .before .before .before .before .before .before .before .before .pre) in omega arith
 
--- src/lib.rt:211:9
 cast-add-edge-to-junction-tree-nodes-2 : tie.Need-cast-add-edge-to-junction-tree-nodes-2
 cast-add-edge-to-junction-tree-nodes-2 c = let h = end-to-fits (c .before .before .before .before .before .before .before .before .before .pre) in omega arith
 
--- src/lib.rt:204:9
 add-edge-to-junction-tree-nodes-requires : tie.Need-add-edge-to-junction-tree-nodes-requires
 add-edge-to-junction-tree-nodes-requires c κs = end-asks (c .before .before .before .before .before .before .before .before .before .pre)
 
--- src/lib.rt:213:22
 enum-known-r : tie.Need-enum-known-r
 enum-known-r c = search needs
 
--- src/lib.rt:214:9
 enum-told : tie.Need-enum-told
 enum-told c = search needs
 
--- src/lib.rt:214:9
 same-length : tie.Need-same-length
 same-length c = (c .before .before .before .before .before .before .add-edge-to-junction-tree-nodes) .kept .0
 
--- src/lib.rt:214:9
 same-length-2 : tie.Need-same-length-2
 same-length-2 c = (c .before .before .before .before .before .before .add-edge-to-junction-tree-nodes) .kept .1 .0
 
--- src/lib.rt:214:9
 returns-2 : tie.Need-returns-2
 returns-2 c = end-stop (c .before .before .before .before .before .before .before .before .before .before .before .before .before .before .before .before .pre) ((c .before .before .before .before .before .before .before .before .before .before .before .if1) .left) _ _ _ ((c .before .before .before .before .before .before .add-edge-to-junction-tree-nodes) .ensures) _ ((c .enum-told) .given .1)
 
--- src/lib.rt:197:1
 same-length-3 : tie.Need-same-length-3
 same-length-3 c = (c .before .before .before .before .before .before .before .add-edge-to-junction-tree-nodes) .kept .0
 
--- src/lib.rt:197:1
 same-length-4 : tie.Need-same-length-4
 same-length-4 c = (c .before .before .before .before .before .before .before .add-edge-to-junction-tree-nodes) .kept .1 .0
 
--- src/lib.rt:197:1
 returns-3 : tie.Need-returns-3
 returns-3 c = end-next (c .before .before .before .before .before .before .before .before .before .before .before .before .before .before .before .before .before .pre) ((c .before .before .before .before .before .before .before .before .before .before .before .before .if1) .left) _ _ _ ((c .before .before .before .before .before .before .before .add-edge-to-junction-tree-nodes) .ensures) _ ((c .before .r) .given .1) ((c .before .before .before .before .before .before .before .add-edge-to-junction-tree-nodes) .kept .0) ((c .before .before .before .before .before .before .before .add-edge-to-junction-tree-nodes) .kept .1 .0)
 

@@ -1,14 +1,10 @@
-use mathlib.Core.Path.{_≡_, _∙_}
+use mathlib.Core.Path.{_∙_}
 use Prim.Native.Nat.{ℕ, _+_, _-_}
 use native.Mathlib.Omega.{arith}
 use borrow.Author.Needs.{needs}
 use Rattle.junction_trees.specs.Reads.{ReadLeft, read-start, read-end, read-fits, read-more-fits, read-run, read-next, read-stop}
 use Rattle.junction_trees.proofs.walk_read.Statement.{statement}
 use Rattle.junction_trees.proofs.walk_read.Tie as tie
-use Rattle.junction_trees.proofs.walk_read.Reads as reads
-use Rattle.junction_trees.proofs.walk_read.Lts as lts
-use Rattle.junction_tree_graph.proofs.run_end.Reads as run-end-reads
-use Rattle.junction_trees.proofs.walk_run.Reads as walk-run-reads
 
 abbrev Inv-loop : tie.InvT-loop
 Inv-loop reference bases qualities vertices₀ edges nodes₀ active₀ quality d start end count n c₀ p₀ vertices nodes active c p = (sq : ℕ) → ReadLeft d quality reference bases qualities edges start end count vertices₀ nodes₀ active₀ vertices nodes active c p sq
@@ -16,75 +12,57 @@ Inv-loop reference bases qualities vertices₀ edges nodes₀ active₀ quality 
 abbrev μ-loop : tie.MeasureT-loop
 μ-loop reference bases qualities vertices₀ edges nodes₀ active₀ quality d start end count n c₀ p₀ vertices nodes active c p = end + 1 - p
 
--- src/lib.rt:327:5
 loop-holds : tie.Need-loop-holds Inv-loop μ-loop
 loop-holds c = read-start (c .before .before .before .before .before .before .before .pre) ((c .before .before .before .before .before .before .before .args) .quality)
 
--- src/lib.rt:328:13
 run-end-requires : tie.Need-run-end-requires Inv-loop μ-loop
 run-end-requires c κs = ((let l = (c .loop-test) .taken in omega arith), (c .before .before .before .before .before .before .before .before .before .pre) .in-b, (c .before .before .before .before .before .before .before .before .before .pre) .in-q)
 
--- src/lib.rt:337:13
 add-walk-run : tie.Need-add-walk-run Inv-loop μ-loop
 add-walk-run c = let h = read-fits (c .before .before .before .before .before .before .before .before .before .before .before .before .before .pre) ((c .before .before .before .before .before .before .before .before .before .before .before .before .before .args) .quality) ((c .before .before .before .before .before .loop) .inv) ((c .before .before .before .before .loop-test) .taken) ((c .before .before .before .run-end) .ensures) in omega arith
 
--- src/lib.rt:338:13
 sub-walk-run : tie.Need-sub-walk-run Inv-loop μ-loop
 sub-walk-run c = let h = (c .before .before .before .run-end) .ensures .from in omega arith
 
--- src/lib.rt:329:13
 walk-run-requires : tie.Need-walk-run-requires Inv-loop μ-loop
 walk-run-requires c κs = read-run (c .before .before .before .before .before .before .before .before .before .before .before .before .before .pre) ((c .before .before .before .before .before .before .before .before .before .before .before .before .before .args) .quality) ((c .before .before .before .before .before .loop) .inv) ((c .before .before .before .before .loop-test) .taken) ((c .before .before .before .run-end) .ensures)
 
--- src/lib.rt:341:29
 enum-known-r : tie.Need-enum-known-r Inv-loop μ-loop
 enum-known-r c = search needs
 
--- src/lib.rt:342:13
 enum-told : tie.Need-enum-told Inv-loop μ-loop
 enum-told c = search needs
 
--- src/lib.rt:342:13
 same-length : tie.Need-same-length Inv-loop μ-loop
 same-length c = (c .before .before .before .before .before .before .before .before .walk-run) .kept .1 .1 .0 ∙ (c .before .before .before .before .before .before .before .before .before .before .before .before .before .before .loop) .inv 0 .frame .kept .size
 
--- src/lib.rt:342:13
 same-length-2 : tie.Need-same-length-2 Inv-loop μ-loop
 same-length-2 c = (c .before .before .before .before .before .before .before .before .walk-run) .kept .1 .1 .1 .1 .0 ∙ (c .before .before .before .before .before .before .before .before .before .before .before .before .before .before .loop) .inv 0 .size-x
 
--- src/lib.rt:342:13
 same-length-3 : tie.Need-same-length-3 Inv-loop μ-loop
 same-length-3 c = (c .before .before .before .before .before .before .before .before .walk-run) .kept .1 .1 .1 .1 .1 .0 ∙ (c .before .before .before .before .before .before .before .before .before .before .before .before .before .before .loop) .inv 0 .size-op
 
--- src/lib.rt:342:13
 returns : tie.Need-returns Inv-loop μ-loop
 returns c = read-stop (c .before .before .before .before .before .before .before .before .before .before .before .before .before .before .before .before .before .before .before .before .before .before .pre) ((c .before .before .before .before .before .before .before .before .before .before .before .before .before .before .before .before .before .before .before .before .before .before .args) .quality) ((c .before .before .before .before .before .before .before .before .before .before .before .before .before .before .loop) .inv) ((c .before .before .before .before .before .before .before .before .before .before .before .before .before .loop-test) .taken) ((c .before .before .before .before .before .before .before .before .before .before .before .before .run-end) .ensures) _ _ _ _ ((c .before .before .before .before .before .before .before .before .walk-run) .ensures) _ ((c .enum-told) .given .1)
 
--- src/lib.rt:345:13
 add-p : tie.Need-add-p Inv-loop μ-loop
 add-p c = let h = read-more-fits (c .before .before .before .before .before .before .before .before .before .before .before .before .before .before .before .before .before .before .before .before .before .before .before .pre) ((c .before .before .before .before .before .before .before .before .before .before .before .before .before .before .before .before .before .before .before .before .before .before .before .args) .quality) ((c .before .before .before .before .before .before .before .before .before .before .before .before .before .before .before .loop) .inv) ((c .before .before .before .before .before .before .before .before .before .before .before .before .before .before .loop-test) .taken) ((c .before .before .before .before .before .before .before .before .before .before .before .before .before .run-end) .ensures) in omega arith
 
--- src/lib.rt:327:5
 loop-less : tie.Need-loop-less Inv-loop μ-loop
 loop-less c = let r = (c .before .before .before .before .before .before .before .before .before .before .before .before .before .run-end) .ensures .from in let l = (c .before .before .before .before .before .before .before .before .before .before .before .before .before .before .loop-test) .taken in omega arith
 
--- src/lib.rt:327:5
 loop-again : tie.Need-loop-again Inv-loop μ-loop
 loop-again c = read-next (c .before .before .before .before .before .before .before .before .before .before .before .before .before .before .before .before .before .before .before .before .before .before .before .pre) ((c .before .before .before .before .before .before .before .before .before .before .before .before .before .before .before .before .before .before .before .before .before .before .before .args) .quality) ((c .before .before .before .before .before .before .before .before .before .before .before .before .before .before .before .loop) .inv) ((c .before .before .before .before .before .before .before .before .before .before .before .before .before .before .loop-test) .taken) ((c .before .before .before .before .before .before .before .before .before .before .before .before .before .run-end) .ensures) _ _ _ _ ((c .before .before .before .before .before .before .before .before .before .walk-run) .ensures) _ ((c .before .r) .given .1) ((c .before .before .before .before .before .before .before .before .before .walk-run) .kept .1 .1 .1 .1 .0) ((c .before .before .before .before .before .before .before .before .before .walk-run) .kept .1 .1 .1 .1 .1 .0)
 
--- src/lib.rt:307:1
 same-length-4 : tie.Need-same-length-4 Inv-loop μ-loop
 same-length-4 c = (c .before .loop) .inv 0 .frame .kept .size
 
--- src/lib.rt:307:1
 same-length-5 : tie.Need-same-length-5 Inv-loop μ-loop
 same-length-5 c = (c .before .loop) .inv 0 .size-x
 
--- src/lib.rt:307:1
 same-length-6 : tie.Need-same-length-6 Inv-loop μ-loop
 same-length-6 c = (c .before .loop) .inv 0 .size-op
 
--- src/lib.rt:307:1
 returns-2 : tie.Need-returns-2 Inv-loop μ-loop
 returns-2 c = read-end (c .before .before .before .before .before .before .before .before .before .pre) ((c .before .before .before .before .before .before .before .before .before .args) .quality) ((c .before .loop) .inv) ((c .loop-test) .left)
 
