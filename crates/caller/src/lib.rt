@@ -16,7 +16,6 @@ use origins::OriginAnswer;
 use threading_tree::write_nodes;
 ghost use mathlib.Core.Path.{_≡_};
 ghost use mathlib.Core.List.{[], _∷_};
-ghost use lib.ListN.{length, replicate};
 ghost use Rattle.definition.specs.Limits.{longEnough, graphTold};
 ghost use Rattle.definition.specs.Building.{built};
 ghost use Rattle.definition.specs.Calls.{graphOf, originCall};
@@ -112,7 +111,7 @@ fn clear_all(w_v: &mut [u32], w_e: &mut [u32], w_n: &mut [u32], w_o: &mut [u32])
     clear(w_o, w_o.len());
 }
 
-// The rows of edges and nodes; nothing can be refused any more.
+// The rows of edges and nodes, and how many; nothing can be refused any more.
 fn write_rows(
     w_v: &mut [u32],
     w_e: &[u32],
@@ -123,13 +122,18 @@ fn write_rows(
     b: Built,
     n: usize,
     cap: usize,
-)
+) -> GraphAnswer
     requires { ⌜ Writes (now «w_v») (now «w_e») (now «w_n») (now «w_o») (now edges) (now nodes) b n cap ⌝ }
-    ensures { λ _. ⌜ Wrote (now («w_e» .entry)) (now («w_n» .entry)) (now («w_o» .entry)) (now («w_o» .exit)) (now (edges .entry)) (now (edges .exit)) (now (nodes .entry)) (now (nodes .exit)) b n ⌝ }
+    ensures { λ r. ⌜ Wrote (now («w_e» .entry)) (now («w_n» .entry)) (now («w_o» .entry)) (now («w_o» .exit)) (now (edges .entry)) (now (edges .exit)) (now (nodes .entry)) (now (nodes .exit)) b n r ⌝ }
 {
     link_symbolic_edge(w_v, b.sink, b.edges);
     write_edges(w_v, w_e, b.edges + 1, edges);
     write_nodes(w_n, w_o, nodes, n, cap);
+    GraphAnswer {
+        refusal: 0,
+        edges: (b.edges + 1) as u32,
+        nodes: n as u32,
+    }
 }
 
 // The graph and its trees over a workspace that is zero; the output is written once both are known to fit.
@@ -188,12 +192,7 @@ fn fill(
     let Evidence::Trees(n) = t else {
         return refused(trees_refusal(t));
     };
-    write_rows(w_v, w_e, w_n, w_o, edges, nodes, b, n, cap);
-    GraphAnswer {
-        refusal: 0,
-        edges: (b.edges + 1) as u32,
-        nodes: n as u32,
-    }
+    write_rows(w_v, w_e, w_n, w_o, edges, nodes, b, n, cap)
 }
 
 // The whole work over a workspace of just the lengths told: it may hold anything before, and is zero after.

@@ -16,6 +16,15 @@ write-edges-requires c κs = edges-ask _ (c .before .before .before .before .bef
 write-nodes-requires : tie.Need-write-nodes-requires
 write-nodes-requires c κs = search needs
 
+add-t15 : tie.Need-add-t15
+add-t15 c = search needs
+
+cast-t22 : tie.Need-cast-t22
+cast-t22 c = search needs
+
+cast-t23 : tie.Need-cast-t23
+cast-t23 c = search needs
+
 same-length : tie.Need-same-length
 same-length c = search needs
 
@@ -39,6 +48,9 @@ write-rows-spec =
     add-write-edges
     write-edges-requires
     write-nodes-requires
+    add-t15
+    cast-t22
+    cast-t23
     same-length
     same-length-2
     same-length-3
