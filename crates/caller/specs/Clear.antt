@@ -1,11 +1,11 @@
 -- Workspace that is zero throughout. Assumes nothing.
 use mathlib.Core.Path.{_≡_, refl, sym, ap, _∙_}
-use mathlib.Core.List.{List, [], _∷_, _++_, append-nil}
-use Prim.Native.Nat.{ℕ, zero, suc, _+_, _<_, _≤_}
+use mathlib.Core.List.{List, _++_, append-nil}
+use Prim.Native.Nat.{ℕ, zero, suc, _+_, _≤_}
 use lib.ListN.{length, getD, drop, take, replicate, length-replicate}
 use lib.Seq.{drop-length, length-take-le}
 use Rattle.definition.specs.Calls.{writtenAt}
-use Rattle.threading_tree.specs.Front.{front, written-front}
+use Rattle.threading_tree.specs.Front.{written-front}
 
 abbrev pub zeros : ℕ → List ℕ
 zeros n = replicate n 0

@@ -1,17 +1,17 @@
 -- The graph and its trees over a workspace that is zero: what each part asks, and what the answer is to the definition. Assumes nothing.
-use mathlib.Core.Path.{_≡_, refl, sym, ap, _∙_}
-use mathlib.Core.Bool.{Bool, true, false, _&&_}
-use mathlib.Core.List.{List, [], _∷_}
-use Prim.Native.Nat.{ℕ, suc, _+_, _*_, _^_, _<_, _≤_}
+use mathlib.Core.Path.{_≡_, sym, ap, _∙_}
+use mathlib.Core.Bool.{_&&_}
+use mathlib.Core.List.{List}
+use Prim.Native.Nat.{ℕ, _+_, _*_, _<_, _≤_}
 use native.Mathlib.Omega.{arith}
 use lib.Dec.{leb}
 use lib.ListN.{length, getD}
-use borrow.Author.Tests.{le-leb, lt-leb, leb-true}
-use Rattle.laws.specs.ListLaws.{and-left, and-right}
+use borrow.Author.Tests.{leb-true}
+use Rattle.laws.specs.ListLaws.{and-right}
 use Rattle.laws.specs.Numbers.{within}
-use Rattle.definition.specs.Refusal.{Result, ok, refused}
+use Rattle.definition.specs.Refusal.{Result}
 use Rattle.definition.specs.Limits.{Sample, GraphMaxima, graphMaximaFit}
-use Rattle.definition.specs.Threading.{Graph, threaded, withSymbolic}
+use Rattle.definition.specs.Threading.{threaded, withSymbolic}
 use Rattle.definition.specs.Evidence.{nodes, evidence}
 use Rattle.definition.specs.Building.{Built, built}
 use Rattle.definition.specs.Calls.{GraphOutcome, graphOf, writtenAt, flat, edgeRow, nodeRow}
@@ -24,12 +24,12 @@ use Rattle.junction_tree_graph.specs.declared.Built as tables
 use Rattle.junction_tree_graph.specs.declared.Answer.{Answer}
 use Rattle.junction_tree_graph.specs.declared.Answer.the-variants as answer
 use Rattle.junction_tree_graph.specs.Built.{Builds, BuiltAt, NotBuilt}
-use Rattle.junction_tree_graph.specs.Answers.{BuiltOf, maxima-in, not-built, is-built}
+use Rattle.junction_tree_graph.specs.Answers.{BuiltOf, maxima-in, not-built}
 use Rattle.junction_trees.specs.declared.Evidence.{Evidence}
 use Rattle.junction_trees.specs.declared.Evidence.the-variants as trees
 use Rattle.junction_trees.specs.Roots.{rootOf}
 use Rattle.junction_trees.specs.Stretches.{begun}
-use Rattle.junction_trees.specs.Trees.{Gathers, Gathered, Evident, NotEvident, built-kept}
+use Rattle.junction_trees.specs.Trees.{Gathers, Gathered, Evident, NotEvident, built-kept, built-fits, built-over}
 use Rattle.caller.specs.declared.GraphAnswer.{GraphAnswer}
 use Rattle.caller.specs.Lent.{Lent}
 use Rattle.caller.specs.Outcome.{outcome, refusedAnswer, graphRefusal, treesRefusal}
@@ -44,11 +44,13 @@ pub record Fills (s : Sample) (m : GraphMaxima) (es ns wv we wx wo : List ℕ) :
 pub record Writes (wv we wx wo es ns : List ℕ) (b : tables.Built) (n cap : ℕ) : Type 0 where
   pub sink-in : b .sink * 12 + 12 ≤ length wv
   pub few : b .edges + 1 ≤ 8192
+  pub many : n ≤ 16384
   pub orders : Orders (linked wv (b .sink) (b .edges)) we es (b .edges + 1)
   pub long : (b .edges + 1) * 6 ≤ length es
   pub nodes : Writable cap n wx wo ns
 
-pub record Wrote (we wx wo wo' es es' ns ns' : List ℕ) (b : tables.Built) (n : ℕ) : Type 0 where
+pub record Wrote (we wx wo wo' es es' ns ns' : List ℕ) (b : tables.Built) (n : ℕ) (r : GraphAnswer) : Type 0 where
+  pub answer : r ≡ record { refusal = 0; edges = b .edges + 1; nodes = n }
   pub edges : es' ≡ writtenAt 0 (flat edgeRow (edgesOf we (b .edges + 1))) es
   pub nodes : Written n wx wo wo' ns ns'
 
@@ -123,9 +125,8 @@ module _ {s : Sample} {m : GraphMaxima} {es ns wv we wx wo : List ℕ} (x : Fill
         unfolding graphOf
         fill-nine n e k f a u =
             let o : NotEvident s (m .nodes) n = rw e at (g .is) in
-            let z : a ≡ refusedAnswer 9 = u ∙ ap refusedAnswer (f ∙ ap treesRefusal e ∙ o .nine) in
-            let y : built s m ≡ refused 9 = is-built s m (at .fits) ∙ (rw (lt-leb (length (nodes (evidence s (threaded s)))) (m .nodes) (o .over))) in
-            ap (λ (q : GraphAnswer). outcome q es ns) z ∙ sym (ap (λ (q : Result Built). graphOf q es ns) y)
+            let z : a ≡ refusedAnswer n = u ∙ ap refusedAnswer (f ∙ ap treesRefusal e) in
+            ap (λ (q : GraphAnswer). outcome q es ns) z ∙ sym (ap (λ (q : Result Built). graphOf q es ns) (built-over at (m .nodes) n o))
 
         module _ (c : ℕ) (e : t ≡ trees.Trees c) (lo : length os₂ ≡ length wo) where
           there : Evident s vs₂ xs₂ os₂ (m .nodes) c
@@ -136,9 +137,6 @@ module _ {s : Sample} {m : GraphMaxima} {es ns wv we wx wo : List ℕ} (x : Fill
 
           room-v : b .vertices * 12 ≤ length vs₂
           room-v = let a = g .kept .size in let l = x .lent .w-vertices in let f = at .vertices-fit in let q = lv in omega arith
-
-          pub fill-few : (b .edges + 1 ≤ 8192) × (c ≤ 16384)
-          fill-few = let a = at .edges-fit in let f = edges-few in let k = there .fits in let l = there .count in let j = nodes-few in (omega arith, omega arith)
 
           pub fill-writes : Writes vs₂ es₁ xs₂ os₂ es ns b c (m .nodes)
           fill-writes =
@@ -155,6 +153,7 @@ module _ {s : Sample} {m : GraphMaxima} {es ns wv we wx wo : List ℕ} (x : Fill
               record {
                 sink-in = omega arith;
                 few = omega arith;
+                many = (let j = nodes-few in omega arith);
                 orders = linked-orders (now-at .good) (b .sink) (at .inside) (at .from) (at .to) room-v es (omega arith) (omega arith) (omega arith);
                 long = omega arith;
                 nodes = held-writable (begun (evidence s (threaded s))) (m .nodes) c 0 (there .bound) (rootOf vs₂) xs₂ os₂ (there .held) os₂ ns (omega arith) (omega arith);
@@ -166,14 +165,11 @@ module _ {s : Sample} {m : GraphMaxima} {es ns wv we wx wo : List ℕ} (x : Fill
               sym (ap length (at .edges))
               ∙ length-table (edgeAt es₁) (b .edges + 1) (linked-distinct (now-at .good) (b .sink) (at .inside) (at .from) (at .to) room-v)
 
-          is-ok : built s m ≡ ok (record { graph = threaded s; edges = withSymbolic s (threaded s); trees = evidence s (threaded s) })
-          is-ok = is-built s m (at .fits) ∙ (rw (le-leb (length (nodes (evidence s (threaded s)))) (m .nodes) (there .fits)))
-
-          pub fill-done : (es₃ ns₃ os₃ : List ℕ) → Wrote es₁ xs₂ os₂ os₃ es es₃ ns ns₃ b c
-              → _≡_ {A = GraphOutcome} (record { refusal = 0; edges = b .edges + 1; nodes = c; edgeSlice = es₃; nodeSlice = ns₃ }) (graphOf (built s m) es ns)
+          pub fill-done : (es₃ ns₃ os₃ : List ℕ) (a : GraphAnswer) → Wrote es₁ xs₂ os₂ os₃ es es₃ ns ns₃ b c a → outcome a es₃ ns₃ ≡ graphOf (built s m) es ns
           unfolding graphOf
-          fill-done es₃ ns₃ os₃ w =
+          fill-done es₃ ns₃ os₃ a w =
               let p : es₃ ≡ writtenAt 0 (flat edgeRow (withSymbolic s (threaded s))) es = rw (at .edges) at (w .edges) in
               let q : ns₃ ≡ writtenAt 0 (flat nodeRow (nodes (evidence s (threaded s)))) ns
               = held-written (begun (evidence s (threaded s))) (m .nodes) c 0 (there .bound) (rootOf vs₂) xs₂ os₂ (there .held) os₂ ns os₃ ns₃ (w .nodes) in
-              same-outcome (b .edges + 1) _ c _ es₃ _ ns₃ _ (sym edges-many) (sym (there .count)) p q ∙ sym (ap (λ (o : Result Built). graphOf o es ns) is-ok)
+              ap (λ (q : GraphAnswer). outcome q es₃ ns₃) (w .answer)
+              ∙ same-outcome (b .edges + 1) _ c _ es₃ _ ns₃ _ (sym edges-many) (sym (there .count)) p q ∙ sym (ap (λ (o : Result Built). graphOf o es ns) (built-fits at (m .nodes) (there .fits)))

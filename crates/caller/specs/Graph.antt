@@ -2,21 +2,21 @@
 use mathlib.Core.Path.{_≡_, refl, sym, ap, _∙_}
 use mathlib.Core.Bool.{Bool, true, false, _&&_}
 use mathlib.Core.List.{List, [], _∷_, _++_}
-use Prim.Native.Nat.{ℕ, zero, suc, _+_, _*_, _<_, _≤_}
+use Prim.Native.Nat.{ℕ, zero, suc, _+_, _<_, _≤_}
 use native.Mathlib.Omega.{arith}
 use native.Mathlib.Decide.{decLt}
 use lib.Dec.{leb}
 use lib.ListN.{length, take, drop}
 use lib.Seq.{length-take-le}
-use borrow.Author.Tests.{le-leb, lt-leb}
+use borrow.Author.Tests.{le-leb}
 use Rattle.laws.specs.Numbers.{within}
-use Rattle.definition.specs.Refusal.{Result, ok, refused, Rule, firstBroken}
+use Rattle.definition.specs.Refusal.{Rule, firstBroken}
 use Rattle.definition.specs.Limits.{Sample, GraphMaxima, sampleRules, graphRules, graphMaximaFit, longEnough, graphTold}
-use Rattle.definition.specs.Threading.{Graph, threaded, withSymbolic}
+use Rattle.definition.specs.Threading.{threaded, withSymbolic}
 use Rattle.definition.specs.Evidence.{nodes, evidence}
-use Rattle.definition.specs.Building.{Built, built, builtOf}
-use Rattle.definition.specs.Calls.{GraphOutcome, graphOf, graphCall, afterGraphChecks, workspaceAfter, writtenAt}
-use Rattle.limits.specs.Rules.{rule, Numbered, Holds, none-broken, first-broken, first-hold, sample-numbered, graph-rules}
+use Rattle.definition.specs.Building.{built, builtOf}
+use Rattle.definition.specs.Calls.{GraphOutcome, graphOf, graphCall, afterGraphChecks, workspaceAfter}
+use Rattle.limits.specs.Rules.{rule, Numbered, none-broken, first-broken, first-hold, sample-numbered, graph-rules}
 use Rattle.limits.specs.Workspaces.{vertexTable, edgeTable, nodeTable, openTrees}
 use Rattle.caller.specs.declared.GraphAnswer.{GraphAnswer}
 use Rattle.caller.specs.Lent.{workspaceTold, Long, long-of, Lent}

@@ -16,7 +16,6 @@ use origins::OriginAnswer;
 use threading_tree::write_nodes;
 ghost use mathlib.Core.Path.{_≡_};
 ghost use mathlib.Core.List.{[], _∷_};
-ghost use lib.ListN.{length, replicate};
 ghost use Rattle.definition.specs.Limits.{longEnough, graphTold};
 ghost use Rattle.definition.specs.Building.{built};
 ghost use Rattle.definition.specs.Calls.{graphOf, originCall};
@@ -100,34 +99,41 @@ fn trees_refusal(r: Evidence) -> u32
     }
 }
 
+// ---- the work; w_v, w_e and w_n are the workspace's tables of vertices, edges and nodes, and w_o its open trees
+
 // All of the workspace becomes 0.
-fn clear_all(w_vertices: &mut [u32], w_edges: &mut [u32], w_nodes: &mut [u32], w_open: &mut [u32])
-    ensures { λ _. ⌜ Zeroed (now («w_vertices» .entry)) (now («w_vertices» .exit)) (now («w_edges» .entry)) (now («w_edges» .exit)) (now («w_nodes» .entry)) (now («w_nodes» .exit)) (now («w_open» .entry)) (now («w_open» .exit)) ⌝ }
+fn clear_all(w_v: &mut [u32], w_e: &mut [u32], w_n: &mut [u32], w_o: &mut [u32])
+    ensures { λ _. ⌜ Zeroed (now («w_v» .entry)) (now («w_v» .exit)) (now («w_e» .entry)) (now («w_e» .exit)) (now («w_n» .entry)) (now («w_n» .exit)) (now («w_o» .entry)) (now («w_o» .exit)) ⌝ }
 {
-    clear(w_vertices, w_vertices.len());
-    clear(w_edges, w_edges.len());
-    clear(w_nodes, w_nodes.len());
-    clear(w_open, w_open.len());
+    clear(w_v, w_v.len());
+    clear(w_e, w_e.len());
+    clear(w_n, w_n.len());
+    clear(w_o, w_o.len());
 }
 
-// The rows of edges and nodes; nothing can be refused any more.
+// The rows of edges and nodes, and how many; nothing can be refused any more.
 fn write_rows(
-    w_vertices: &mut [u32],
-    w_edges: &[u32],
-    w_nodes: &[u32],
-    w_open: &mut [u32],
+    w_v: &mut [u32],
+    w_e: &[u32],
+    w_n: &[u32],
+    w_o: &mut [u32],
     edges: &mut [u32],
     nodes: &mut [u32],
     b: Built,
     n: usize,
     cap: usize,
-)
-    requires { ⌜ Writes (now «w_vertices») (now «w_edges») (now «w_nodes») (now «w_open») (now edges) (now nodes) b n cap ⌝ }
-    ensures { λ _. ⌜ Wrote (now («w_edges» .entry)) (now («w_nodes» .entry)) (now («w_open» .entry)) (now («w_open» .exit)) (now (edges .entry)) (now (edges .exit)) (now (nodes .entry)) (now (nodes .exit)) b n ⌝ }
+) -> GraphAnswer
+    requires { ⌜ Writes (now «w_v») (now «w_e») (now «w_n») (now «w_o») (now edges) (now nodes) b n cap ⌝ }
+    ensures { λ r. ⌜ Wrote (now («w_e» .entry)) (now («w_n» .entry)) (now («w_o» .entry)) (now («w_o» .exit)) (now (edges .entry)) (now (edges .exit)) (now (nodes .entry)) (now (nodes .exit)) b n r ⌝ }
 {
-    link_symbolic_edge(w_vertices, b.sink, b.edges);
-    write_edges(w_vertices, w_edges, b.edges + 1, edges);
-    write_nodes(w_nodes, w_open, nodes, n, cap);
+    link_symbolic_edge(w_v, b.sink, b.edges);
+    write_edges(w_v, w_e, b.edges + 1, edges);
+    write_nodes(w_n, w_o, nodes, n, cap);
+    GraphAnswer {
+        refusal: 0,
+        edges: (b.edges + 1) as u32,
+        nodes: n as u32,
+    }
 }
 
 // The graph and its trees over a workspace that is zero; the output is written once both are known to fit.
@@ -141,12 +147,12 @@ fn fill(
     maxima: GraphMaxima,
     edges: &mut [u32],
     nodes: &mut [u32],
-    w_vertices: &mut [u32],
-    w_edges: &mut [u32],
-    w_nodes: &mut [u32],
-    w_open: &mut [u32],
+    w_v: &mut [u32],
+    w_e: &mut [u32],
+    w_n: &mut [u32],
+    w_o: &mut [u32],
 ) -> GraphAnswer
-    requires { ⌜ Fills (sampleOf k quality (now reference) (now ends) (now bases) (now qualities)) (graphMaximaOf maxima) (now edges) (now nodes) (now «w_vertices») (now «w_edges») (now «w_nodes») (now «w_open») ⌝ }
+    requires { ⌜ Fills (sampleOf k quality (now reference) (now ends) (now bases) (now qualities)) (graphMaximaOf maxima) (now edges) (now nodes) (now «w_v») (now «w_e») (now «w_n») (now «w_o») ⌝ }
     ensures { λ r. ⌜ outcome r (now (edges .exit)) (now (nodes .exit)) ≡ graphOf (built (sampleOf k quality (now (reference .entry)) (now (ends .entry)) (now (bases .entry)) (now (qualities .entry))) (graphMaximaOf maxima)) (now (edges .entry)) (now (nodes .entry)) ⌝ }
 {
     let size = k as usize;
@@ -162,8 +168,8 @@ fn fill(
         ends,
         bases,
         qualities,
-        w_vertices,
-        w_edges,
+        w_v,
+        w_e,
         most,
     );
     let Answer::Done(b) = r else {
@@ -176,32 +182,17 @@ fn fill(
         ends,
         bases,
         qualities,
-        w_vertices,
-        w_edges,
-        w_nodes,
-        w_open,
+        w_v,
+        w_e,
+        w_n,
+        w_o,
         b,
         cap,
     );
     let Evidence::Trees(n) = t else {
         return refused(trees_refusal(t));
     };
-    write_rows(
-        w_vertices,
-        w_edges,
-        w_nodes,
-        w_open,
-        edges,
-        nodes,
-        b,
-        n,
-        cap,
-    );
-    GraphAnswer {
-        refusal: 0,
-        edges: (b.edges + 1) as u32,
-        nodes: n as u32,
-    }
+    write_rows(w_v, w_e, w_n, w_o, edges, nodes, b, n, cap)
 }
 
 // The whole work over a workspace of just the lengths told: it may hold anything before, and is zero after.
@@ -215,15 +206,15 @@ fn make_graph(
     maxima: GraphMaxima,
     edges: &mut [u32],
     nodes: &mut [u32],
-    w_vertices: &mut [u32],
-    w_edges: &mut [u32],
-    w_nodes: &mut [u32],
-    w_open: &mut [u32],
+    w_v: &mut [u32],
+    w_e: &mut [u32],
+    w_n: &mut [u32],
+    w_o: &mut [u32],
 ) -> GraphAnswer
-    requires { ⌜ Lent (sampleOf k quality (now reference) (now ends) (now bases) (now qualities)) (graphMaximaOf maxima) (now edges) (now nodes) (now «w_vertices») (now «w_edges») (now «w_nodes») (now «w_open») ⌝ }
-    ensures { λ r. ⌜ Made (sampleOf k quality (now (reference .entry)) (now (ends .entry)) (now (bases .entry)) (now (qualities .entry))) (graphMaximaOf maxima) r (now (edges .entry)) (now (edges .exit)) (now (nodes .entry)) (now (nodes .exit)) (now («w_vertices» .entry)) (now («w_vertices» .exit)) (now («w_edges» .entry)) (now («w_edges» .exit)) (now («w_nodes» .entry)) (now («w_nodes» .exit)) (now («w_open» .entry)) (now («w_open» .exit)) ⌝ }
+    requires { ⌜ Lent (sampleOf k quality (now reference) (now ends) (now bases) (now qualities)) (graphMaximaOf maxima) (now edges) (now nodes) (now «w_v») (now «w_e») (now «w_n») (now «w_o») ⌝ }
+    ensures { λ r. ⌜ Made (sampleOf k quality (now (reference .entry)) (now (ends .entry)) (now (bases .entry)) (now (qualities .entry))) (graphMaximaOf maxima) r (now (edges .entry)) (now (edges .exit)) (now (nodes .entry)) (now (nodes .exit)) (now («w_v» .entry)) (now («w_v» .exit)) (now («w_e» .entry)) (now («w_e» .exit)) (now («w_n» .entry)) (now («w_n» .exit)) (now («w_o» .entry)) (now («w_o» .exit)) ⌝ }
 {
-    clear_all(w_vertices, w_edges, w_nodes, w_open);
+    clear_all(w_v, w_e, w_n, w_o);
     let r = fill(
         k,
         quality,
@@ -234,16 +225,18 @@ fn make_graph(
         maxima,
         edges,
         nodes,
-        w_vertices,
-        w_edges,
-        w_nodes,
-        w_open,
+        w_v,
+        w_e,
+        w_n,
+        w_o,
     );
-    clear_all(w_vertices, w_edges, w_nodes, w_open);
+    clear_all(w_v, w_e, w_n, w_o);
     r
 }
 
-// The call for edges and trees.
+// ---- the call for edges and trees
+
+// Refused with nothing touched, or the work over just the part of each workspace slice that is told.
 pub fn graph(
     k: u32,
     quality: u8,

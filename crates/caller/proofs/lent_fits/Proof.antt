@@ -1,88 +1,67 @@
+-- `lent_fits` meets its contract: the first slice shorter than told decides. Assumes nothing.
 use Rattle.caller.specs.Lent.{is-short, no-short, none-short, told-is}
 use mathlib.Core.Path.{_∙_}
 use borrow.Author.Needs.{needs}
 use Rattle.caller.proofs.lent_fits.Statement.{statement}
 use Rattle.caller.proofs.lent_fits.Tie as tie
-use Rattle.caller.proofs.lent_fits.Reads as reads
-use Rattle.caller.proofs.lent_fits.Lts as lts
 
--- src/lib.rt:53:16
 cast-if1 : tie.Need-cast-if1
 cast-if1 c = search needs
 
--- src/lib.rt:53:16
 mul-if1 : tie.Need-mul-if1
 mul-if1 c = search needs
 
--- src/lib.rt:54:9
 returns : tie.Need-returns
 returns c = is-short _ _ _ _ (c .if1 .taken) ∙ told-is _ _
 
--- src/lib.rt:56:16
 cast-if2 : tie.Need-cast-if2
 cast-if2 c = search needs
 
--- src/lib.rt:56:16
 mul-if2 : tie.Need-mul-if2
 mul-if2 c = search needs
 
--- src/lib.rt:57:9
 returns-2 : tie.Need-returns-2
 returns-2 c = is-short _ _ _ _ (c .if2 .taken) ∙ no-short _ _ _ _ (c .before .before .if1 .left) ∙ told-is _ _
 
--- src/lib.rt:59:23
 cast-if3 : tie.Need-cast-if3
 cast-if3 c = search needs
 
--- src/lib.rt:59:23
 mul-if3 : tie.Need-mul-if3
 mul-if3 c = search needs
 
--- src/lib.rt:60:9
 returns-3 : tie.Need-returns-3
 returns-3 c = is-short _ _ _ _ (c .if3 .taken) ∙ no-short _ _ _ _ (c .before .before .if2 .left) ∙ no-short _ _ _ _ (c .before .before .before .before .if1 .left) ∙ told-is _ _
 
--- src/lib.rt:62:21
 cast-if4 : tie.Need-cast-if4
 cast-if4 c = search needs
 
--- src/lib.rt:62:21
 mul-if4 : tie.Need-mul-if4
 mul-if4 c = search needs
 
--- src/lib.rt:63:9
 returns-4 : tie.Need-returns-4
 returns-4 c = is-short _ _ _ _ (c .if4 .taken) ∙ no-short _ _ _ _ (c .before .before .if3 .left) ∙ no-short _ _ _ _ (c .before .before .before .before .if2 .left) ∙ no-short _ _ _ _ (c .before .before .before .before .before .before .if1 .left) ∙ told-is _ _
 
--- src/lib.rt:65:22
 cast-if5 : tie.Need-cast-if5
 cast-if5 c = search needs
 
--- src/lib.rt:65:22
 add-if5 : tie.Need-add-if5
 add-if5 c = search needs
 
--- src/lib.rt:65:21
 mul-if5 : tie.Need-mul-if5
 mul-if5 c = search needs
 
--- src/lib.rt:66:9
 returns-5 : tie.Need-returns-5
 returns-5 c = is-short _ _ _ _ (c .if5 .taken) ∙ no-short _ _ _ _ (c .before .before .if4 .left) ∙ no-short _ _ _ _ (c .before .before .before .before .if3 .left) ∙ no-short _ _ _ _ (c .before .before .before .before .before .before .if2 .left) ∙ no-short _ _ _ _ (c .before .before .before .before .before .before .before .before .if1 .left) ∙ told-is _ _
 
--- src/lib.rt:68:21
 cast-if6 : tie.Need-cast-if6
 cast-if6 c = search needs
 
--- src/lib.rt:68:21
 mul-if6 : tie.Need-mul-if6
 mul-if6 c = search needs
 
--- src/lib.rt:69:9
 returns-6 : tie.Need-returns-6
 returns-6 c = is-short _ _ _ _ (c .if6 .taken) ∙ no-short _ _ _ _ (c .before .before .if5 .left) ∙ no-short _ _ _ _ (c .before .before .before .before .if4 .left) ∙ no-short _ _ _ _ (c .before .before .before .before .before .before .if3 .left) ∙ no-short _ _ _ _ (c .before .before .before .before .before .before .before .before .if2 .left) ∙ no-short _ _ _ _ (c .before .before .before .before .before .before .before .before .before .before .if1 .left) ∙ told-is _ _
 
--- src/lib.rt:41:1
 returns-7 : tie.Need-returns-7
 returns-7 c = none-short ∙ no-short _ _ _ _ (c .if6 .left) ∙ no-short _ _ _ _ (c .before .before .if5 .left) ∙ no-short _ _ _ _ (c .before .before .before .before .if4 .left) ∙ no-short _ _ _ _ (c .before .before .before .before .before .before .if3 .left) ∙ no-short _ _ _ _ (c .before .before .before .before .before .before .before .before .if2 .left) ∙ no-short _ _ _ _ (c .before .before .before .before .before .before .before .before .before .before .if1 .left) ∙ told-is _ _
 

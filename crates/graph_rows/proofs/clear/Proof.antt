@@ -1,3 +1,4 @@
+-- `clear` meets its contract. The invariant: the first i numbers are 0 and the rest as before. Assumes nothing.
 use Prim.Native.Nat.{_-_}
 use native.Mathlib.Omega.{arith}
 use Rattle.graph_rows.specs.Zeros.{Clearing, clear-start, clear-in, clear-next, clear-end}

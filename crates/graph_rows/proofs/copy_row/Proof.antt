@@ -1,3 +1,4 @@
+-- `copy_row` meets its contract: the six stores are the definition's row. Assumes nothing.
 use native.Mathlib.Omega.{arith}
 use lib.ListN.{length-set}
 use Rattle.definition.specs.Threading.{supportOf}
@@ -5,211 +6,157 @@ use Rattle.definition.specs.Calls.{edgeRow}
 use borrow.Author.Needs.{needs}
 use Rattle.graph_rows.proofs.copy_row.Statement.{statement}
 use Rattle.graph_rows.proofs.copy_row.Tie as tie
-use Rattle.graph_rows.proofs.copy_row.Reads as reads
-use Rattle.graph_rows.proofs.copy_row.Lts as lts
-use Rattle.graph_rows.proofs.flag.Reads as flag-reads
 
--- src/lib.rt:43:27
 mul-flag : tie.Need-mul-flag
 mul-flag c = search needs
 
--- src/lib.rt:43:27
 add-flag : tie.Need-add-flag
 add-flag c = search needs
 
--- src/lib.rt:43:21
 mul-flag-2 : tie.Need-mul-flag-2
 mul-flag-2 c = search needs
 
--- src/lib.rt:43:21
 shared-slice-read-flag : tie.Need-shared-slice-read-flag
 shared-slice-read-flag c = search needs
 
--- src/lib.rt:43:9
 flag-requires : tie.Need-flag-requires
 flag-requires c κs = search needs
 
--- src/lib.rt:44:34
 mul-out : tie.Need-mul-out
 mul-out c = search needs
 
--- src/lib.rt:44:34
 add-out : tie.Need-add-out
 add-out c = search needs
 
--- src/lib.rt:44:28
 mul-out-2 : tie.Need-mul-out-2
 mul-out-2 c = search needs
 
--- src/lib.rt:44:28
 shared-slice-read-out : tie.Need-shared-slice-read-out
 shared-slice-read-out c = search needs
 
--- src/lib.rt:44:9
 mul-out-3 : tie.Need-mul-out-3
 mul-out-3 c = search needs
 
--- src/lib.rt:44:9
 add-out-2 : tie.Need-add-out-2
 add-out-2 c = search needs
 
--- src/lib.rt:44:5
 mul-out-4 : tie.Need-mul-out-4
 mul-out-4 c = search needs
 
--- src/lib.rt:44:5
 slice-write-out : tie.Need-slice-write-out
 slice-write-out c = search needs
 
--- src/lib.rt:45:32
 mul-out-5 : tie.Need-mul-out-5
 mul-out-5 c = search needs
 
--- src/lib.rt:45:32
 add-out-3 : tie.Need-add-out-3
 add-out-3 c = search needs
 
--- src/lib.rt:45:26
 mul-out-6 : tie.Need-mul-out-6
 mul-out-6 c = search needs
 
--- src/lib.rt:45:26
 shared-slice-read-out-2 : tie.Need-shared-slice-read-out-2
 shared-slice-read-out-2 c = search needs
 
--- src/lib.rt:45:9
 mul-out-7 : tie.Need-mul-out-7
 mul-out-7 c = search needs
 
--- src/lib.rt:45:9
 add-out-4 : tie.Need-add-out-4
 add-out-4 c = search needs
 
--- src/lib.rt:45:5
 mul-out-8 : tie.Need-mul-out-8
 mul-out-8 c = search needs
 
--- src/lib.rt:45:5
 slice-write-out-2 : tie.Need-slice-write-out-2
 slice-write-out-2 c = simp length-set (omega arith)
 
--- src/lib.rt:46:37
 mul-out-9 : tie.Need-mul-out-9
 mul-out-9 c = search needs
 
--- src/lib.rt:46:37
 add-out-5 : tie.Need-add-out-5
 add-out-5 c = search needs
 
--- src/lib.rt:46:31
 mul-out-10 : tie.Need-mul-out-10
 mul-out-10 c = search needs
 
--- src/lib.rt:46:31
 shared-slice-read-out-3 : tie.Need-shared-slice-read-out-3
 shared-slice-read-out-3 c = search needs
 
--- src/lib.rt:46:9
 mul-out-11 : tie.Need-mul-out-11
 mul-out-11 c = search needs
 
--- src/lib.rt:46:9
 add-out-6 : tie.Need-add-out-6
 add-out-6 c = search needs
 
--- src/lib.rt:46:5
 mul-out-12 : tie.Need-mul-out-12
 mul-out-12 c = search needs
 
--- src/lib.rt:46:5
 slice-write-out-3 : tie.Need-slice-write-out-3
 slice-write-out-3 c = simp length-set (omega arith)
 
--- src/lib.rt:47:9
 mul-out-13 : tie.Need-mul-out-13
 mul-out-13 c = search needs
 
--- src/lib.rt:47:9
 add-out-7 : tie.Need-add-out-7
 add-out-7 c = search needs
 
--- src/lib.rt:47:5
 mul-out-14 : tie.Need-mul-out-14
 mul-out-14 c = search needs
 
--- src/lib.rt:47:5
 slice-write-out-4 : tie.Need-slice-write-out-4
 slice-write-out-4 c = simp length-set (omega arith)
 
--- src/lib.rt:48:38
 mul-out-15 : tie.Need-mul-out-15
 mul-out-15 c = search needs
 
--- src/lib.rt:48:38
 add-out-8 : tie.Need-add-out-8
 add-out-8 c = search needs
 
--- src/lib.rt:48:32
 mul-out-16 : tie.Need-mul-out-16
 mul-out-16 c = search needs
 
--- src/lib.rt:48:32
 shared-slice-read-out-4 : tie.Need-shared-slice-read-out-4
 shared-slice-read-out-4 c = search needs
 
--- src/lib.rt:48:9
 mul-out-17 : tie.Need-mul-out-17
 mul-out-17 c = search needs
 
--- src/lib.rt:48:9
 add-out-9 : tie.Need-add-out-9
 add-out-9 c = search needs
 
--- src/lib.rt:48:5
 mul-out-18 : tie.Need-mul-out-18
 mul-out-18 c = search needs
 
--- src/lib.rt:48:5
 slice-write-out-5 : tie.Need-slice-write-out-5
 slice-write-out-5 c = simp length-set (omega arith)
 
--- src/lib.rt:49:35
 mul-out-19 : tie.Need-mul-out-19
 mul-out-19 c = search needs
 
--- src/lib.rt:49:35
 add-out-10 : tie.Need-add-out-10
 add-out-10 c = search needs
 
--- src/lib.rt:49:29
 mul-out-20 : tie.Need-mul-out-20
 mul-out-20 c = search needs
 
--- src/lib.rt:49:29
 shared-slice-read-out-5 : tie.Need-shared-slice-read-out-5
 shared-slice-read-out-5 c = search needs
 
--- src/lib.rt:49:9
 mul-out-21 : tie.Need-mul-out-21
 mul-out-21 c = search needs
 
--- src/lib.rt:49:9
 add-out-11 : tie.Need-add-out-11
 add-out-11 c = search needs
 
--- src/lib.rt:49:5
 mul-out-22 : tie.Need-mul-out-22
 mul-out-22 c = search needs
 
--- src/lib.rt:49:5
 slice-write-out-6 : tie.Need-slice-write-out-6
 slice-write-out-6 c = simp length-set (omega arith)
 
--- src/lib.rt:39:1
 same-length : tie.Need-same-length
 same-length c = simp length-set
 
--- src/lib.rt:39:1
 returns : tie.Need-returns
 unfolding edgeRow supportOf
 returns c = rw (c .before .before .before .before .before .flag .ensures)

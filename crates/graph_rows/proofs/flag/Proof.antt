@@ -1,14 +1,11 @@
+-- `flag` meets its contract. Assumes nothing.
 use borrow.Author.Tests.{eq-eqb, ne-eqb}
 use Rattle.graph_rows.proofs.flag.Statement.{statement}
 use Rattle.graph_rows.proofs.flag.Tie as tie
-use Rattle.graph_rows.proofs.flag.Reads as reads
-use Rattle.graph_rows.proofs.flag.Lts as lts
 
--- src/lib.rt:33:9
 returns : tie.Need-returns
 returns c = rw (eq-eqb _ _ (c .if1 .taken))
 
--- src/lib.rt:29:1
 returns-2 : tie.Need-returns-2
 returns-2 c = rw (ne-eqb _ _ (c .if1 .left))
 

@@ -1,3 +1,4 @@
+-- `write_edges` meets its contract. The invariant: what is written and what is left are all edges; the measure falls with each vertex or row. Assumes nothing.
 use Prim.Native.Nat.{_-_, _+_, _*_}
 use native.Mathlib.Omega.{arith}
 use lib.ListN.{length}
