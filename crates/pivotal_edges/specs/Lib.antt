@@ -1,2 +1,5 @@
 pub mod Queue
 pub mod Walk
+pub mod Lists
+pub mod Queues
+pub mod Marks

@@ -7,9 +7,18 @@ use assembly::next_out;
 use assembly::wide;
 ghost use mathlib.Core.Path.{_≡_};
 ghost use Prim.Native.Nat.{ℕ, _+_, _-_, _*_, _/_, _%_, _<_, _≤_};
-ghost use mathlib.Core.List.{_∷_};
+ghost use mathlib.Core.List.{List, _∷_};
 ghost use lib.ListN.{length, getD};
 ghost use lib.Seq.{sets};
+ghost use mathlib.Core.Bool.{Bool, true};
+ghost use lib.Dec.{ltb};
+ghost use Rattle.definition.specs.Threading.{Ends, leaving};
+ghost use Rattle.definition.specs.Search.{pivotalOf};
+ghost use Rattle.assembly.specs.Store.{edgeAt, edgesOf};
+ghost use Rattle.pivotal_edges.specs.Walk.{Here, Seen, fresh};
+ghost use Rattle.pivotal_edges.specs.Lists.{counts, takes, OneListed, Lists, Listed};
+ghost use Rattle.pivotal_edges.specs.Queues.{QueuesOne, OneQueued, Queues, QueuedOut};
+ghost use Rattle.pivotal_edges.specs.Marks.{Marks, Marked};
 ghost use Rattle.pivotal_edges.specs.Queue.{Fits, before, part, Known, Placed, Enqueued};
 
 // A queued edge is one number: its distance from the source 8192 times, and its number.
@@ -91,4 +100,132 @@ fn enqueue(edges: &[u32], queue: &mut [u32], front: usize, tail: usize, x: u32)
 {
     let p = place(edges, queue, front, tail, x);
     put_at(queue, p, tail, x);
+}
+
+// Two edges or more leave v.
+fn forks(vertices: &[u32], edges: &[u32], m: usize, v: usize) -> bool
+    requires { ⌜ Here (now vertices) (now edges) m v ⌝ }
+    ensures { λ r. ⌜ r ≡ ltb 1 (length (leaving (edgesOf (now (edges .entry)) m) v)) ⌝ }
+{
+    let r = next_out(vertices, edges, v, 0);
+    if r == 0 {
+        return false;
+    }
+    let s = next_out(vertices, edges, v, edge_to(edges, r - 1) + 1);
+    s > 0
+}
+
+// Edge i is no reference edge of support 1.
+fn counted(edges: &[u32], i: usize) -> bool
+    requires { ⌜ i * 6 + 6 ≤ length (now edges) ⌝ }
+    ensures { λ r. ⌜ r ≡ counts (edgeAt (now (edges .entry)) i) ⌝ }
+{
+    if edge_support(edges, i) == 1 {
+        return !edge_is_ref(edges, i);
+    }
+    true
+}
+
+// Edge i of a fork is listed, unless it is visited or a reference edge of support 1.
+fn list_edge(edges: &[u32], i: usize, visited: &[u32], out: &mut [u32], n: usize) -> usize
+    requires { ⌜ (i * 6 + 6 ≤ length (now edges)) × (i < length (now visited)) × (i < 8192) × (takes (now edges) (now visited) i ≡ true → n < length (now out)) ⌝ }
+    ensures { λ r. ⌜ OneListed (now (edges .entry)) (now (visited .entry)) (now (out .entry)) (now (out .exit)) i n r ⌝ }
+{
+    if visited[i] != 0 {
+        return n;
+    }
+    if !counted(edges, i) {
+        return n;
+    }
+    out[n] = i as u32;
+    n + 1
+}
+
+// The pivotal edges that leave v go behind the n found so far.
+fn list_out(
+    vertices: &[u32],
+    edges: &[u32],
+    m: usize,
+    v: usize,
+    visited: &[u32],
+    out: &mut [u32],
+    n: usize,
+) -> usize
+    requires { ⌜ Lists (now vertices) (now edges) m v (now visited) (now out) n ⌝ }
+    ensures { λ r. ⌜ ((vis : List Ends) → Seen (now (edges .entry)) m (now (visited .entry)) vis → Listed (now (edges .entry)) m (now (out .entry)) (now (out .exit)) n r (pivotalOf (leaving (edgesOf (now (edges .entry)) m) v) (fresh vis (leaving (edgesOf (now (edges .entry)) m) v)))) ⌝ }
+{
+    if !forks(vertices, edges, m, v) {
+        return n;
+    }
+    let mut found = n;
+    let mut t: usize = 0;
+    let mut r = next_out(vertices, edges, v, t);
+    while r > 0 {
+        found = list_edge(edges, r - 1, visited, out, found);
+        t = edge_to(edges, r - 1) + 1;
+        r = next_out(vertices, edges, v, t);
+    }
+    found
+}
+
+// Edge i is queued at that distance, unless it is visited.
+fn queue_edge(
+    edges: &[u32],
+    m: usize,
+    visited: &[u32],
+    queue: &mut [u32],
+    front: usize,
+    tail: usize,
+    level: usize,
+    i: usize,
+) -> usize
+    requires { ⌜ QueuesOne (now edges) m (now visited) (now queue) front tail level i ⌝ }
+    ensures { λ r. ⌜ OneQueued (now (edges .entry)) (now (visited .entry)) (now (queue .entry)) (now (queue .exit)) front tail level i r ⌝ }
+{
+    if visited[i] != 0 {
+        return tail;
+    }
+    let x = (level * LEVEL + i) as u32;
+    enqueue(edges, queue, front, tail, x);
+    tail + 1
+}
+
+// The edges that leave v and are not visited are queued at that distance.
+fn queue_out(
+    vertices: &[u32],
+    edges: &[u32],
+    m: usize,
+    v: usize,
+    level: usize,
+    visited: &[u32],
+    queue: &mut [u32],
+    front: usize,
+    tail: usize,
+) -> usize
+    requires { ⌜ Queues (now vertices) (now edges) m v level (now visited) (now queue) front tail ⌝ }
+    ensures { λ r. ⌜ ((vis : List Ends) → Seen (now (edges .entry)) m (now (visited .entry)) vis → QueuedOut (now (edges .entry)) m v level vis (now (queue .entry)) (now (queue .exit)) front tail r) ⌝ }
+{
+    let mut end = tail;
+    let mut t: usize = 0;
+    let mut r = next_out(vertices, edges, v, t);
+    while r > 0 {
+        end = queue_edge(edges, m, visited, queue, front, end, level, r - 1);
+        t = edge_to(edges, r - 1) + 1;
+        r = next_out(vertices, edges, v, t);
+    }
+    end
+}
+
+// The edges that leave v are visited.
+fn mark_out(vertices: &[u32], edges: &[u32], m: usize, v: usize, visited: &mut [u32])
+    requires { ⌜ Marks (now vertices) (now edges) m v (now visited) ⌝ }
+    ensures { λ _. ⌜ Marked (now (edges .entry)) m v (now (visited .entry)) (now (visited .exit)) ⌝ }
+{
+    let mut t: usize = 0;
+    let mut r = next_out(vertices, edges, v, t);
+    while r > 0 {
+        visited[r - 1] = 1;
+        t = edge_to(edges, r - 1) + 1;
+        r = next_out(vertices, edges, v, t);
+    }
 }
