@@ -3,3 +3,4 @@ pub mod Walk
 pub mod Lists
 pub mod Queues
 pub mod Marks
+pub mod Turns

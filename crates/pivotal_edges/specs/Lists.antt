@@ -118,7 +118,7 @@ pub record Lister (es : List ℕ) (m v : ℕ) (marks out₀ out : List ℕ) (n�
 drop-more : {A : Type 0} (n : ℕ) (a b : List A) → drop n a ≡ drop n b → drop (n + 1) a ≡ drop (n + 1) b
 drop-more n a b e = sym (drop-drop 1 n a) ∙ ap (λ l. drop 1 l) e ∙ drop-drop 1 n b
 
-length-keep : {A : Type 0} (t : A → Bool) (xs : List A) → length (keep t xs) ≤ length xs
+pub length-keep : {A : Type 0} (t : A → Bool) (xs : List A) → length (keep t xs) ≤ length xs
 length-keep t [] = omega arith
 length-keep t (x ∷ xs) = go (t x) refl (length-keep t xs)
   where
@@ -126,7 +126,7 @@ length-keep t (x ∷ xs) = go (t x) refl (length-keep t xs)
     go true e h = rw e (omega arith)
     go false e h = rw e (omega arith)
 
-length-ends : (es : List Edge) → length (endsOf es) ≡ length es
+pub length-ends : (es : List Edge) → length (endsOf es) ≡ length es
 unfolding endsOf
 length-ends [] = refl
 length-ends (e ∷ es) = ap suc (length-ends es)

@@ -29,7 +29,7 @@ eqEnds-same a b e p = ap p (go (eqb (a .from) (b .from)) refl e)
     go false f g = absurd (let z : _≡_ {A = ℕ} 0 1 = cc in omega arith)
 
 -- among those that pass: it passes and is among them
-among-keep : (d : Ends) (p : Ends → Bool) (es : List Edge) → among d (endsOf (keep (λ (e : Edge). p (e .ends)) es)) ≡ (p d && among d (endsOf es))
+pub among-keep : (d : Ends) (p : Ends → Bool) (es : List Edge) → among d (endsOf (keep (λ (e : Edge). p (e .ends)) es)) ≡ (p d && among d (endsOf es))
 unfolding among endsOf
 among-keep d p [] = no (p d)
   where

@@ -19,6 +19,7 @@ ghost use Rattle.pivotal_edges.specs.Walk.{Here, Seen, fresh};
 ghost use Rattle.pivotal_edges.specs.Lists.{counts, takes, OneListed, Lists, Listed};
 ghost use Rattle.pivotal_edges.specs.Queues.{QueuesOne, OneQueued, Queues, QueuedOut};
 ghost use Rattle.pivotal_edges.specs.Marks.{Marks, Marked};
+ghost use Rattle.pivotal_edges.specs.Turns.{Pivots, Pivoted};
 ghost use Rattle.pivotal_edges.specs.Queue.{Fits, before, part, Known, Placed, Enqueued};
 
 // A queued edge is one number: its distance from the source 8192 times, and its number.
@@ -228,4 +229,41 @@ fn mark_out(vertices: &[u32], edges: &[u32], m: usize, v: usize, visited: &mut [
         t = edge_to(edges, r - 1) + 1;
         r = next_out(vertices, edges, v, t);
     }
+}
+
+// The numbers of the pivotal edges, in order, in the first places of `out`: how many. An edge is queued at most once after the source's own.
+pub fn create_pivotal_edges_in_topological_order(
+    vertices: &[u32],
+    edges: &[u32],
+    m: usize,
+    queue: &mut [u32],
+    visited: &mut [u32],
+    out: &mut [u32],
+) -> usize
+    requires { ⌜ Pivots (now vertices) (now edges) m (now queue) (now visited) (now out) ⌝ }
+    ensures { λ r. ⌜ Pivoted (now (edges .entry)) m (now (out .entry)) (now (out .exit)) r ⌝ }
+{
+    let mut tail = queue_out(vertices, edges, m, 0, 0, visited, queue, 0, 0);
+    let mut front: usize = 0;
+    let mut found: usize = 0;
+    while front < tail {
+        let x = queue[front];
+        let v = edge_to(edges, edge_of(x));
+        let level = level_of(x) + 1;
+        found = list_out(vertices, edges, m, v, visited, out, found);
+        tail = queue_out(
+            vertices,
+            edges,
+            m,
+            v,
+            level,
+            visited,
+            queue,
+            front + 1,
+            tail,
+        );
+        mark_out(vertices, edges, m, v, visited);
+        front += 1;
+    }
+    found
 }
