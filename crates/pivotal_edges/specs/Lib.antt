@@ -4,3 +4,4 @@ pub mod Lists
 pub mod Queues
 pub mod Marks
 pub mod Turns
+pub mod Links
