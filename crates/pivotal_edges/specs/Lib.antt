@@ -5,3 +5,4 @@ pub mod Queues
 pub mod Marks
 pub mod Turns
 pub mod Links
+pub mod Once

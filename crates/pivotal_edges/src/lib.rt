@@ -6,21 +6,21 @@ use assembly::edge_to;
 use assembly::next_out;
 use assembly::wide;
 ghost use mathlib.Core.Path.{_≡_};
-ghost use Prim.Native.Nat.{ℕ, _+_, _-_, _*_, _/_, _%_, _<_, _≤_};
+ghost use mathlib.Core.Bool.{true};
 ghost use mathlib.Core.List.{List, _∷_};
-ghost use lib.ListN.{length, getD};
-ghost use lib.Seq.{sets};
-ghost use mathlib.Core.Bool.{Bool, true};
+ghost use Prim.Native.Nat.{_+_, _*_, _/_, _%_, _<_, _≤_};
 ghost use lib.Dec.{ltb};
+ghost use lib.ListN.{length};
+ghost use lib.Seq.{sets};
 ghost use Rattle.definition.specs.Threading.{Ends, leaving};
 ghost use Rattle.definition.specs.Search.{pivotalOf};
 ghost use Rattle.assembly.specs.Store.{edgeAt, edgesOf};
+ghost use Rattle.pivotal_edges.specs.Queue.{Fits, before, part, Known, Placed, Enqueued};
 ghost use Rattle.pivotal_edges.specs.Walk.{Here, Seen, fresh};
 ghost use Rattle.pivotal_edges.specs.Lists.{counts, takes, OneListed, Lists, Listed};
 ghost use Rattle.pivotal_edges.specs.Queues.{QueuesOne, OneQueued, Queues, QueuedOut};
 ghost use Rattle.pivotal_edges.specs.Marks.{Marks, Marked};
 ghost use Rattle.pivotal_edges.specs.Turns.{Pivots, Pivoted};
-ghost use Rattle.pivotal_edges.specs.Queue.{Fits, before, part, Known, Placed, Enqueued};
 
 // A queued edge is one number: its distance from the source 8192 times, and its number.
 const LEVEL: usize = 8192;
