@@ -7,8 +7,8 @@ use Prim.Native.Nat.{ℕ, zero, suc, _+_, _-_, _*_, _<_, _≤_}
 use native.Mathlib.Omega.{arith}
 use native.Mathlib.Decide.{ℕ-discrete, decLt}
 use lib.Dec.{ltb, eqb}
-use lib.ListN.{length, getD, set, length-set}
-use lib.Seq.{getD-set-same, getD-set-other}
+use lib.ListN.{length, getD, set, drop, length-set}
+use lib.Seq.{getD-set-same, getD-set-other, drop-set-lt}
 use borrow.Author.Tests.{lt-ltb, le-ltb, eq-eqb, ne-eqb, eqb-true, ltb-true}
 use Rattle.laws.specs.Lists.{keep, any}
 use Rattle.laws.specs.Records.{field}
@@ -83,12 +83,14 @@ pub record Marks (vs es : List ℕ) (m v : ℕ) (marks : List ℕ) : Type 0 wher
   pub marks-in : m ≤ length marks
 
 -- what is visited after it
-abbrev pub Marked : List ℕ → ℕ → ℕ → List ℕ → List ℕ → Type 0
-Marked es m v marks marks' = (vis : List Ends) → Seen es m marks vis → Seen es m marks' (vis ++ endsOf (fresh vis (leaving (edgesOf es m) v)))
+pub record Marked (es : List ℕ) (m v : ℕ) (marks marks' : List ℕ) : Type 0 where
+  pub seen : (vis : List Ends) → Seen es m marks vis → Seen es m marks' (vis ++ endsOf (fresh vis (leaving (edgesOf es m) v)))
+  pub rest : drop m marks' ≡ drop m marks
 
 pub record Marker (es : List ℕ) (m v : ℕ) (marks₀ marks : List ℕ) (t r : ℕ) : Type 0 where
   pub next : Nexts es m v t r
   pub size : length marks ≡ length marks₀
+  pub beyond : drop m marks ≡ drop m marks₀
   pub each : (i : ℕ) → i < m → ltb 0 (getD marks i 0) ≡ (ltb 0 (getD marks₀ i 0) || (eqb (field es 6 i 0) v && ltb (field es 6 i 1) t))
 
 and-no : (b : Bool) → (b && false) ≡ false
@@ -109,13 +111,14 @@ module _ {vs es : List ℕ} {m v : ℕ} {marks₀ : List ℕ} (p : Marks vs es m
       record {
         next = next-is (p .here) all;
         size = refl;
+        beyond = refl;
         each = λ i h. sym (rw (le-ltb (field es 6 i 1) 0 (omega arith), and-no (eqb (field es 6 i 0) v)) (or-no (ltb 0 (getD marks₀ i 0))));
       }
 
   module _ {marks : List ℕ} {t r : ℕ} (b : Marker es m v marks₀ marks t r) where
-    pub marker-end : r ≤ 0 → Marked es m v marks₀ marks
+    marker-seen : r ≤ 0 → (vis : List Ends) → Seen es m marks₀ vis → Seen es m marks (vis ++ endsOf (fresh vis (leaving (edgesOf es m) v)))
     unfolding leaving
-    marker-end h vis s i l =
+    marker-seen h vis s i l =
         let a : among (endsAt es i) (endsOf (fresh vis (leaving (edgesOf es m) v))) ≡ (not (among (endsAt es i) vis) && (eqb (field es 6 i 0) v && among (endsAt es i) (endsOf (edgesOf es m)))) =
         among-keep (endsAt es i) (λ (d : Ends). not (among d vis)) (leaving (edgesOf es m) v)
         ∙ ap (λ (z : Bool). not (among (endsAt es i) vis) && z) (among-keep (endsAt es i) (λ (d : Ends). eqb (d .from) v) (edgesOf es m)) in
@@ -134,6 +137,9 @@ module _ {vs es : List ℕ} {m v : ℕ} {marks₀ : List ℕ} (p : Marks vs es m
             low (no z) = absurd (let w = b .next .least i l (eqb-true (field es 6 i 0) v e) (omega arith) .0 in omega arith)
         go false false e = refl
 
+    pub marker-end : r ≤ 0 → Marked es m v marks₀ marks
+    marker-end h = record { seen = marker-seen h; rest = b .beyond }
+
     module _ (h : 0 < r) where
       i-in : r - 1 < m
       i-in = next-in (p .here) (b .next) h
@@ -143,7 +149,7 @@ module _ {vs es : List ℕ} {m v : ℕ} {marks₀ : List ℕ} (p : Marks vs es m
 
       pub marker-next : {w s : ℕ} → w ≡ field es 6 (r - 1) 1 → ((k : ℕ) → Slots vs es k v → Nexts es k v (w + 1) s) → Marker es m v marks₀ (set marks (r - 1) 1) (w + 1) s
       marker-next {w} {s} e all =
-          record { next = next-is (p .here) all; size = length-set marks (r - 1) 1 ∙ b .size; each = λ i l. go i l (ℕ-discrete i (r - 1)) }
+          record { next = next-is (p .here) all; size = length-set marks (r - 1) 1 ∙ b .size; beyond = drop-set-lt m marks (r - 1) 1 i-in ∙ b .beyond; each = λ i l. go i l (ℕ-discrete i (r - 1)) }
         where
           from : field es 6 (r - 1) 0 ≡ v
           from = b .next .there h .1

@@ -224,6 +224,11 @@ module _ {q₀ : List ℕ} {p tail x : ℕ} {q : List ℕ} {i carry : ℕ} (room
 pub record Enqueued (es q q' : List ℕ) (front tail x : ℕ) : Type 0 where
   pub size : length q' ≡ length q
   pub is : part q' front (tail + 1) ≡ insert (before es) x (part q front tail)
+  pub rest : (k : ℕ) → tail < k → drop k q' ≡ drop k q
+
+drop-sets : {A : Type 0} (k : ℕ) (l : List A) (i : ℕ) (vs : List A) → i + length vs ≤ k → drop k (sets l i vs) ≡ drop k l
+drop-sets k l i [] h = refl
+drop-sets k l i (v ∷ vs) h = drop-sets k (set l i v) (suc i) vs (omega arith) ∙ drop-set-lt k l i v (omega arith)
 
 pub enqueued : (es q q' : List ℕ) (front tail x r : ℕ) → tail < length q → Placed es q front tail x r → q' ≡ sets q r (x ∷ part q r tail) → Enqueued es q q' front tail x
 unfolding part
@@ -241,4 +246,5 @@ enqueued es q q' front tail x r room b e =
           ∙ ap (λ (l : List ℕ). drop front l) (take-at (take r q ++ (x ∷ part q r tail)) (drop (r + suc (length (part q r tail))) q) (tail + 1) w)
           ∙ drop-append-le front (take r q) (x ∷ part q r tail) (omega arith)
           ∙ sym (b .is);
+      rest = λ k z. (ap (λ (l : List ℕ). drop k l) e ∙ drop-sets k q r (x ∷ part q r tail) (omega arith));
     }

@@ -6,7 +6,7 @@ use Prim.Native.Nat.{ℕ, zero, suc, _+_, _-_, _*_, _/_, _%_, _<_, _≤_}
 use native.Mathlib.Omega.{arith}
 use native.Mathlib.Decide.{ℕ-discrete}
 use lib.Dec.{ltb, eqb}
-use lib.ListN.{length, getD}
+use lib.ListN.{length, getD, drop}
 use borrow.Author.Tests.{lt-ltb, le-ltb}
 use Rattle.laws.specs.Lists.{keep}
 use Rattle.laws.specs.ListLaws.{All, nil, cons, all-mono}
@@ -62,6 +62,7 @@ pub record OneQueued (es marks q q' : List ℕ) (front tail level i r : ℕ) : T
   pub size : length q' ≡ length q
   pub yes : getD marks i 0 ≡ 0 → (r ≡ tail + 1) × (part q' front (tail + 1) ≡ insert (before es) (level * 8192 + i) (part q front tail))
   pub no : (getD marks i 0 ≡ 0 → ⊥) → (r ≡ tail) × (q' ≡ q)
+  pub rest : (k : ℕ) → r ≤ k → drop k q' ≡ drop k q
 
 module _ {es : List ℕ} {m : ℕ} {marks q : List ℕ} {front tail level i : ℕ} (p : QueuesOne es m marks q front tail level i) where
   pub one-mark : i < length marks
@@ -80,10 +81,10 @@ module _ {es : List ℕ} {m : ℕ} {marks q : List ℕ} {front tail level i : �
       }
 
   pub one-no : (getD marks i 0 ≡ 0 → ⊥) → OneQueued es marks q q front tail level i tail
-  one-no h = record { size = refl; yes = λ k. absurd (h k); no = λ k. (refl, refl) }
+  one-no h = record { size = refl; yes = λ k. absurd (h k); no = λ k. (refl, refl); rest = λ k z. refl }
 
   pub one-yes : {q' : List ℕ} {x : ℕ} → x ≡ level * 8192 + i → getD marks i 0 ≡ 0 → Enqueued es q q' front tail x → OneQueued es marks q q' front tail level i (tail + 1)
-  one-yes e h w = record { size = w .size; yes = λ k. (refl, rw (← e) (w .is)); no = λ k. absurd (k h) }
+  one-yes e h w = record { size = w .size; yes = λ k. (refl, rw (← e) (w .is)); no = λ k. absurd (k h); rest = λ k z. w .rest k (omega arith) }
 
 -- ---- the walk
 pub record Queues (vs es : List ℕ) (m v level : ℕ) (marks q : List ℕ) (front tail : ℕ) : Type 0 where
@@ -102,6 +103,7 @@ pub record QueuedOut (es : List ℕ) (m v level : ℕ) (vis : List Ends) (q q' :
   pub many : r ≡ tail + length (fresh vis (leaving (edgesOf es m) v))
   pub is : view es q' front r ≡ enqueueAll level (fresh vis (leaving (edgesOf es m) v)) (view es q front tail)
   pub entries : All (Entry m front) (part q' front r)
+  pub rest : (k : ℕ) → r ≤ k → drop k q' ≡ drop k q
 
 pub record Queueing (es : List ℕ) (m v level : ℕ) (vis : List Ends) (q₀ q : List ℕ) (front tail₀ tail t : ℕ) : Type 0 where
   pub many : tail + length (fresh vis (outFrom (edgesOf es m) v t)) ≡ tail₀ + length (fresh vis (leaving (edgesOf es m) v))
@@ -112,6 +114,7 @@ pub record Queuer (es : List ℕ) (m v level : ℕ) (marks q₀ q : List ℕ) (f
   pub size : length q ≡ length q₀
   pub low : front ≤ tail
   pub entries : All (Entry m front) (part q front tail)
+  pub beyond : (k : ℕ) → tail ≤ k → drop k q ≡ drop k q₀
   pub each : (vis : List Ends) → Seen es m marks vis → Queueing es m v level vis q₀ q front tail₀ tail t
 
 module _ (es marks : List ℕ) (m : ℕ) (vis : List Ends) (s : Seen es m marks vis) (i : ℕ) (h : i < m) (l : List Edge) where
@@ -138,6 +141,7 @@ module _ {vs es : List ℕ} {m v level : ℕ} {marks q₀ : List ℕ} {front tai
         size = refl;
         low = p .low;
         entries = p .entries;
+        beyond = λ k z. refl;
         each = λ vis s. record { many = ap (λ (l : List Edge). tail₀ + length (fresh vis l)) e; is = ap (λ (l : List Edge). enqueueAll level (fresh vis l) (view es q₀ front tail₀)) e };
       }
 
@@ -150,6 +154,7 @@ module _ {vs es : List ℕ} {m v level : ℕ} {marks q₀ : List ℕ} {front tai
           many = (let u = x .many in let w = ap length e in omega arith);
           is = sym (all-nil level (view es q front tail)) ∙ ap (λ (l : List Edge). enqueueAll level l (view es q front tail)) (sym e) ∙ x .is;
           entries = b .entries;
+          rest = b .beyond;
         }
 
     module _ (h : 0 < r) where
@@ -206,6 +211,7 @@ module _ {vs es : List ℕ} {m v level : ℕ} {marks q₀ : List ℕ} {front tai
                     (all-insert (before es) (level * 8192 + (r - 1))
                     ((let a : (level * 8192 + (r - 1)) % 8192 ≡ r - 1 = omega arith in let c = i-in in omega arith), (let a : (level * 8192 + (r - 1)) / 8192 ≡ level = omega arith in let c = p .small in omega arith))
                     (b .entries));
+                beyond = λ k u. (o .rest k u ∙ b .beyond k (let c = y .0 in omega arith));
                 each =
                     λ vis u.
                     (let x = b .each vis u in
@@ -232,6 +238,7 @@ module _ {vs es : List ℕ} {m v level : ℕ} {marks q₀ : List ℕ} {front tai
                 size = b .size;
                 low = b .low;
                 entries = b .entries;
+                beyond = b .beyond;
                 each =
                     λ vis u.
                     (let x = b .each vis u in

@@ -93,11 +93,13 @@ pub record Pivots (vs es : List ℕ) (m : ℕ) (q marks out : List ℕ) : Type 0
   pub room-o : m ≤ length out
 
 -- the first r numbers name the pivotal edges, in order; the rest of `out` is as it was
-pub record Pivoted (es : List ℕ) (m : ℕ) (out out' : List ℕ) (r : ℕ) : Type 0 where
+pub record Pivoted (es : List ℕ) (m : ℕ) (q marks out q' marks' out' : List ℕ) (r : ℕ) : Type 0 where
   pub few : r ≤ m
   pub is : (f : SearchInput) → f .edges ≡ edgesOf es m → f .source ≡ 0 → map (λ (i : ℕ). edgeAt es i .ends) (take r out') ≡ pivotalEdges f
   pub low : All (λ (i : ℕ). i < m) (take r out')
   pub beyond : drop r out' ≡ drop r out
+  pub queue-beyond : drop (m + m) q' ≡ drop (m + m) q
+  pub marks-beyond : drop m marks' ≡ drop m marks
 
 pub record Turning (es : List ℕ) (m : ℕ) (q₁ marks₀ out₀ q marks out : List ℕ) (front tail n : ℕ) : Type 0 where
   pub size-q : length q ≡ length q₁
@@ -115,6 +117,8 @@ pub record Turning (es : List ℕ) (m : ℕ) (q₁ marks₀ out₀ q marks out :
   pub is : map (endsAt es) (take n out) ++ pivotalFrom (edgesOf es m) fuel (view es q front tail) vis ≡ pivotals es m
   pub beyond : drop n out ≡ drop n out₀
   pub names : All (λ (i : ℕ). i < m) (take n out)
+  pub rest-q : drop (m + m) q ≡ drop (m + m) q₁
+  pub rest-m : drop m marks ≡ drop m marks₀
 
 fresh-nil : (L : List Edge) → fresh [] L ≡ L
 unfolding among
@@ -181,14 +185,21 @@ module _ {vs es : List ℕ} {m : ℕ} {q₀ marks₀ out₀ : List ℕ} (p : Piv
             ∙ ap (λ (l : List ℕ). enqueueAll 0 (leaving (edgesOf es m) 0) (map (queuedAt es) l)) none);
         beyond = refl;
         names = nil;
+        rest-q = refl;
+        rest-m = refl;
       }
+
+  pub source-rest : {q : List ℕ} {tail : ℕ} → ((vis : List Ends) → Seen es m marks₀ vis → QueuedOut es m 0 0 vis q₀ q 0 0 tail) → drop (m + m) q ≡ drop (m + m) q₀
+  source-rest all =
+      let x = all [] seen-none in
+      x .rest (m + m) (let a = x .many in let c = ap length (fresh-nil (leaving (edgesOf es m) 0)) in let d = first-few in omega arith)
 
   module _ {q₁ q marks out : List ℕ} {front tail n : ℕ} (b : Turning es m q₁ marks₀ out₀ q marks out front tail n) where
     high : tail ≤ length q
     high = let a = b .queued in let c = b .room-q in omega arith
 
-    pub turning-end : tail ≤ front → Pivoted es m out₀ out n
-    turning-end h =
+    pub turning-end : drop (m + m) q₁ ≡ drop (m + m) q₀ → tail ≤ front → Pivoted es m q₀ marks₀ out₀ q marks out n
+    turning-end rq h =
         let e : view es q front tail ≡ [] = ap (map (queuedAt es)) (part-none q front tail high h) in
         let f : pivotalFrom (edgesOf es m) (b .fuel) (view es q front tail) (b .vis) ≡ [] =
         ap (λ (l : List Queued). pivotalFrom (edgesOf es m) (b .fuel) l (b .vis)) e ∙ pivotal-nil (edgesOf es m) (b .fuel) (b .vis) in
@@ -201,6 +212,8 @@ module _ {vs es : List ℕ} {m : ℕ} {q₀ marks₀ out₀ : List ℕ} (p : Piv
               ∙ pivotals-is es m g e' s;
           low = b .names;
           beyond = b .beyond;
+          queue-beyond = b .rest-q ∙ rq;
+          marks-beyond = b .rest-m;
         }
 
     module _ (h : front < tail) where
@@ -273,7 +286,7 @@ module _ {vs es : List ℕ} {m : ℕ} {q₀ marks₀ out₀ : List ℕ} (p : Piv
               low = (let a = Q .many in omega arith);
               entries = Q .entries;
               vis = b .vis ++ endsOf nw;
-              seen = ms (b .vis) (b .seen);
+              seen = ms .seen (b .vis) (b .seen);
               fuel = b .fuel - 1;
               queued = (let a = Q .many in let c = less in let d = b .queued in omega arith);
               found = (let a = L .many in let c = less in let d = b .found in let e = pivotal-few (leaving (edgesOf es m) v) nw in omega arith);
@@ -289,6 +302,8 @@ module _ {vs es : List ℕ} {m : ℕ} {q₀ marks₀ out₀ : List ℕ} (p : Piv
                   ∙ b .is;
               beyond = L .beyond ∙ subst (λ (z : ℕ). drop z out ≡ drop z out₀) (sym (L .many)) (drop-on (length pv) n out out₀ (b .beyond));
               names = L .low (b .names);
+              rest-q = Q .rest (m + m) (let a = Q .many in let c = less in let d = b .queued in omega arith) ∙ b .rest-q;
+              rest-m = ms .rest ∙ b .rest-m;
             }
           where
             pv : List Ends

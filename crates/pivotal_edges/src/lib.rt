@@ -241,7 +241,7 @@ pub fn create_pivotal_edges_in_topological_order(
     out: &mut [u32],
 ) -> usize
     requires { ⌜ Pivots (now vertices) (now edges) m (now queue) (now visited) (now out) ⌝ }
-    ensures { λ r. ⌜ Pivoted (now (edges .entry)) m (now (out .entry)) (now (out .exit)) r ⌝ }
+    ensures { λ r. ⌜ Pivoted (now (edges .entry)) m (now (queue .entry)) (now (visited .entry)) (now (out .entry)) (now (queue .exit)) (now (visited .exit)) (now (out .exit)) r ⌝ }
 {
     let mut tail = queue_out(vertices, edges, m, 0, 0, visited, queue, 0, 0);
     let mut front: usize = 0;

@@ -2,7 +2,7 @@ use Prim.Native.Nat.{_-_, _≤_, _*_, _+_}
 use native.Mathlib.Omega.{arith}
 use mathlib.Core.Path.{_≡_, sym, _∙_}
 use borrow.Author.Needs.{needs}
-use Rattle.pivotal_edges.specs.Turns.{Turning, source-asks, turning-start, turning-end, turning-read, turning-edge, turning-front, turning-entry, turning-lists, turning-queues, turning-marks, turning-next}
+use Rattle.pivotal_edges.specs.Turns.{Turning, source-asks, source-rest, turning-start, turning-end, turning-read, turning-edge, turning-front, turning-entry, turning-lists, turning-queues, turning-marks, turning-next}
 use Rattle.pivotal_edges.proofs.create_pivotal_edges_in_topological_order.Statement.{
   statement,
 }
@@ -98,7 +98,7 @@ same-length-3 c = (c .before .loop) .inv .size-o
 
 -- src/lib.rt:235:1
 returns : tie.Need-returns Inv-loop μ-loop
-returns c = turning-end (c .before .before .before .before .before .before .before .before .before .before .before .before .pre) ((c .before .loop) .inv) ((c .loop-test) .left)
+returns c = turning-end (c .before .before .before .before .before .before .before .before .before .before .before .before .pre) ((c .before .loop) .inv) (source-rest (c .before .before .before .before .before .before .before .before .before .before .before .before .pre) ((c .before .before .before .before .queue-out) .ensures)) ((c .loop-test) .left)
 
 pub create-pivotal-edges-in-topological-order-spec : {M : Type 1} → statement M
 create-pivotal-edges-in-topological-order-spec =
