@@ -1,0 +1,3 @@
+pub mod Actives
+pub mod Stops
+pub mod Walks
