@@ -1,3 +1,4 @@
 pub mod Actives
 pub mod Stops
 pub mod Walks
+pub mod Real

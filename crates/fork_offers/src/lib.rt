@@ -1,17 +1,24 @@
 // What a fork offers a path, over the stores. An active tree of a path is a slot of the node table, and its branches are the children of that slot.
 // (Rust: JtPath, junction_kbest.rs)
+use assembly::next_out;
 use assembly::wide;
 use threading_tree::child_slot;
+use threading_tree::edge_from;
+use threading_tree::edge_to;
+use threading_tree::evidence_count;
 use threading_tree::first_child;
+use threading_tree::next_sibling;
 use threading_tree::total_out_for_branch;
 ghost use mathlib.Core.Path.{_≡_};
 ghost use Prim.Native.Nat.{ℕ, _+_, _*_, _^_, _<_, _≤_};
 ghost use lib.ListN.{length, getD};
-ghost use Rattle.definition.specs.Threading.{Ends};
+ghost use Rattle.definition.specs.Threading.{eqEnds};
 ghost use Rattle.threading_tree.specs.Ends.{ends};
+ghost use Rattle.threading_tree.specs.Slots.{Slot};
 ghost use Rattle.fork_offers.specs.Actives.{Least, Active};
 ghost use Rattle.fork_offers.specs.Stops.{Stops};
 ghost use Rattle.fork_offers.specs.Walks.{Treed, WalkedTo, Stored, Walkable, Walked};
+ghost use Rattle.fork_offers.specs.Real.{Fork, OutTo, RealEdge};
 
 // The least total that reaches the threshold, which may be below zero.
 pub fn least_total(threshold: i32) -> usize
@@ -117,4 +124,55 @@ pub fn walk_trees(
         i += 1;
     }
     j - to
+}
+
+// ---- the fork's out-edges
+
+// The out-edge of v to the vertex `to`: its number plus 1, or 0.
+fn out_edge_to(vertices: &[u32], edges: &[u32], m: usize, v: usize, to: usize) -> usize
+    requires { ⌜ Fork (now vertices) (now edges) m v ⌝ }
+    ensures { λ r. ⌜ OutTo (now (edges .entry)) m v to r ⌝ }
+{
+    let r = next_out(vertices, edges, v, to);
+    if r == 0 {
+        return 0;
+    }
+    if assembly::edge_to(edges, r - 1) == to {
+        return r;
+    }
+    0
+}
+
+fn same_edge(a: usize, b: usize, c: usize, d: usize) -> bool
+    ensures { λ r. ⌜ r ≡ eqEnds (ends a b) (ends c d) ⌝ }
+{
+    if a != c {
+        return false;
+    }
+    b == d
+}
+
+// The edge of the node in slot s, if it leaves v and is not the symbolic edge (a, b): its number plus 1, or 0.
+fn real_edge(
+    vertices: &[u32],
+    edges: &[u32],
+    m: usize,
+    nodes: &[u32],
+    s: usize,
+    v: usize,
+    a: u32,
+    b: u32,
+) -> usize
+    requires { ⌜ Fork (now vertices) (now edges) m v × Slot s (now nodes) ⌝ }
+    ensures { λ r. ⌜ RealEdge (now (edges .entry)) m v (now (nodes .entry)) s (ends a b) r ⌝ }
+{
+    let from = wide(edge_from(nodes, s));
+    let to = wide(edge_to(nodes, s));
+    if from != v {
+        return 0;
+    }
+    if same_edge(from, to, wide(a), wide(b)) {
+        return 0;
+    }
+    out_edge_to(vertices, edges, m, v, to)
 }
