@@ -15,10 +15,12 @@ ghost use lib.ListN.{length, getD};
 ghost use Rattle.definition.specs.Threading.{eqEnds};
 ghost use Rattle.threading_tree.specs.Ends.{ends};
 ghost use Rattle.threading_tree.specs.Slots.{Slot};
+ghost use Rattle.threading_tree.specs.Read.{Readable};
 ghost use Rattle.fork_offers.specs.Actives.{Least, Active};
 ghost use Rattle.fork_offers.specs.Stops.{Stops};
 ghost use Rattle.fork_offers.specs.Walks.{Treed, WalkedTo, Stored, Walkable, Walked};
-ghost use Rattle.fork_offers.specs.Real.{Fork, OutTo, RealEdge};
+ghost use Rattle.fork_offers.specs.Real.{Fork, OutTo, RealEdge, outsOf};
+ghost use Rattle.fork_offers.specs.Best.{Better, Chosen};
 
 // The least total that reaches the threshold, which may be below zero.
 pub fn least_total(threshold: i32) -> usize
@@ -175,4 +177,58 @@ fn real_edge(
         return 0;
     }
     out_edge_to(vertices, edges, m, v, to)
+}
+
+// ---- the best branch
+
+// Of the best slot so far (0 for none) and the sibling in slot `at`: the one of greater count, the sibling where they are equal.
+fn better(
+    vertices: &[u32],
+    edges: &[u32],
+    m: usize,
+    nodes: &[u32],
+    old: usize,
+    at: usize,
+    v: usize,
+    a: u32,
+    b: u32,
+) -> usize
+    requires { ⌜ Fork (now vertices) (now edges) m v × Slot old (now nodes) × Slot at (now nodes) × (at ≡ 0 → ⊥) ⌝ }
+    ensures { λ r. ⌜ Better (now (nodes .entry)) (outsOf (now (edges .entry)) m v) (ends a b) old at r ⌝ }
+{
+    if real_edge(vertices, edges, m, nodes, at, v, a, b) == 0 {
+        return old;
+    }
+    if old == 0 {
+        return at;
+    }
+    if evidence_count(nodes, at) < evidence_count(nodes, old) {
+        return old;
+    }
+    at
+}
+
+// The slot of the best real branch of the row of siblings that begins at `link`, or 0: that of greatest count, ties to the larger edge.
+fn best_branch(
+    vertices: &[u32],
+    edges: &[u32],
+    m: usize,
+    nodes: &[u32],
+    n: usize,
+    cap: usize,
+    link: usize,
+    v: usize,
+    a: u32,
+    b: u32,
+) -> usize
+    requires { ⌜ Fork (now vertices) (now edges) m v × Readable cap n (now nodes) link ⌝ }
+    ensures { λ r. ⌜ Chosen n (now (nodes .entry)) (outsOf (now (edges .entry)) m v) link (ends a b) r ⌝ }
+{
+    let mut best: usize = 0;
+    let mut at = link;
+    while at != 0 {
+        best = better(vertices, edges, m, nodes, best, at, v, a, b);
+        at = next_sibling(nodes, at);
+    }
+    best
 }
