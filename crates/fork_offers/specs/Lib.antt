@@ -3,3 +3,5 @@ pub mod Stops
 pub mod Walks
 pub mod Real
 pub mod Best
+pub mod Rows
+pub mod Trees

@@ -21,6 +21,8 @@ ghost use Rattle.fork_offers.specs.Stops.{Stops};
 ghost use Rattle.fork_offers.specs.Walks.{Treed, WalkedTo, Stored, Walkable, Walked};
 ghost use Rattle.fork_offers.specs.Real.{Fork, OutTo, RealEdge, outsOf};
 ghost use Rattle.fork_offers.specs.Best.{Better, Chosen};
+ghost use Rattle.fork_offers.specs.Rows.{Offered, rowPut, Grown, seenOf};
+ghost use Rattle.fork_offers.specs.Trees.{Adds, branchOffer, Offering, TreeOffered, BestOffering, BestOffered};
 
 // The least total that reaches the threshold, which may be below zero.
 pub fn least_total(threshold: i32) -> usize
@@ -231,4 +233,115 @@ fn best_branch(
         at = next_sibling(nodes, at);
     }
     best
+}
+
+// ---- the rows of the offers
+
+// Whether one of the first k rows names the edge.
+fn offered(out: &[u32], k: usize, edge: usize) -> bool
+    requires { ⌜ k * 4 ≤ length (now out) ⌝ }
+    ensures { λ r. ⌜ Offered (now (out .entry)) k edge r ⌝ }
+{
+    let mut i: usize = 0;
+    while i < k {
+        if wide(out[i * 4 + 0]) == edge {
+            return true;
+        }
+        i += 1;
+    }
+    false
+}
+
+// The row k; the answer is the next row.
+fn put_offer(out: &mut [u32], k: usize, edge: usize, count: u32, total: usize, guided: u32) -> usize
+    requires { ⌜ (k * 4 + 4 ≤ length (now out)) × (edge < 2 ^ 32) × (total < 2 ^ 32) ⌝ }
+    ensures { λ r. ⌜ (now (out .exit) ≡ rowPut (now (out .entry)) k edge count total guided) × (r ≡ k + 1) ⌝ }
+{
+    out[k * 4 + 0] = edge as u32;
+    out[k * 4 + 1] = count;
+    out[k * 4 + 2] = total as u32;
+    out[k * 4 + 3] = guided;
+    k + 1
+}
+
+// The branch in slot s is offered after the first k rows, where its edge is real and not named by the first `seen` rows.
+fn offer_branch(
+    vertices: &[u32],
+    edges: &[u32],
+    m: usize,
+    nodes: &[u32],
+    s: usize,
+    total: usize,
+    v: usize,
+    a: u32,
+    b: u32,
+    out: &mut [u32],
+    seen: usize,
+    k: usize,
+) -> usize
+    requires { ⌜ Adds (now vertices) (now edges) m (now nodes) s total v (ends a b) (now out) seen k ⌝ }
+    ensures { λ r. ⌜ Grown (now (edges .entry)) m (now (out .entry)) (now (out .exit)) k r (branchOffer (seenOf (now (edges .entry)) (now (out .entry)) seen) (outsOf (now (edges .entry)) m v) (ends a b) (now (nodes .entry)) total s) ⌝ }
+{
+    let r = real_edge(vertices, edges, m, nodes, s, v, a, b);
+    if r == 0 {
+        return k;
+    }
+    if offered(out, seen, r - 1) {
+        return k;
+    }
+    put_offer(out, k, r - 1, evidence_count(nodes, s), total, 1)
+}
+
+// All branches of the row of siblings that begins at `link` are offered after the first k rows, but for the edges that those name.
+fn offer_branches(
+    vertices: &[u32],
+    edges: &[u32],
+    m: usize,
+    nodes: &[u32],
+    n: usize,
+    cap: usize,
+    link: usize,
+    total: usize,
+    v: usize,
+    a: u32,
+    b: u32,
+    out: &mut [u32],
+    k: usize,
+) -> usize
+    requires { ⌜ Offering (now vertices) (now edges) m cap n (now nodes) link total v (ends a b) (now out) k ⌝ }
+    ensures { λ r. ⌜ TreeOffered (now (edges .entry)) m n (now (nodes .entry)) link total v (ends a b) (now (out .entry)) (now (out .exit)) k r ⌝ }
+{
+    let mut row = k;
+    let mut at = link;
+    while at != 0 {
+        row = offer_branch(vertices, edges, m, nodes, at, total, v, a, b, out, k, row);
+        at = next_sibling(nodes, at);
+    }
+    row
+}
+
+// Only the best branch of the row of siblings is offered.
+fn offer_best(
+    vertices: &[u32],
+    edges: &[u32],
+    m: usize,
+    nodes: &[u32],
+    n: usize,
+    cap: usize,
+    link: usize,
+    total: usize,
+    v: usize,
+    a: u32,
+    b: u32,
+    out: &mut [u32],
+    k: usize,
+) -> usize
+    requires { ⌜ BestOffering (now vertices) (now edges) m cap n (now nodes) link total v (ends a b) (now out) k ⌝ }
+    ensures { λ r. ⌜ BestOffered (now (edges .entry)) m n (now (nodes .entry)) link total v (ends a b) (now (out .entry)) (now (out .exit)) k r ⌝ }
+{
+    let s = best_branch(vertices, edges, m, nodes, n, cap, link, v, a, b);
+    if s == 0 {
+        return k;
+    }
+    offer_branch(vertices, edges, m, nodes, s, total, v, a, b, out, k, k)
 }
