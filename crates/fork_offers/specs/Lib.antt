@@ -5,3 +5,5 @@ pub mod Real
 pub mod Best
 pub mod Rows
 pub mod Trees
+pub mod Support
+pub mod Offers

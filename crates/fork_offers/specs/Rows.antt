@@ -45,7 +45,7 @@ rows-none f = go (rows f 0) (length-rows f 0)
 rows-suc : {A : Type 0} (f : ℕ → A) (n : ℕ) → rows f (suc n) ≡ rows f n ++ (f n ∷ [])
 rows-suc f n = rows-more f f n (f n) refl (λ j h. refl)
 
-map-append : {A B : Type 0} (f : A → B) (xs ys : List A) → map f (xs ++ ys) ≡ map f xs ++ map f ys
+pub map-append : {A B : Type 0} (f : A → B) (xs ys : List A) → map f (xs ++ ys) ≡ map f xs ++ map f ys
 map-append {B = B} f [] ys = refl
 map-append {B = B} f (x ∷ xs) ys = ap (λ (l : List B). f x ∷ l) (map-append f xs ys)
 

@@ -1,5 +1,7 @@
 // What a fork offers a path, over the stores. An active tree of a path is a slot of the node table, and its branches are the children of that slot.
 // (Rust: JtPath, junction_kbest.rs)
+use assembly::edge_is_ref;
+use assembly::edge_support;
 use assembly::next_out;
 use assembly::wide;
 use threading_tree::child_slot;
@@ -10,9 +12,9 @@ use threading_tree::first_child;
 use threading_tree::next_sibling;
 use threading_tree::total_out_for_branch;
 ghost use mathlib.Core.Path.{_≡_};
-ghost use Prim.Native.Nat.{ℕ, _+_, _*_, _^_, _<_, _≤_};
+ghost use Prim.Native.Nat.{ℕ, _+_, _-_, _*_, _^_, _<_, _≤_};
 ghost use lib.ListN.{length, getD};
-ghost use Rattle.definition.specs.Threading.{eqEnds};
+ghost use Rattle.definition.specs.Threading.{eqEnds, leaving};
 ghost use Rattle.threading_tree.specs.Ends.{ends};
 ghost use Rattle.threading_tree.specs.Slots.{Slot};
 ghost use Rattle.threading_tree.specs.Read.{Readable};
@@ -23,6 +25,10 @@ ghost use Rattle.fork_offers.specs.Real.{Fork, OutTo, RealEdge, outsOf};
 ghost use Rattle.fork_offers.specs.Best.{Better, Chosen};
 ghost use Rattle.fork_offers.specs.Rows.{Offered, rowPut, Grown, seenOf};
 ghost use Rattle.fork_offers.specs.Trees.{Adds, branchOffer, Offering, TreeOffered, BestOffering, BestOffered};
+ghost use Rattle.fork_offers.specs.Support.{worth, EdgeAdds, supportOffers, After, allSupport, EdgesOffering};
+ghost use Rattle.fork_offers.specs.Offers.{Forks, Offers};
+ghost use mathlib.Core.List.{[], _∷_};
+ghost use Rattle.assembly.specs.Store.{edgeAt, edgesOf};
 
 // The least total that reaches the threshold, which may be below zero.
 pub fn least_total(threshold: i32) -> usize
@@ -344,4 +350,127 @@ fn offer_best(
         return k;
     }
     offer_branch(vertices, edges, m, nodes, s, total, v, a, b, out, k, k)
+}
+
+// ---- by support
+
+// Whether an edge is offered by its support: not at 0, and no reference edge at 1.
+fn is_worth(support: usize, marked: bool) -> bool
+    ensures { λ r. ⌜ r ≡ worth support marked ⌝ }
+{
+    if support == 0 {
+        return false;
+    }
+    if support == 1 {
+        return !marked;
+    }
+    true
+}
+
+// The out-edge i is offered by its support after the first k rows, where it is worth it and not named by the first `seen` rows.
+fn offer_edge(
+    vertices: &[u32],
+    edges: &[u32],
+    m: usize,
+    v: usize,
+    i: usize,
+    total: usize,
+    out: &mut [u32],
+    seen: usize,
+    k: usize,
+) -> usize
+    requires { ⌜ EdgeAdds (now edges) m i total (now vertices) v (now out) seen k ⌝ }
+    ensures { λ r. ⌜ Grown (now (edges .entry)) m (now (out .entry)) (now (out .exit)) k r (supportOffers (seenOf (now (edges .entry)) (now (out .entry)) seen) total (edgeAt (now (edges .entry)) i ∷ [])) ⌝ }
+{
+    let c = edge_support(edges, i);
+    if !is_worth(c, edge_is_ref(edges, i)) {
+        return k;
+    }
+    if offered(out, seen, i) {
+        return k;
+    }
+    put_offer(out, k, i, c as u32, total, 0)
+}
+
+// The out-edge of v after that of number r - 1, in vertex order: its number plus 1, or 0.
+fn out_after(vertices: &[u32], edges: &[u32], m: usize, v: usize, r: usize) -> usize
+    requires { ⌜ Fork (now vertices) (now edges) m v × ((r - 1) * 6 + 6 ≤ length (now edges)) × (r ≡ 0 → ⊥) ⌝ }
+    ensures { λ s. ⌜ After (now (vertices .entry)) (now (edges .entry)) v r s ⌝ }
+{
+    next_out(vertices, edges, v, assembly::edge_to(edges, r - 1) + 1)
+}
+
+// The supports of v's out-edges, added.
+fn total_support(vertices: &[u32], edges: &[u32], m: usize, v: usize) -> usize
+    requires { ⌜ Fork (now vertices) (now edges) m v × (allSupport (now edges) m v < 2 ^ 32) ⌝ }
+    ensures { λ r. ⌜ r ≡ allSupport (now (edges .entry)) m v ⌝ }
+{
+    let mut total: usize = 0;
+    let mut r = next_out(vertices, edges, v, 0);
+    while r != 0 {
+        total += edge_support(edges, r - 1);
+        r = out_after(vertices, edges, m, v, r);
+    }
+    total
+}
+
+// The out-edges of v are offered by their support after the first k rows, but for the edges that those name.
+fn offer_edges(
+    vertices: &[u32],
+    edges: &[u32],
+    m: usize,
+    v: usize,
+    total: usize,
+    out: &mut [u32],
+    k: usize,
+) -> usize
+    requires { ⌜ EdgesOffering (now vertices) (now edges) m v total (now out) k ⌝ }
+    ensures { λ r. ⌜ Grown (now (edges .entry)) m (now (out .entry)) (now (out .exit)) k r (supportOffers (seenOf (now (edges .entry)) (now (out .entry)) k) total (leaving (edgesOf (now (edges .entry)) m) v)) ⌝ }
+{
+    let mut row = k;
+    let mut r = next_out(vertices, edges, v, 0);
+    while r != 0 {
+        row = offer_edge(vertices, edges, m, v, r - 1, total, out, k, row);
+        r = out_after(vertices, edges, m, v, r);
+    }
+    row
+}
+
+// ---- the fork
+
+// What the fork at v offers, as rows from the first of `out` on; the answer is how many. The active trees come in order: one that reaches the threshold
+// offers its best branch and closes the fork, and where none does the other out-edges follow by support.
+pub fn applicable_next_edges(
+    vertices: &[u32],
+    edges: &[u32],
+    m: usize,
+    nodes: &[u32],
+    n: usize,
+    cap: usize,
+    active: &[u32],
+    at: usize,
+    count: usize,
+    v: usize,
+    a: u32,
+    b: u32,
+    least: usize,
+    out: &mut [u32],
+) -> usize
+    requires { ⌜ Forks (now vertices) (now edges) m cap n (now nodes) (now active) at (at + count) v (ends a b) least (now out) ⌝ }
+    ensures { λ r. ⌜ Offers (now (edges .entry)) m cap n (now (nodes .entry)) (now (active .entry)) at (at + count) v (ends a b) least (now (out .exit)) r ⌝ }
+{
+    let end = at + count;
+    let mut i = at;
+    let mut k: usize = 0;
+    while i < end {
+        let link = first_child(nodes, active_slot(active, i));
+        let total = total_out_for_branch(nodes, n, cap, link);
+        if total >= least {
+            return offer_best(vertices, edges, m, nodes, n, cap, link, total, v, a, b, out, k);
+        }
+        k = offer_branches(vertices, edges, m, nodes, n, cap, link, total, v, a, b, out, k);
+        i += 1;
+    }
+    let total = total_support(vertices, edges, m, v);
+    offer_edges(vertices, edges, m, v, total, out, k)
 }
