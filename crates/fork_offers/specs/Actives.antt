@@ -1,27 +1,20 @@
 -- The active trees of a path over the stores: slots of the node table, which stand for the branches below them.
 use mathlib.Core.Path.{_≡_, refl, sym, ap, subst, _∙_}
-use mathlib.Core.Logic.{_⊎_, inl, inr}
-use Prim.Native.Nat.{ℕ, zero, suc, _+_, _-_, _*_, _^_, _<_, _≤_}
-use mathlib.Core.Bool.{Bool, true, false, not, _&&_, _||_, cond}
-use mathlib.Core.List.{List, [], _∷_, _++_, map, append-assoc}
+use Prim.Native.Nat.{ℕ, zero, suc, _+_, _<_, _≤_}
+use mathlib.Core.Bool.{true, false}
+use mathlib.Core.List.{List, [], _∷_, _++_}
 use native.Mathlib.Omega.{arith}
-use native.Mathlib.Decide.{ℕ-discrete}
-use lib.Dec.{T, leb, ltb, eqb}
+use lib.Dec.{T, leb}
 use lib.IntN.{ℤ, pos, negsuc, natAbs}
 use lib.Signed.{ltZ, nonNeg, mag}
-use lib.ListN.{length, getD, set, length-set}
-use lib.Seq.{getD-set-same, getD-set-other}
-use borrow.Author.Tests.{eq-eqb, ne-eqb, eqb-true, ltb-true, le-leb, lt-leb}
-use Rattle.laws.specs.Lists.{keep}
+use lib.ListN.{length, getD}
+use borrow.Author.Tests.{ltb-true, le-leb}
 use Rattle.laws.specs.Numbers.{reaches}
 use Rattle.laws.specs.ListLaws.{clash}
-use Rattle.definition.specs.Threading.{Ends, eqEnds}
-use Rattle.definition.specs.Evidence.{Branches, bare, branch, hasBranch}
-use Rattle.definition.specs.Search.{SearchInput, child, offersEdge, sumOf, walkTrees, hasStoppingEvidence}
-use Rattle.threading_tree.specs.Ends.{ends}
+use Rattle.definition.specs.Evidence.{Branches}
 use Rattle.threading_tree.specs.Slots.{cols, Slot}
 use Rattle.threading_tree.specs.Take.{Wide, wide-slot}
-use Rattle.threading_tree.specs.Read.{Leads, Readable, ChildSlot, Summed, leads-one, leads-has}
+use Rattle.threading_tree.specs.Read.{Leads, Readable, leads-one}
 
 -- ---- a total and the threshold
 

@@ -1,17 +1,17 @@
 -- Of a node's real branches the best: that of greatest count, ties to the larger edge, which comes later.
 use mathlib.Core.Path.{_≡_, refl, sym, ap, subst, _∙_}
 use mathlib.Core.Logic.{_⊎_, inl, inr}
-use Prim.Native.Nat.{ℕ, zero, suc, _+_, _-_, _*_, _^_, _<_, _≤_}
-use mathlib.Core.Bool.{Bool, true, false, not, _&&_, _||_, cond}
-use mathlib.Core.List.{List, [], _∷_, _++_, map}
+use Prim.Native.Nat.{ℕ, zero, suc, _^_, _<_, _≤_}
+use mathlib.Core.Bool.{Bool, true, false, not, cond}
+use mathlib.Core.List.{List, [], _∷_, _++_}
 use native.Mathlib.Omega.{arith}
-use native.Mathlib.Decide.{ℕ-discrete, decLt}
-use lib.Dec.{leb, ltb, eqb}
-use lib.ListN.{length, getD}
+use native.Mathlib.Decide.{decLt}
+use lib.Dec.{eqb}
+use lib.ListN.{getD}
 use borrow.Author.Tests.{eq-eqb, ne-eqb, le-leb, lt-leb}
-use Rattle.definition.specs.Threading.{Ends, Edge, eqEnds}
+use Rattle.definition.specs.Threading.{Ends}
 use Rattle.definition.specs.Evidence.{Branches, bare, branch}
-use Rattle.definition.specs.Search.{SearchInput, Offer, among, realBranches, best}
+use Rattle.definition.specs.Search.{SearchInput, Offer, realBranches, best}
 use Rattle.threading_tree.specs.Ends.{ends}
 use Rattle.threading_tree.specs.Slots.{cols, Slot}
 use Rattle.threading_tree.specs.Cells.{left}

@@ -1,23 +1,22 @@
 -- What a fork offers a path (Rust: applicable_next_edges).
 use mathlib.Core.Path.{_≡_, refl, sym, ap, subst, _∙_}
-use Prim.Native.Nat.{ℕ, zero, suc, _+_, _-_, _*_, _^_, _<_, _≤_}
-use mathlib.Core.Bool.{Bool, true, false, not, _&&_, _||_, cond}
+use Prim.Native.Nat.{ℕ, zero, suc, _+_, _*_, _^_, _<_, _≤_}
+use mathlib.Core.Bool.{true, false}
 use mathlib.Core.List.{List, [], _∷_, _++_, map, append-assoc}
 use native.Mathlib.Omega.{arith}
-use lib.Dec.{leb, ltb, eqb}
+use lib.Dec.{leb}
 use lib.ListN.{length, getD, length-append}
 use borrow.Author.Tests.{le-leb, lt-leb}
-use Rattle.laws.specs.Lists.{total}
 use Rattle.laws.specs.Numbers.{reaches}
-use Rattle.definition.specs.Threading.{Ends, Edge, supportOf, leaving}
-use Rattle.definition.specs.Evidence.{Branches, bare, branch}
-use Rattle.definition.specs.Search.{SearchInput, Offer, sumOf, unseen, realBranches, best, bySupport, offers}
-use Rattle.assembly.specs.Store.{edgeAt, edgesOf}
-use Rattle.threading_tree.specs.Slots.{cols, Slot}
+use Rattle.definition.specs.Threading.{Ends, Edge, leaving}
+use Rattle.definition.specs.Evidence.{Branches}
+use Rattle.definition.specs.Search.{SearchInput, Offer, sumOf, unseen, realBranches, best, offers}
+use Rattle.assembly.specs.Store.{edgesOf}
+use Rattle.threading_tree.specs.Slots.{cols}
 use Rattle.threading_tree.specs.Read.{Leads, Readable, Summed}
 use Rattle.fork_offers.specs.Actives.{Least, Actives, Active, First, actives-one, actives-end, actives-first}
 use Rattle.fork_offers.specs.Real.{Fork, outsOf, outs-is}
-use Rattle.fork_offers.specs.Rows.{Few, offersOf, seenOf, Grown, append-nil, map-append, seen-is, offers-none, seen-none, grown-many}
+use Rattle.fork_offers.specs.Rows.{Few, offersOf, seenOf, Grown, map-append, seen-is, offers-none, seen-none, grown-many}
 use Rattle.fork_offers.specs.Trees.{treeOffers, tree-is, Offering, TreeOffered, bestOffers, best-is, BestOffering, BestOffered}
 use Rattle.fork_offers.specs.Support.{supportOffers, support-is, allSupport, EdgesOffering}
 

@@ -1,12 +1,12 @@
 -- The out-edges of a fork in the stores, and whether a node's edge is one of them.
-use mathlib.Core.Path.{_≡_, refl, sym, ap, subst, _∙_}
+use mathlib.Core.Path.{_≡_, refl, sym, ap, _∙_}
 use Prim.Native.Nat.{ℕ, zero, suc, _+_, _-_, _*_, _^_, _<_, _≤_}
-use mathlib.Core.Bool.{Bool, true, false, not, _&&_, _||_, cond}
-use mathlib.Core.List.{List, [], _∷_, _++_, map}
+use mathlib.Core.Bool.{Bool, true, false, not, _&&_}
+use mathlib.Core.List.{List, [], _∷_, map}
 use native.Mathlib.Omega.{arith}
-use lib.Dec.{leb, ltb, eqb}
-use lib.ListN.{length, getD}
-use borrow.Author.Tests.{eq-eqb, ne-eqb, eqb-true, eqb-false, le-leb, lt-leb}
+use lib.Dec.{leb, eqb}
+use lib.ListN.{length}
+use borrow.Author.Tests.{eq-eqb, ne-eqb, le-leb, lt-leb}
 use Rattle.laws.specs.Lists.{keep}
 use Rattle.laws.specs.ListLaws.{clash}
 use Rattle.laws.specs.Records.{field}
@@ -16,7 +16,7 @@ use Rattle.assembly.specs.Store.{edgeAt, edgesOf}
 use Rattle.assembly.specs.Table.{Distinct}
 use Rattle.assembly.specs.Outs.{Names, Slots, Nexts, outFrom, nexts-none, nexts-some, slots-names}
 use Rattle.threading_tree.specs.Ends.{ends, eqEnds-true, eqEnds-self, eqEnds-ne}
-use Rattle.threading_tree.specs.Slots.{cols, Slot}
+use Rattle.threading_tree.specs.Slots.{cols}
 
 abbrev pub endsOfAll : List Edge → List Ends
 endsOfAll es = map (λ (e : Edge). e .ends) es

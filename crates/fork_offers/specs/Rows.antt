@@ -1,20 +1,17 @@
 -- The offers of a fork as rows of four numbers: the edge's number, the count, the total, and 1 where a tree offers it.
-use mathlib.Core.Path.{_≡_, refl, sym, ap, subst, _∙_}
-use mathlib.Core.Logic.{_⊎_, inl, inr, _≢_}
-use Prim.Native.Nat.{ℕ, zero, suc, _+_, _-_, _*_, _^_, _<_, _≤_}
-use mathlib.Core.Bool.{Bool, true, false, not, _&&_, _||_, cond}
+use mathlib.Core.Path.{_≡_, refl, sym, ap, _∙_}
+use mathlib.Core.Logic.{_≢_}
+use Prim.Native.Nat.{ℕ, zero, suc, _+_, _-_, _*_, _<_, _≤_}
+use mathlib.Core.Bool.{Bool, true, false, not, _||_, cond}
 use mathlib.Core.List.{List, [], _∷_, _++_, map, append-assoc}
 use native.Mathlib.Numerals.{add-one}
 use native.Mathlib.Omega.{arith}
-use native.Mathlib.Decide.{ℕ-discrete, decLt}
-use lib.Dec.{leb, ltb, eqb}
+use native.Mathlib.Decide.{ℕ-discrete}
+use lib.Dec.{eqb}
 use lib.ListN.{length, getD, length-append}
-use borrow.Author.Tests.{eq-eqb, ne-eqb, le-leb, lt-leb}
-use Rattle.laws.specs.Lists.{keep}
-use Rattle.laws.specs.ListLaws.{clash}
 use Rattle.laws.specs.Records.{field, putFrom, length-putFrom, putFrom-row, putFrom-at}
 use Rattle.laws.specs.Rows.{rows, length-rows, rows-same, rows-more}
-use Rattle.definition.specs.Threading.{Ends, Edge, eqEnds}
+use Rattle.definition.specs.Threading.{Ends, eqEnds}
 use Rattle.definition.specs.Search.{Offer, among, unseen}
 use Rattle.assembly.specs.Store.{edgeAt}
 use Rattle.assembly.specs.Table.{Distinct}

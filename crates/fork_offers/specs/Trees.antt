@@ -1,15 +1,13 @@
 -- What one active tree offers: all its real branches, or only the best of them, each edge once.
 use mathlib.Core.Path.{_≡_, refl, sym, ap, subst, _∙_}
-use mathlib.Core.Logic.{_⊎_, inl, inr, _≢_}
 use Prim.Native.Nat.{ℕ, zero, suc, _+_, _-_, _*_, _^_, _<_, _≤_}
-use mathlib.Core.Bool.{Bool, true, false, not, _&&_, _||_, cond}
-use mathlib.Core.List.{List, [], _∷_, _++_, map, append-assoc}
+use mathlib.Core.Bool.{Bool, true, false, not, cond}
+use mathlib.Core.List.{List, [], _∷_, _++_, append-assoc}
 use native.Mathlib.Omega.{arith}
-use lib.Dec.{leb, ltb, eqb}
+use lib.Dec.{eqb}
 use lib.ListN.{length, getD, length-append}
 use borrow.Author.Tests.{eq-eqb, ne-eqb}
-use Rattle.laws.specs.Records.{field}
-use Rattle.definition.specs.Threading.{Ends, Edge, eqEnds}
+use Rattle.definition.specs.Threading.{Ends}
 use Rattle.definition.specs.Evidence.{Branches, bare, branch}
 use Rattle.definition.specs.Search.{SearchInput, Offer, among, unseen, realBranches, best}
 use Rattle.assembly.specs.Store.{edgeAt}
@@ -19,8 +17,8 @@ use Rattle.threading_tree.specs.Cells.{left}
 use Rattle.threading_tree.specs.Take.{Wide, wide-slot}
 use Rattle.threading_tree.specs.Read.{Leads, Readable, BranchAt, leads-one, leads-none, leads-branch}
 use Rattle.fork_offers.specs.Real.{Fork, nodeEdge, isReal, outsOf, RealEdge}
-use Rattle.fork_offers.specs.Best.{offerOf, oneOf, one-none, one-some, Chosen, real-bare, real-at, sibling-falls}
-use Rattle.fork_offers.specs.Rows.{Few, offersOf, seenOf, Offered, Grown, rowPut, append-nil, grown-none, grown-one, grown-trans, grown-seen, grown-many, unseen-none, unseen-yes, unseen-no, unseen-split}
+use Rattle.fork_offers.specs.Best.{offerOf, one-none, one-some, Chosen, real-bare, real-at, sibling-falls}
+use Rattle.fork_offers.specs.Rows.{Few, seenOf, Offered, Grown, rowPut, append-nil, grown-none, grown-one, grown-trans, grown-seen, grown-many, unseen-none, unseen-yes, unseen-no, unseen-split}
 
 -- ---- one branch
 

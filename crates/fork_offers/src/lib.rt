@@ -466,9 +466,37 @@ pub fn applicable_next_edges(
         let link = first_child(nodes, active_slot(active, i));
         let total = total_out_for_branch(nodes, n, cap, link);
         if total >= least {
-            return offer_best(vertices, edges, m, nodes, n, cap, link, total, v, a, b, out, k);
+            return offer_best(
+                vertices,
+                edges,
+                m,
+                nodes,
+                n,
+                cap,
+                link,
+                total,
+                v,
+                a,
+                b,
+                out,
+                k,
+            );
         }
-        k = offer_branches(vertices, edges, m, nodes, n, cap, link, total, v, a, b, out, k);
+        k = offer_branches(
+            vertices,
+            edges,
+            m,
+            nodes,
+            n,
+            cap,
+            link,
+            total,
+            v,
+            a,
+            b,
+            out,
+            k,
+        );
         i += 1;
     }
     let total = total_support(vertices, edges, m, v);
