@@ -146,3 +146,30 @@ module _ (cap n : ℕ) (x a : List ℕ) (i end : ℕ) where
           active-readable =
               let f = actives-first (p .branches) (p .stands) l in
               record { branches = f .head; leads = subst (λ (d : ℕ). Leads n x d (f .head)) (sym (k ∙ ap (λ (d : ℕ). cols x .kid d) e)) (f .leads); room = p .stands .room; wide = p .stands .wide }
+
+-- ---- for callers
+
+-- no active tree
+pub actives-none : (cap n : ℕ) (x a : List ℕ) (i : ℕ) → i ≤ length a → n ≤ cap → Wide cap x → Actives cap n x a i i []
+actives-none cap n x a i h r w = record { stand = refl; inside = h; room = r; wide = w }
+
+-- the slots are read from another list that agrees there
+pub actives-kept : (cap n : ℕ) (x a a' : List ℕ) (i end : ℕ) (bs : List Branches) → length a' ≡ length a → ((k : ℕ) → i ≤ k → k < end → getD a' k 0 ≡ getD a k 0)
+    → Actives cap n x a i end bs → Actives cap n x a' i end bs
+actives-kept cap n x a a' i end bs l e h =
+    let q = h .inside in
+    record { stand = stand-kept n x a a' i end bs e (h .stand); inside = omega arith; room = h .room; wide = h .wide }
+
+-- a tree joins: its slot stands at the end (Rust: add_junction_tree)
+pub actives-join : (cap n : ℕ) (x a : List ℕ) (i end : ℕ) (bs : List Branches) (b : Branches) → Actives cap n x a i end bs → end < length a → getD a end 0 ≤ n
+    → Leads n x (cols x .kid (getD a end 0)) b → Actives cap n x a i (end + 1) (bs ++ b ∷ [])
+actives-join cap n x a i end bs b h l v k =
+    record { stand = stand-more n x a i end bs b (h .stand) v k; inside = omega arith; room = h .room; wide = h .wide }
+
+-- as many branches as places
+pub actives-many : (cap n : ℕ) (x a : List ℕ) (i end : ℕ) (bs : List Branches) → Actives cap n x a i end bs → i + length bs ≡ end
+actives-many cap n x a i end bs h = many i bs (h .stand)
+  where
+    many : (i : ℕ) (bs : List Branches) → Stand n x a i end bs → i + length bs ≡ end
+    many i [] k = let z : i ≡ end = k in omega arith
+    many i (b ∷ bs) k = let z = many (i + 1) bs (k .3) in omega arith

@@ -9,6 +9,8 @@ use lib.ListN.{length, getD, length-append}
 use borrow.Author.Tests.{le-leb, lt-leb}
 use Rattle.laws.specs.Numbers.{reaches}
 use Rattle.definition.specs.Threading.{Ends, Edge, leaving}
+use Rattle.laws.specs.ListLaws.{All, nil, cons}
+use Rattle.definition.proofs.Counts.{Small, small-sum}
 use Rattle.definition.specs.Evidence.{Branches}
 use Rattle.definition.specs.Search.{SearchInput, Offer, sumOf, unseen, realBranches, best, offers}
 use Rattle.assembly.specs.Store.{edgesOf}
@@ -29,6 +31,11 @@ pub record Settings (f : SearchInput) (es : List ℕ) (m : ℕ) (e : Ends) (leas
 abbrev pub Smalls : List Branches → Type 0
 Smalls [] = Unit {0}
 Smalls (b ∷ bs) = (sumOf b < 2 ^ 32) × Smalls bs
+
+-- sums that the definition bounds (Counts) fit
+pub smalls-of : (n : ℕ) (bs : List Branches) → n < 2 ^ 32 → All (Small n) bs → Smalls bs
+smalls-of n [] h nil = tt
+smalls-of n (b ∷ bs) h (cons k ks) = let q = small-sum n b k in (omega arith, smalls-of n bs h ks)
 
 -- a fork's offers with the edges seen
 unfoldable pub forkOffers : SearchInput → List ℕ → ℕ → ℕ → List Ends → List Branches → List Offer
