@@ -1,0 +1,9 @@
+pub mod Actives
+pub mod Stops
+pub mod Walks
+pub mod Real
+pub mod Best
+pub mod Rows
+pub mod Trees
+pub mod Support
+pub mod Offers
