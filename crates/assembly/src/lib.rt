@@ -1,6 +1,6 @@
 // The graph in two lent tables of numbers, zero where not used yet; a kmer is its place in the text, the reference with the read bases after it.
 // vertices, 12 numbers each: 0 to 7 the out-edges, by the code b / 2 % 8 of the base b that the target ends in (A 0, C 1, T 2, G 3, N 7), each an
-// edge's number plus 1, or 0; 8 the kmer's place; 9 how many edges enter; 10 one of those, plus 1; 11 free.
+// edge's number plus 1, or 0; 8 the kmer's place; 9 how many edges enter; 10 one of those, plus 1; 11 for the slot of its tree's root, written by the evidence walk. Slot 4, which no base has, is for the symbolic edge.
 // edges, in the order of birth, 6 numbers each: from, to, support, mark, the origin's sequence and place.
 ghost use mathlib.Core.Path.{_≡_};
 ghost use mathlib.Core.List.{_++_};
