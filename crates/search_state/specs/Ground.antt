@@ -1,0 +1,60 @@
+-- What the search stands on: the tables of the graph with the symbolic edge linked, of the trees, and of the chains, as the definition's `SearchInput`.
+use mathlib.Core.Path.{_≡_}
+use mathlib.Core.List.{List}
+use mathlib.Core.Option.{none, some}
+use Prim.Native.Nat.{ℕ, _+_, _*_, _<_, _≤_}
+use lib.ListN.{length}
+use Rattle.laws.specs.Lists.{total}
+use Rattle.laws.specs.Records.{field}
+use Rattle.definition.specs.Threading.{Ends, Edge, supportOf, leaving}
+use Rattle.definition.specs.Evidence.{Branches, treeAt}
+use Rattle.definition.specs.Search.{SearchInput}
+use Rattle.definition.proofs.Counts.{Small}
+use Rattle.assembly.specs.Store.{edgeAt}
+use Rattle.threading_tree.specs.Ends.{ends}
+use Rattle.threading_tree.specs.Slots.{cols}
+use Rattle.threading_tree.specs.Take.{Wide}
+use Rattle.threading_tree.specs.Read.{Leads}
+use Rattle.pivotal_edges.specs.Walk.{Linked}
+use Rattle.path_store.specs.Link.{Agrees}
+use Rattle.fork_offers.specs.Offers.{Settings}
+use Rattle.search_state.specs.declared.Setting.{Setting}
+
+-- the edge of a number
+abbrev pub nameOf : List ℕ → ℕ → Ends
+nameOf es e = edgeAt es e .ends
+
+-- field 11 of a vertex's record is the slot of its tree's root
+pub record TreeIn (f : SearchInput) (x : List ℕ) (n root v : ℕ) : Type 0 where
+  pub below : Branches
+  pub is : treeAt (f .trees) v ≡ some below
+  pub live : root ≤ n
+  pub leads : Leads n x (cols x .kid root) below
+
+pub record Ground (f : SearchInput) (g : Setting) (vs es x only to : List ℕ) : Type 0 where
+  -- the graph
+  pub agrees : Agrees f only to (nameOf es)
+  pub linked : Linked vs es (g .edges)
+  pub settings : Settings f es (g .edges) (ends (g .sink) (g .symbolic)) (g .least)
+  pub size : length to ≡ g .edges
+  pub vertices : length only * 12 ≤ length vs
+  pub few : length only ≤ 4096
+  pub source : f .source ≡ 0
+  pub sink : f .sink ≡ g .sink
+  pub sink-in : g .sink < length only
+  -- the trees
+  pub nodes : g .nodes ≤ g .cap
+  pub wide : Wide (g .cap) x
+  pub tree : (v : ℕ) → v < length only → (field vs 12 v 11 ≡ 0 → ⊥) → TreeIn f x (g .nodes) (field vs 12 v 11) v
+  pub no-tree : (v : ℕ) → v < length only → field vs 12 v 11 ≡ 0 → treeAt (f .trees) v ≡ none
+  -- what counts and supports come to, and how many edges leave a vertex
+  pub small : (v : ℕ) (b : Branches) → treeAt (f .trees) v ≡ some b → Small 65535 b
+  pub support : (v : ℕ) → total supportOf (leaving (f .edges) v) ≤ 65535
+  pub six : (v : ℕ) → length (leaving (f .edges) v) ≤ 6
+  -- the caller's numbers
+  pub most : f .pathEdges ≡ g .most
+  pub active : f .active ≡ g .active
+  pub most-fits : g .most ≤ 4096
+  pub active-fits : g .active ≤ 64
+  pub pushes-fit : g .pushes ≤ 32768
+  pub asked-fits : g .asked ≤ 128
