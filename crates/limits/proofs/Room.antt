@@ -6,7 +6,7 @@ use Rattle.definition.specs.Refusal.{firstBroken}
 use Rattle.definition.specs.Limits.{GraphMaxima, SearchMaxima, toldEdges, toldNodes, basesStride, toldBases, toldOrigins, lengthsRules}
 use Rattle.definition.specs.Calls.{LengthsAnswer, lengthsOf, lengthsCall}
 use Rattle.limits.specs.declared.LengthsTold.{LengthsTold}
-use Rattle.limits.specs.Bounds.{InLimits, accepted, active-places, path-places, base-places}
+use Rattle.limits.specs.Bounds.{InLimits, accepted, active-places, path-places, base-places, walk-places}
 use Rattle.limits.specs.Lengths.{answerOf, workspaceTold, workspaceOf, workspaceCall, workspaceBytes, toldBytes, Told}
 
 -- 256 MiB
@@ -20,6 +20,7 @@ module _ (k asked : ℕ) (g : GraphMaxima) (s : SearchMaxima) where
   within-limits h b =
       let active = active-places asked g s b in
       let origins = path-places asked g s b in
+      let walks = walk-places asked g s b in
       let bases = base-places asked g s b k h in
       omega arith
 

@@ -1,6 +1,6 @@
 -- What settings within the limits are at most.
 use mathlib.Core.Path.{_≡_, sym, _∙_}
-use Prim.Native.Nat.{ℕ, _+_, _*_, _≤_}
+use Prim.Native.Nat.{ℕ, _+_, _*_, _≤_, max}
 use native.Mathlib.Nat.{mul-le-mul}
 use native.Mathlib.Omega.{arith}
 use mathlib.Core.Bool.{Bool, true, _&&_}
@@ -58,9 +58,12 @@ settings-most asked g s e =
 
 -- ---- products of two settings
 
+max-le : (a b c : ℕ) → a ≤ c → b ≤ c → max a b ≤ c
+max-le a b c h k = omega arith
+
 module _ (asked : ℕ) (g : GraphMaxima) (s : SearchMaxima) (most : InLimits asked g s) where
-  pub active-places : (s .pushes + asked) * s .active ≤ 2105344
-  active-places = let h : (s .pushes + asked) * s .active ≤ 32896 * 64 = mul-le-mul {n₂ = 32896} (omega arith) (most .active-most) in omega arith
+  pub active-places : (s .pushes + asked + 8) * s .active ≤ 2105856
+  active-places = let h : (s .pushes + asked + 8) * s .active ≤ 32904 * 64 = mul-le-mul {n₂ = 32904} (omega arith) (most .active-most) in omega arith
 
   pub path-places : asked * s .pathEdges ≤ 524288
   path-places = let h : asked * s .pathEdges ≤ 128 * 4096 = mul-le-mul (most .asked-most) (most .path-edges-most) in omega arith
@@ -68,8 +71,11 @@ module _ (asked : ℕ) (g : GraphMaxima) (s : SearchMaxima) (most : InLimits ask
   pub base-places : (k : ℕ) → k ≤ 128 → asked * (k + s .pathEdges) ≤ 540672
   base-places k h = let p : asked * (k + s .pathEdges) ≤ 128 * 4224 = mul-le-mul {m₂ = 4224} (most .asked-most) (omega arith) in omega arith
 
+  pub walk-places : max (asked * s .pathEdges) (g .edges * 2) ≤ 524288
+  walk-places = max-le (asked * s .pathEdges) (g .edges * 2) 524288 path-places (omega (arith, most .edges-most))
+
   -- so the code's products do not wrap
-  pub active-fits : Fits w64 ((s .pushes + asked) * s .active)
+  pub active-fits : Fits w64 ((s .pushes + asked + 8) * s .active)
   active-fits = let h = active-places in omega arith
 
   pub origins-fit : Fits w64 (asked * s .pathEdges)

@@ -5,13 +5,34 @@ use native.Mathlib.Omega.{arith}
 use Rattle.definition.specs.Refusal.{firstBroken}
 use Rattle.definition.specs.Limits.{GraphMaxima, SearchMaxima, toldEdges, toldNodes, toldBases, toldOrigins, lengthsRules}
 use Rattle.definition.specs.Calls.{LengthsAnswer, lengthsOf, lengthsCall}
-use Rattle.limits.specs.Workspaces.{vertexTable, edgeTable, kmerIndex, nodeTable, openTrees, pathTable, pathScores, activeNodes, waitingQueue, pivotalEdges}
+use Rattle.limits.specs.Workspaces.{vertexTable, edgeTable, kmerIndex, nodeTable, openTrees, chainTable, targetTable, pathTable, pathScores, activeNodes, waitingQueue, closedPaths, pivotalOrder, pivotalMarks, pathWalks}
 use Rattle.limits.specs.declared.Workspace.{Workspace}
 use Rattle.limits.specs.declared.LengthsTold.{LengthsTold}
 
 abbrev pub answerOf : LengthsTold → LengthsAnswer
 answerOf r =
     record { refusal = r .refusal; edges = r .edges; nodes = r .nodes; paths = r .paths; bases = r .bases; origins = r .origins }
+
+-- a workspace whose walks are w numbers
+abbrev withWalks : Workspace → ℕ → Workspace
+withWalks t w =
+    record {
+      vertices = t .vertices;
+      edges = t .edges;
+      index = t .index;
+      nodes = t .nodes;
+      «open» = t .«open»;
+      chains = t .chains;
+      targets = t .targets;
+      paths = t .paths;
+      scores = t .scores;
+      active = t .active;
+      queue = t .queue;
+      closed = t .closed;
+      order = t .order;
+      marks = t .marks;
+      walks = w;
+    }
 
 unfoldable pub workspaceTold : ℕ → GraphMaxima → SearchMaxima → Workspace
 workspaceTold asked g s =
@@ -21,16 +42,25 @@ workspaceTold asked g s =
       index = kmerIndex g;
       nodes = nodeTable g;
       «open» = openTrees g;
+      chains = chainTable g;
+      targets = targetTable g;
       paths = pathTable asked s;
       scores = pathScores asked s;
       active = activeNodes asked s;
       queue = waitingQueue s;
-      pivotal = pivotalEdges g;
+      closed = closedPaths asked;
+      order = pivotalOrder g;
+      marks = pivotalMarks g;
+      walks = pathWalks asked g s;
     }
+
+pub told-walks : (asked : ℕ) (g : GraphMaxima) (s : SearchMaxima) (w : ℕ) → w ≡ pathWalks asked g s → withWalks (workspaceTold asked g s) w ≡ workspaceTold asked g s
+unfolding workspaceTold
+told-walks asked g s w e = rw e
 
 unfoldable pub noWorkspace : Workspace
 noWorkspace =
-    record { vertices = 0; edges = 0; index = 0; nodes = 0; «open» = 0; paths = 0; scores = 0; active = 0; queue = 0; pivotal = 0 }
+    record { vertices = 0; edges = 0; index = 0; nodes = 0; «open» = 0; chains = 0; targets = 0; paths = 0; scores = 0; active = 0; queue = 0; closed = 0; order = 0; marks = 0; walks = 0 }
 
 -- "A refused answer holds 0 in every other field", in the workspace too.
 unfoldable pub workspaceOf : ℕ → GraphMaxima → SearchMaxima → ℕ → Workspace
@@ -87,7 +117,8 @@ module _ (k asked : ℕ) (g : GraphMaxima) (s : SearchMaxima) (r : LengthsTold) 
 -- numbers of 4 bytes, scores of 8
 unfoldable pub workspaceBytes : Workspace → ℕ
 workspaceBytes w =
-    4 * w .vertices + 4 * w .edges + 4 * w .index + 4 * w .nodes + 4 * w .«open» + 4 * w .paths + 8 * w .scores + 4 * w .active + 4 * w .queue + 4 * w .pivotal
+    4 * (w .vertices + w .edges + w .index + w .nodes + w .«open» + w .chains + w .targets + w .paths + w .active + w .queue + w .closed + w .order + w .marks + w .walks)
+    + 8 * w .scores
 
 -- Edge and node rows are numbers of 4 bytes, a path row is a record of 24, a base is a byte, and there are two slices of origins, of 4 bytes a number.
 unfoldable pub toldBytes : LengthsAnswer → Workspace → ℕ

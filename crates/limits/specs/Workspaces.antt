@@ -1,5 +1,5 @@
 -- How many elements each workspace slice is told: one definition for each table.
-use Prim.Native.Nat.{ℕ, _+_, _*_}
+use Prim.Native.Nat.{ℕ, _+_, _*_, max}
 use Rattle.definition.specs.Limits.{GraphMaxima, SearchMaxima}
 
 -- a row of 12 numbers for each vertex
@@ -22,9 +22,17 @@ nodeTable g = (g .nodes + 1) * 5
 abbrev pub openTrees : GraphMaxima → ℕ
 openTrees g = g .nodes * 2
 
--- how many paths are ever made: by a push, or by recovery
+-- the sole out-edge of each vertex where a path goes on without a decision
+abbrev pub chainTable : GraphMaxima → ℕ
+chainTable g = g .vertices
+
+-- the target of each edge
+abbrev pub targetTable : GraphMaxima → ℕ
+targetTable g = g .edges
+
+-- how many path records are ever made: one for each push, each path that closes, and each extension of a fork that is not pushed any more
 abbrev pub pathCount : ℕ → SearchMaxima → ℕ
-pathCount asked s = s .pushes + asked
+pathCount asked s = s .pushes + asked + 8
 
 -- a row of 8 numbers for each path
 abbrev pub pathTable : ℕ → SearchMaxima → ℕ
@@ -42,6 +50,18 @@ activeNodes asked s = pathCount asked s * s .active
 abbrev pub waitingQueue : SearchMaxima → ℕ
 waitingQueue s = s .pushes
 
--- four numbers for each edge that may be pivotal
-abbrev pub pivotalEdges : GraphMaxima → ℕ
-pivotalEdges g = g .edges * 4
+-- the closed paths
+abbrev pub closedPaths : ℕ → ℕ
+closedPaths asked = asked
+
+-- the pivotal edges in their order
+abbrev pub pivotalOrder : GraphMaxima → ℕ
+pivotalOrder g = g .edges
+
+-- a mark for each edge that is still pivotal
+abbrev pub pivotalMarks : GraphMaxima → ℕ
+pivotalMarks g = g .edges
+
+-- the edges of all closed paths; before any has closed, the edges whose targets are still to be looked at for pivotal edges
+abbrev pub pathWalks : ℕ → GraphMaxima → SearchMaxima → ℕ
+pathWalks asked g s = max (asked * s .pathEdges) (g .edges * 2)

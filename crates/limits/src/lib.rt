@@ -12,6 +12,7 @@ ghost use Rattle.definition.specs.Refusal.{firstBroken};
 ghost use Rattle.definition.specs.Limits.{isBase, referenceFits, referenceBases, rising, endsFit, graphMaximaFit, searchMaximaFit, settingsFit, originRules, sampleRules, graphRules, listRules, longEnough, lengthsRules};
 ghost use Rattle.limits.specs.Handed.{graphMaximaOf, searchMaximaOf, sampleOf, inputOf};
 ghost use Rattle.limits.specs.Rules.{referenceRules};
+ghost use Rattle.limits.specs.Workspaces.{pathWalks};
 ghost use Rattle.limits.specs.Lengths.{workspaceTold, refusedLengths, acceptedLengths, Told};
 ghost use Rattle.limits.specs.Bounds.{InLimits};
 
@@ -286,11 +287,16 @@ pub struct Workspace {
     pub index: usize,
     pub nodes: usize,
     pub open: usize,
+    pub chains: usize,
+    pub targets: usize,
     pub paths: usize,
     pub scores: usize,
     pub active: usize,
     pub queue: usize,
-    pub pivotal: usize,
+    pub closed: usize,
+    pub order: usize,
+    pub marks: usize,
+    pub walks: usize,
 }
 
 // The answer of `lengths`: a refusal, or how many elements each slice needs; there are two slices of `origins` numbers.
@@ -328,11 +334,16 @@ fn lengths_refused(refusal: u32) -> LengthsTold
         index: 0,
         nodes: 0,
         open: 0,
+        chains: 0,
+        targets: 0,
         paths: 0,
         scores: 0,
         active: 0,
         queue: 0,
-        pivotal: 0,
+        closed: 0,
+        order: 0,
+        marks: 0,
+        walks: 0,
     };
     LengthsTold {
         refusal: refusal,
@@ -345,23 +356,42 @@ fn lengths_refused(refusal: u32) -> LengthsTold
     }
 }
 
-// The workspace of settings within limits; a path is made by a push or by recovery, which makes no more than are asked.
+// The edges of all closed paths, or twice the edges of the graph where that is more.
+pub fn walks_told(asked: u32, g: GraphMaxima, s: SearchMaxima) -> usize
+    requires { ⌜ InLimits asked (graphMaximaOf g) (searchMaximaOf s) ⌝ }
+    ensures { λ r. ⌜ r ≡ pathWalks asked (graphMaximaOf g) (searchMaximaOf s) ⌝ }
+{
+    let walks = asked as usize * s.path_edges as usize;
+    let queued = g.edges as usize * 2;
+    if walks < queued {
+        return queued;
+    }
+    walks
+}
+
+// The workspace of settings within limits; a path is made by a push, by closing, or as the extension of a fork.
 fn workspace_told(asked: u32, g: GraphMaxima, s: SearchMaxima) -> Workspace
     requires { ⌜ InLimits asked (graphMaximaOf g) (searchMaximaOf s) ⌝ }
     ensures { λ r. ⌜ r ≡ workspaceTold asked (graphMaximaOf g) (searchMaximaOf s) ⌝ }
 {
-    let paths = s.pushes as usize + asked as usize;
+    let paths = s.pushes as usize + asked as usize + 8;
+    let walks = walks_told(asked, g, s);
     Workspace {
         vertices: g.vertices as usize * 12,
         edges: g.edges as usize * 6,
         index: g.vertices as usize * 2,
         nodes: (g.nodes as usize + 1) * 5,
         open: g.nodes as usize * 2,
+        chains: g.vertices as usize,
+        targets: g.edges as usize,
         paths: paths * 8,
         scores: paths,
         active: paths * s.active as usize,
         queue: s.pushes as usize,
-        pivotal: g.edges as usize * 4,
+        closed: asked as usize,
+        order: g.edges as usize,
+        marks: g.edges as usize,
+        walks: walks,
     }
 }
 

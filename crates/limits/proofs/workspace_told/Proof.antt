@@ -1,71 +1,109 @@
 -- `workspace_told` meets its contract. Assumes nothing.
-use mathlib.Core.Path.{refl}
 use Rattle.limits.specs.Bounds.{active-fits}
-use Rattle.limits.specs.Lengths.{workspaceTold}
+use Rattle.limits.specs.Lengths.{workspaceTold, told-walks}
 use borrow.Author.Needs.{needs}
 use Rattle.limits.proofs.workspace_told.Statement.{statement}
 use Rattle.limits.proofs.workspace_told.Tie as tie
+use Rattle.limits.proofs.workspace_told.Reads as reads
+use Rattle.limits.proofs.workspace_told.Lts as lts
+use Rattle.limits.proofs.walks_told.Reads as walks-told-reads
 
+-- src/lib.rt:377:17
 cast-paths : tie.Need-cast-paths
 cast-paths c = search needs
 
+-- src/lib.rt:377:17
 add-paths : tie.Need-add-paths
 add-paths c = search needs
 
-cast-t5 : tie.Need-cast-t5
-cast-t5 c = search needs
+-- src/lib.rt:377:17
+add-paths-2 : tie.Need-add-paths-2
+add-paths-2 c = search needs
 
-mul-t6 : tie.Need-mul-t6
-mul-t6 c = search needs
+-- src/lib.rt:378:9
+walks-told-requires : tie.Need-walks-told-requires
+walks-told-requires c κs = search needs
 
-cast-t7 : tie.Need-cast-t7
-cast-t7 c = search needs
+-- src/lib.rt:380:19
+cast-t6 : tie.Need-cast-t6
+cast-t6 c = search needs
 
+-- src/lib.rt:380:19
 mul-t8 : tie.Need-mul-t8
 mul-t8 c = search needs
 
-cast-t9 : tie.Need-cast-t9
-cast-t9 c = search needs
+-- src/lib.rt:381:16
+cast-t7 : tie.Need-cast-t7
+cast-t7 c = search needs
 
-mul-t10 : tie.Need-mul-t10
-mul-t10 c = search needs
+-- src/lib.rt:381:16
+mul-t9 : tie.Need-mul-t9
+mul-t9 c = search needs
 
-cast-t11 : tie.Need-cast-t11
-cast-t11 c = search needs
+-- src/lib.rt:382:16
+cast-t10 : tie.Need-cast-t10
+cast-t10 c = search needs
 
-add-t12 : tie.Need-add-t12
-add-t12 c = search needs
+-- src/lib.rt:382:16
+mul-t11 : tie.Need-mul-t11
+mul-t11 c = search needs
 
-mul-t13 : tie.Need-mul-t13
-mul-t13 c = search needs
+-- src/lib.rt:383:17
+cast-t12 : tie.Need-cast-t12
+cast-t12 c = search needs
 
-cast-t14 : tie.Need-cast-t14
-cast-t14 c = search needs
+-- src/lib.rt:383:17
+add-t13 : tie.Need-add-t13
+add-t13 c = search needs
 
-mul-t15 : tie.Need-mul-t15
-mul-t15 c = search needs
+-- src/lib.rt:383:16
+mul-t14 : tie.Need-mul-t14
+mul-t14 c = search needs
 
+-- src/lib.rt:384:15
+cast-t15 : tie.Need-cast-t15
+cast-t15 c = search needs
+
+-- src/lib.rt:384:15
 mul-t16 : tie.Need-mul-t16
 mul-t16 c = search needs
 
+-- src/lib.rt:385:17
 cast-t17 : tie.Need-cast-t17
 cast-t17 c = search needs
 
-mul-t18 : tie.Need-mul-t18
-mul-t18 c = active-fits _ _ _ (c .before .before .before .before .before .before .before .pre)
+-- src/lib.rt:386:18
+cast-t18 : tie.Need-cast-t18
+cast-t18 c = search needs
 
-cast-t19 : tie.Need-cast-t19
-cast-t19 c = search needs
+-- src/lib.rt:387:16
+mul-t19 : tie.Need-mul-t19
+mul-t19 c = search needs
 
+-- src/lib.rt:389:25
 cast-t20 : tie.Need-cast-t20
 cast-t20 c = search needs
 
+-- src/lib.rt:389:17
 mul-t21 : tie.Need-mul-t21
-mul-t21 c = search needs
+mul-t21 c = active-fits _ _ _ (c .before .before .before .before .before .before .before .before .before .before .pre)
 
+-- src/lib.rt:390:16
+cast-t22 : tie.Need-cast-t22
+cast-t22 c = search needs
+
+-- src/lib.rt:392:16
+cast-t24 : tie.Need-cast-t24
+cast-t24 c = search needs
+
+-- src/lib.rt:393:16
+cast-t25 : tie.Need-cast-t25
+cast-t25 c = search needs
+
+-- src/lib.rt:373:1
 returns : tie.Need-returns
 unfolding workspaceTold
-returns c = refl
+returns c = told-walks _ _ _ _ (c .before .before .before .before .before .before .before .before .before .before .before .walks-told .ensures)
 
 pub workspace-told-spec : {M : Type 1} → statement M
 workspace-told-spec =
@@ -73,21 +111,25 @@ workspace-told-spec =
     (tie.spec
     cast-paths
     add-paths
-    cast-t5
-    mul-t6
-    cast-t7
+    add-paths-2
+    walks-told-requires
+    cast-t6
     mul-t8
-    cast-t9
-    mul-t10
-    cast-t11
-    add-t12
-    mul-t13
-    cast-t14
-    mul-t15
+    cast-t7
+    mul-t9
+    cast-t10
+    mul-t11
+    cast-t12
+    add-t13
+    mul-t14
+    cast-t15
     mul-t16
     cast-t17
-    mul-t18
-    cast-t19
+    cast-t18
+    mul-t19
     cast-t20
     mul-t21
+    cast-t22
+    cast-t24
+    cast-t25
     returns)
