@@ -13,6 +13,7 @@ use Rattle.laws.specs.Numbers.{within}
 use Rattle.definition.specs.Refusal.{firstBroken}
 use Rattle.definition.specs.Limits.{GraphMaxima, SearchMaxima, kFits, graphMaximaFit, searchMaximaFit, settingsFit, lengthsRules}
 use Rattle.limits.specs.Rules.{none-broken}
+use Rattle.limits.specs.Workspaces.{kmerIndex, openTrees, pathWalks}
 
 pub record InLimits (asked : ℕ) (g : GraphMaxima) (s : SearchMaxima) : Type 0 where
   pub asked-most : asked ≤ 128
@@ -71,8 +72,11 @@ module _ (asked : ℕ) (g : GraphMaxima) (s : SearchMaxima) (most : InLimits ask
   pub base-places : (k : ℕ) → k ≤ 128 → asked * (k + s .pathEdges) ≤ 540672
   base-places k h = let p : asked * (k + s .pathEdges) ≤ 128 * 4224 = mul-le-mul {m₂ = 4224} (most .asked-most) (omega arith) in omega arith
 
-  pub walk-places : max (asked * s .pathEdges) (g .edges * 2) ≤ 524288
-  walk-places = max-le (asked * s .pathEdges) (g .edges * 2) 524288 path-places (omega (arith, most .edges-most))
+  pub walk-places : pathWalks asked g s ≤ 524288
+  walk-places =
+      max-le (max (kmerIndex g) (openTrees g)) (max (g .edges * 2) (max 32 (asked * s .pathEdges))) 524288
+      (max-le (kmerIndex g) (openTrees g) 524288 (omega (arith, most .vertices-most)) (omega (arith, most .nodes-most)))
+      (max-le (g .edges * 2) (max 32 (asked * s .pathEdges)) 524288 (omega (arith, most .edges-most)) (max-le 32 (asked * s .pathEdges) 524288 (omega arith) path-places))
 
   -- so the code's products do not wrap
   pub active-fits : Fits w64 ((s .pushes + asked + 8) * s .active)

@@ -62,6 +62,7 @@ pivotalOrder g = g .edges
 abbrev pub pivotalMarks : GraphMaxima → ℕ
 pivotalMarks g = g .edges
 
--- the edges of all closed paths; before any has closed, the edges whose targets are still to be looked at for pivotal edges
+-- One slice for what is needed one after the other: the index of kmers, the open trees, the edges whose targets are still to be looked at for pivotal
+-- edges, the offers of a fork (8 rows of 4 numbers), and the edges of all closed paths.
 abbrev pub pathWalks : ℕ → GraphMaxima → SearchMaxima → ℕ
-pathWalks asked g s = max (asked * s .pathEdges) (g .edges * 2)
+pathWalks asked g s = max (max (kmerIndex g) (openTrees g)) (max (g .edges * 2) (max 32 (asked * s .pathEdges)))

@@ -2,7 +2,7 @@
 ghost use mathlib.Core.Path.{_≡_};
 ghost use mathlib.Core.Bool.{Bool, _&&_};
 ghost use mathlib.Core.List.{List};
-ghost use Prim.Native.Nat.{ℕ, _≤_};
+ghost use Prim.Native.Nat.{ℕ, _≤_, max};
 ghost use lib.IntN.{ℤ};
 ghost use lib.Dec.{eqb};
 ghost use lib.ListN.{length};
@@ -356,17 +356,25 @@ fn lengths_refused(refusal: u32) -> LengthsTold
     }
 }
 
-// The edges of all closed paths, or twice the edges of the graph where that is more.
+fn larger(a: usize, b: usize) -> usize
+    ensures { λ r. ⌜ r ≡ max a b ⌝ }
+{
+    if a < b {
+        return b;
+    }
+    a
+}
+
+// As much as the largest of the tables that share a slice needs.
 pub fn walks_told(asked: u32, g: GraphMaxima, s: SearchMaxima) -> usize
     requires { ⌜ InLimits asked (graphMaximaOf g) (searchMaximaOf s) ⌝ }
     ensures { λ r. ⌜ r ≡ pathWalks asked (graphMaximaOf g) (searchMaximaOf s) ⌝ }
 {
-    let walks = asked as usize * s.path_edges as usize;
+    let index = g.vertices as usize * 2;
+    let open = g.nodes as usize * 2;
     let queued = g.edges as usize * 2;
-    if walks < queued {
-        return queued;
-    }
-    walks
+    let walks = asked as usize * s.path_edges as usize;
+    larger(larger(index, open), larger(queued, larger(32, walks)))
 }
 
 // The workspace of settings within limits; a path is made by a push, by closing, or as the extension of a fork.

@@ -1,36 +1,78 @@
 -- `walks_told` meets its contract. Assumes nothing.
-use native.Mathlib.Omega.{arith}
 use Rattle.limits.specs.Bounds.{origins-fit}
 use borrow.Author.Needs.{needs}
 use Rattle.limits.proofs.walks_told.Statement.{statement}
 use Rattle.limits.proofs.walks_told.Tie as tie
 use Rattle.limits.proofs.walks_told.Reads as reads
 use Rattle.limits.proofs.walks_told.Lts as lts
+use Rattle.limits.proofs.larger.Reads as larger-reads
 
--- src/lib.rt:364:34
-cast-walks : tie.Need-cast-walks
-cast-walks c = search needs
+-- src/lib.rt:373:17
+cast-index : tie.Need-cast-index
+cast-index c = search needs
 
--- src/lib.rt:364:17
-mul-walks : tie.Need-mul-walks
-mul-walks c = origins-fit _ _ _ (c .before .pre)
+-- src/lib.rt:373:17
+mul-index : tie.Need-mul-index
+mul-index c = search needs
 
--- src/lib.rt:365:18
+-- src/lib.rt:374:16
+cast-open : tie.Need-cast-open
+cast-open c = search needs
+
+-- src/lib.rt:374:16
+mul-open : tie.Need-mul-open
+mul-open c = search needs
+
+-- src/lib.rt:375:18
 cast-queued : tie.Need-cast-queued
 cast-queued c = search needs
 
--- src/lib.rt:365:18
+-- src/lib.rt:375:18
 mul-queued : tie.Need-mul-queued
 mul-queued c = search needs
 
--- src/lib.rt:367:9
+-- src/lib.rt:376:34
+cast-walks : tie.Need-cast-walks
+cast-walks c = search needs
+
+-- src/lib.rt:376:17
+mul-walks : tie.Need-mul-walks
+mul-walks c = origins-fit _ _ _ (c .before .before .before .before .pre)
+
+-- src/lib.rt:377:12
+larger-requires : tie.Need-larger-requires
+larger-requires c κs = search needs
+
+-- src/lib.rt:377:48
+larger-requires-2 : tie.Need-larger-requires-2
+larger-requires-2 c κs = search needs
+
+-- src/lib.rt:377:33
+larger-requires-3 : tie.Need-larger-requires-3
+larger-requires-3 c κs = search needs
+
+-- src/lib.rt:377:5
+larger-requires-4 : tie.Need-larger-requires-4
+larger-requires-4 c κs = search needs
+
+-- src/lib.rt:369:1
 returns : tie.Need-returns
 returns c = search needs
 
--- src/lib.rt:360:1
-returns-2 : tie.Need-returns-2
-returns-2 c = search needs
-
 pub walks-told-spec : {M : Type 1} → statement M
 walks-told-spec =
-    tie.close (tie.spec cast-walks mul-walks cast-queued mul-queued returns returns-2)
+    tie.close
+    (tie.spec
+    cast-index
+    mul-index
+    cast-open
+    mul-open
+    cast-queued
+    mul-queued
+    cast-walks
+    mul-walks
+    larger-requires
+    larger-requires-2
+    larger-requires-3
+    larger-requires-4
+    returns)
