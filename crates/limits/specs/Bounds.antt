@@ -13,7 +13,7 @@ use Rattle.laws.specs.Numbers.{within}
 use Rattle.definition.specs.Refusal.{firstBroken}
 use Rattle.definition.specs.Limits.{GraphMaxima, SearchMaxima, kFits, graphMaximaFit, searchMaximaFit, settingsFit, lengthsRules}
 use Rattle.limits.specs.Rules.{none-broken}
-use Rattle.limits.specs.Workspaces.{kmerIndex, openTrees, pathWalks}
+use Rattle.limits.specs.Workspaces.{openTrees, pathWalks}
 
 pub record InLimits (asked : ℕ) (g : GraphMaxima) (s : SearchMaxima) : Type 0 where
   pub asked-most : asked ≤ 128
@@ -74,8 +74,7 @@ module _ (asked : ℕ) (g : GraphMaxima) (s : SearchMaxima) (most : InLimits ask
 
   pub walk-places : pathWalks asked g s ≤ 524288
   walk-places =
-      max-le (max (kmerIndex g) (openTrees g)) (max (g .edges * 2) (max 32 (asked * s .pathEdges))) 524288
-      (max-le (kmerIndex g) (openTrees g) 524288 (omega (arith, most .vertices-most)) (omega (arith, most .nodes-most)))
+      max-le (openTrees g) (max (g .edges * 2) (max 32 (asked * s .pathEdges))) 524288 (omega (arith, most .nodes-most))
       (max-le (g .edges * 2) (max 32 (asked * s .pathEdges)) 524288 (omega (arith, most .edges-most)) (max-le 32 (asked * s .pathEdges) 524288 (omega arith) path-places))
 
   -- so the code's products do not wrap

@@ -5,7 +5,7 @@ use native.Mathlib.Omega.{arith}
 use Rattle.definition.specs.Refusal.{firstBroken}
 use Rattle.definition.specs.Limits.{GraphMaxima, SearchMaxima, toldEdges, toldNodes, toldBases, toldOrigins, lengthsRules}
 use Rattle.definition.specs.Calls.{LengthsAnswer, lengthsOf, lengthsCall}
-use Rattle.limits.specs.Workspaces.{vertexTable, edgeTable, kmerIndex, nodeTable, openTrees, chainTable, targetTable, pathTable, pathScores, activeNodes, waitingQueue, closedPaths, pivotalOrder, pivotalMarks, pathWalks}
+use Rattle.limits.specs.Workspaces.{vertexTable, edgeTable, kmerIndex, nodeTable, openTrees, targetTable, pathTable, pathScores, activeNodes, waitingQueue, closedPaths, pivotalOrder, pivotalMarks, pathWalks}
 use Rattle.limits.specs.declared.Workspace.{Workspace}
 use Rattle.limits.specs.declared.LengthsTold.{LengthsTold}
 
@@ -22,7 +22,6 @@ withWalks t w =
       index = t .index;
       nodes = t .nodes;
       «open» = t .«open»;
-      chains = t .chains;
       targets = t .targets;
       paths = t .paths;
       scores = t .scores;
@@ -42,7 +41,6 @@ workspaceTold asked g s =
       index = kmerIndex g;
       nodes = nodeTable g;
       «open» = openTrees g;
-      chains = chainTable g;
       targets = targetTable g;
       paths = pathTable asked s;
       scores = pathScores asked s;
@@ -60,7 +58,7 @@ told-walks asked g s w e = rw e
 
 unfoldable pub noWorkspace : Workspace
 noWorkspace =
-    record { vertices = 0; edges = 0; index = 0; nodes = 0; «open» = 0; chains = 0; targets = 0; paths = 0; scores = 0; active = 0; queue = 0; closed = 0; order = 0; marks = 0; walks = 0 }
+    record { vertices = 0; edges = 0; index = 0; nodes = 0; «open» = 0; targets = 0; paths = 0; scores = 0; active = 0; queue = 0; closed = 0; order = 0; marks = 0; walks = 0 }
 
 -- "A refused answer holds 0 in every other field", in the workspace too.
 unfoldable pub workspaceOf : ℕ → GraphMaxima → SearchMaxima → ℕ → Workspace
@@ -117,7 +115,7 @@ module _ (k asked : ℕ) (g : GraphMaxima) (s : SearchMaxima) (r : LengthsTold) 
 -- numbers of 4 bytes, scores of 8
 unfoldable pub workspaceBytes : Workspace → ℕ
 workspaceBytes w =
-    4 * (w .vertices + w .edges + w .index + w .nodes + w .«open» + w .chains + w .targets + w .paths + w .active + w .queue + w .closed + w .order + w .marks + w .walks)
+    4 * (w .vertices + w .edges + w .index + w .nodes + w .«open» + w .targets + w .paths + w .active + w .queue + w .closed + w .order + w .marks + w .walks)
     + 8 * w .scores
 
 -- Edge and node rows are numbers of 4 bytes, a path row is a record of 24, a base is a byte, and there are two slices of origins, of 4 bytes a number.

@@ -10,7 +10,7 @@ vertexTable g = g .vertices * 12
 abbrev pub edgeTable : GraphMaxima → ℕ
 edgeTable g = g .edges * 6
 
--- two numbers for each vertex, by which a kmer is found
+-- two numbers for each vertex, by which a kmer is found; in the search, the sole out-edge of each vertex where a path goes on without a decision
 abbrev pub kmerIndex : GraphMaxima → ℕ
 kmerIndex g = g .vertices * 2
 
@@ -21,10 +21,6 @@ nodeTable g = (g .nodes + 1) * 5
 -- two numbers for each tree that a walk has open
 abbrev pub openTrees : GraphMaxima → ℕ
 openTrees g = g .nodes * 2
-
--- the sole out-edge of each vertex where a path goes on without a decision
-abbrev pub chainTable : GraphMaxima → ℕ
-chainTable g = g .vertices
 
 -- the target of each edge
 abbrev pub targetTable : GraphMaxima → ℕ
@@ -62,7 +58,7 @@ pivotalOrder g = g .edges
 abbrev pub pivotalMarks : GraphMaxima → ℕ
 pivotalMarks g = g .edges
 
--- One slice for what is needed one after the other: the index of kmers, the open trees, the edges whose targets are still to be looked at for pivotal
--- edges, the offers of a fork (8 rows of 4 numbers), and the edges of all closed paths.
+-- One slice for what is needed one after the other: the open trees, the edges whose targets are still to be looked at for pivotal edges, the offers of a
+-- fork (8 rows of 4 numbers), and the edges of all closed paths.
 abbrev pub pathWalks : ℕ → GraphMaxima → SearchMaxima → ℕ
-pathWalks asked g s = max (max (kmerIndex g) (openTrees g)) (max (g .edges * 2) (max 32 (asked * s .pathEdges)))
+pathWalks asked g s = max (openTrees g) (max (g .edges * 2) (max 32 (asked * s .pathEdges)))

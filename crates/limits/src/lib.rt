@@ -287,7 +287,6 @@ pub struct Workspace {
     pub index: usize,
     pub nodes: usize,
     pub open: usize,
-    pub chains: usize,
     pub targets: usize,
     pub paths: usize,
     pub scores: usize,
@@ -334,7 +333,6 @@ fn lengths_refused(refusal: u32) -> LengthsTold
         index: 0,
         nodes: 0,
         open: 0,
-        chains: 0,
         targets: 0,
         paths: 0,
         scores: 0,
@@ -370,11 +368,10 @@ pub fn walks_told(asked: u32, g: GraphMaxima, s: SearchMaxima) -> usize
     requires { ⌜ InLimits asked (graphMaximaOf g) (searchMaximaOf s) ⌝ }
     ensures { λ r. ⌜ r ≡ pathWalks asked (graphMaximaOf g) (searchMaximaOf s) ⌝ }
 {
-    let index = g.vertices as usize * 2;
     let open = g.nodes as usize * 2;
     let queued = g.edges as usize * 2;
     let walks = asked as usize * s.path_edges as usize;
-    larger(larger(index, open), larger(queued, larger(32, walks)))
+    larger(open, larger(queued, larger(32, walks)))
 }
 
 // The workspace of settings within limits; a path is made by a push, by closing, or as the extension of a fork.
@@ -390,7 +387,6 @@ fn workspace_told(asked: u32, g: GraphMaxima, s: SearchMaxima) -> Workspace
         index: g.vertices as usize * 2,
         nodes: (g.nodes as usize + 1) * 5,
         open: g.nodes as usize * 2,
-        chains: g.vertices as usize,
         targets: g.edges as usize,
         paths: paths * 8,
         scores: paths,
