@@ -8,7 +8,8 @@ use Prim.Native.Nat.{ℕ, zero, suc, _+_, _-_, _*_, _^_, _<_, _≤_}
 use native.Mathlib.Omega.{arith}
 use native.Mathlib.Decide.{ℕ-discrete, decLt}
 use lib.Dec.{leb, eqb}
-use lib.ListN.{length, getD, List·getD-eq-default}
+use lib.ListN.{length, getD, take, List·getD-eq-default}
+use lib.Seq.{length-take-le}
 use borrow.Author.Tests.{leb-true, eq-eqb, ne-eqb, eqb-true}
 use Rattle.laws.specs.Lists.{sole, isSome, total}
 use Rattle.laws.specs.ListLaws.{clash, or-none, and-left, and-right, All, nil, cons}
@@ -43,6 +44,7 @@ use Rattle.fork_offers.specs.Real.{Fork}
 use Rattle.search_state.specs.declared.Setting.{Setting}
 use Rattle.search_state.specs.Ground.{Ground, TreeIn, nameOf}
 use Rattle.search_ground.specs.Tables.{Tables, Tabled, Sole}
+use Rattle.search_ground.specs.Exact.{built-exact}
 
 -- ---- a fork of the ground
 
@@ -79,6 +81,7 @@ within-high lo hi n h = leb-true n hi (and-right (leb lo n) (leb n hi) h)
 -- the caller's numbers
 record Settled (i : Input) : Type 0 where
   asked : i .asked ≤ 128
+  vertices : i .graphMaxima .vertices ≤ 4096
   edges : i .graphMaxima .edges ≤ 8192
   most : i .searchMaxima .pathEdges ≤ 4096
   active : i .searchMaxima .active ≤ 64
@@ -97,6 +100,7 @@ settled i h =
     let e = and-left (within 1 4096 (s .pathEdges) && within 1 64 (s .active)) _ d in
     record {
       asked = leb-true (i .asked) 128 (and-left (leb (i .asked) 128) _ a);
+      vertices = within-high 2 4096 (g .vertices) (and-left (within 2 4096 (g .vertices)) _ c);
       edges = within-high 1 8192 (g .edges) (and-right (within 2 4096 (g .vertices)) _ c);
       most = within-high 1 4096 (s .pathEdges) (and-left (within 1 4096 (s .pathEdges)) _ e);
       active = within-high 1 64 (s .active) (and-right (within 1 4096 (s .pathEdges)) _ e);
@@ -142,6 +146,17 @@ pub record Lies (vs es only : List ℕ) (n m : ℕ) : Type 0 where
   pub places : n < length only
   pub room : length only * 12 ≤ length vs
   pub few : length only ≤ 4096
+
+-- so it is where the tables have the lengths of the maxima, and `only` has a place for each vertex of the maximum
+pub lies-of : (i : Input) {vs₂ es₂ : List ℕ} {n m sink : ℕ} → settingsFit (i .asked) (i .graphMaxima) (i .searchMaxima) ≡ true
+    → BuiltAt (i .sample) (i .graphMaxima .vertices) (i .graphMaxima .edges) vs₂ es₂ n m sink → length vs₂ ≡ i .graphMaxima .vertices * 12 → length es₂ ≡ i .graphMaxima .edges * 6
+    → {vs : List ℕ} → vs ≡ linked vs₂ sink m → {only : List ℕ} → length only ≡ i .graphMaxima .vertices → Lies vs (take ((m + 1) * 6) es₂) only n m
+lies-of i {vs₂ = vs₂} {es₂ = es₂} {m = m} {sink = sink} fit at lv le {vs = vs} link {only = only} lo =
+    let a = at .vertices-fit in
+    let b = at .edges-fit in
+    let c = settled i fit .vertices in
+    let d : length vs ≡ length vs₂ = rw link (length-linked vs₂ sink m) in
+    record { rows = length-take-le ((m + 1) * 6) es₂ (omega arith); places = omega arith; room = omega arith; few = omega arith }
 
 module _ (i : Input) {vs₂ es : List ℕ} {n m sink : ℕ} (rules : firstBroken (sampleRules (i .sample)) ≡ 0)
     (fit : settingsFit (i .asked) (i .graphMaxima) (i .searchMaxima) ≡ true)
@@ -322,3 +337,17 @@ module _ (i : Input) {vs₂ es : List ℕ} {n m sink : ℕ} (rules : firstBroken
           pushes-fit = u .pushes;
           asked-fits = u .asked;
         }
+
+-- ---- from the tables as the build leaves them: the symbolic edge is linked, and the edge table is cut off behind it
+
+module _ (i : Input) {vs₂ es₂ : List ℕ} {n m sink : ℕ} (rules : firstBroken (sampleRules (i .sample)) ≡ 0)
+    (fit : settingsFit (i .asked) (i .graphMaxima) (i .searchMaxima) ≡ true)
+    (at : BuiltAt (i .sample) (i .graphMaxima .vertices) (i .graphMaxima .edges) vs₂ es₂ n m sink)
+    (lv : length vs₂ ≡ i .graphMaxima .vertices * 12) (le : length es₂ ≡ i .graphMaxima .edges * 6)
+    {vs : List ℕ} (link : vs ≡ linked vs₂ sink m) {only to : List ℕ} (lo : length only ≡ i .graphMaxima .vertices) where
+  pub tables-for : length to ≡ m + 1 → Tables vs (take ((m + 1) * 6) es₂) (m + 1) only to
+  tables-for h = ground-tables i rules fit (built-exact es₂ m at) link (lies-of i fit at lv le link lo) to h
+
+  pub ground-for : {x op : List ℕ} {cap c : ℕ} → Evident (i .sample) vs₂ x op cap c → Tabled vs (take ((m + 1) * 6) es₂) (m + 1) sink only to → (least : ℕ) → Least (i .threshold) least
+      → Ground (searchInput i (builtFor (i .sample))) (settingFor i n m sink c cap least) vs (take ((m + 1) * 6) es₂) x only to
+  ground-for there t least l = ground-of i rules fit (built-exact es₂ m at) link (lies-of i fit at lv le link lo) there t least l
