@@ -1,5 +1,5 @@
 -- The edge table cut off behind the symbolic edge holds the built graph as well. Assumes nothing.
-use mathlib.Core.Path.{_≡_, refl, sym, ap, _∙_}
+use mathlib.Core.Path.{_≡_, _∙_}
 use mathlib.Core.List.{List, _++_}
 use Prim.Native.Nat.{ℕ, _+_, _*_, _<_, _≤_}
 use native.Mathlib.Omega.{arith}
@@ -7,9 +7,8 @@ use lib.ListN.{take}
 use lib.Seq.{getD-take}
 use Rattle.laws.specs.Records.{field}
 use Rattle.definition.specs.Limits.{Sample}
-use Rattle.definition.specs.Threading.{Edge}
 use Rattle.assembly.specs.Table.{table-same}
-use Rattle.assembly.specs.Store.{edgeAt, edgesOf, kmersOf, graphOf}
+use Rattle.assembly.specs.Store.{edgeAt, edgesOf, graphOf}
 use Rattle.assembly.specs.Moves.{good-front}
 use Rattle.junction_tree_graph.specs.Built.{BuiltAt}
 

@@ -3,21 +3,21 @@ use mathlib.Core.Path.{_≡_, refl, sym, ap, subst, _∙_}
 use mathlib.Core.Logic.{_≢_}
 use mathlib.Core.Bool.{Bool, true, false, _&&_, _||_}
 use mathlib.Core.List.{List, [], _∷_, _++_}
-use mathlib.Core.Option.{Option, none, some}
-use Prim.Native.Nat.{ℕ, zero, suc, _+_, _-_, _*_, _^_, _<_, _≤_}
+use mathlib.Core.Option.{none, some}
+use Prim.Native.Nat.{ℕ, suc, _+_, _-_, _*_, _<_, _≤_}
 use native.Mathlib.Omega.{arith}
 use native.Mathlib.Decide.{ℕ-discrete, decLt}
 use lib.Dec.{leb, eqb}
 use lib.ListN.{length, getD, take, List·getD-eq-default}
 use lib.Seq.{length-take-le}
-use borrow.Author.Tests.{leb-true, eq-eqb, ne-eqb, eqb-true}
-use Rattle.laws.specs.Lists.{sole, isSome, total}
+use borrow.Author.Tests.{leb-true, eq-eqb, ne-eqb}
+use Rattle.laws.specs.Lists.{sole, isSome}
 use Rattle.laws.specs.ListLaws.{clash, or-none, and-left, and-right, All, nil, cons}
 use Rattle.laws.specs.Numbers.{within}
 use Rattle.laws.specs.Records.{field, field-other}
 use Rattle.definition.specs.Refusal.{Rule, firstBroken}
-use Rattle.definition.specs.Limits.{Sample, Input, kFits, referenceFits, referenceBases, readsFit, graphMaximaFit, searchMaximaFit, settingsFit, sampleRules}
-use Rattle.definition.specs.Threading.{Ends, Edge, Graph, eqEnds, supportOf, leaving, threaded, sinkOf, symbolicOf, withSymbolic}
+use Rattle.definition.specs.Limits.{Sample, Input, referenceFits, referenceBases, readsFit, graphMaximaFit, searchMaximaFit, settingsFit, sampleRules}
+use Rattle.definition.specs.Threading.{Graph, eqEnds, leaving, threaded, sinkOf, symbolicOf, withSymbolic}
 use Rattle.definition.specs.Evidence.{Branches, Tree, treeAt, evidence}
 use Rattle.definition.specs.Search.{SearchInput, onward}
 use Rattle.definition.specs.Building.{Built}
@@ -28,21 +28,21 @@ use Rattle.definition.proofs.Degrees.{six-leave}
 use Rattle.assembly.specs.Table.{length-table}
 use Rattle.assembly.specs.Store.{edgeAt, edgesOf, graphOf}
 use Rattle.assembly.specs.Kmers.{length-of}
-use Rattle.assembly.specs.Outs.{Nexts, nexts-none}
-use Rattle.assembly.specs.Symbolic.{linked, length-linked, linked-distinct}
-use Rattle.junction_tree_graph.specs.Built.{Fits, fits-of, BuiltAt}
-use Rattle.threading_tree.specs.Ends.{ends, eqEnds-self, eqEnds-ne}
+use Rattle.assembly.specs.Outs.{nexts-none}
+use Rattle.assembly.specs.Symbolic.{linked, length-linked}
+use Rattle.junction_tree_graph.specs.Built.{fits-of, BuiltAt}
+use Rattle.threading_tree.specs.Ends.{eqEnds-self, eqEnds-ne}
 use Rattle.threading_tree.specs.Read.{TreeOf, held-tree, held-no-tree}
 use Rattle.junction_trees.specs.Roots.{rootOf}
 use Rattle.junction_trees.specs.Stretches.{begun}
 use Rattle.junction_trees.specs.Trees.{Evident}
 use Rattle.pivotal_edges.specs.Walk.{Linked, leaving-from}
 use Rattle.pivotal_edges.specs.Links.{linked-of}
-use Rattle.path_store.specs.Link.{Agrees, On}
+use Rattle.path_store.specs.Link.{Agrees}
 use Rattle.fork_offers.specs.Actives.{Least}
 use Rattle.fork_offers.specs.Real.{Fork}
 use Rattle.search_state.specs.declared.Setting.{Setting}
-use Rattle.search_state.specs.Ground.{Ground, TreeIn, nameOf}
+use Rattle.search_state.specs.Ground.{Ground, nameOf}
 use Rattle.search_ground.specs.Tables.{Tables, Tabled, Sole}
 use Rattle.search_ground.specs.Exact.{built-exact}
 

@@ -1,12 +1,12 @@
 -- How many offers a fork has: an edge once, and each of them leaves the fork, so at most six. Assumes nothing.
-use mathlib.Core.Path.{_≡_, refl, sym, ap, subst, _∙_}
+use mathlib.Core.Path.{_≡_, sym, subst}
 use mathlib.Core.List.{List, [], _∷_, map}
 use Prim.Native.Nat.{ℕ, _+_, _≤_, Ordering·lt}
 use native.Mathlib.Omega.{arith}
 use lib.ListN.{length, getD, length-map}
-use Rattle.laws.specs.ListLaws.{All, nil, cons, Mem, all-from, all-map, mem-map, pairwise-map, pigeonhole, Pairwise, first, empty}
+use Rattle.laws.specs.ListLaws.{All, nil, cons, Mem, all-from, all-map, mem-map, pairwise-map, pigeonhole, Pairwise}
 use Rattle.definition.specs.Threading.{Ends, Edge, leaving, compareEnds}
-use Rattle.definition.specs.Evidence.{Branches, bare, branch}
+use Rattle.definition.specs.Evidence.{Branches}
 use Rattle.definition.specs.Search.{SearchInput, Offer, offers}
 use Rattle.definition.proofs.Trees.{After, Rising}
 use Rattle.definition.proofs.Tables.{Rises}

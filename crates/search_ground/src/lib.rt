@@ -3,7 +3,6 @@
 use assembly::edge_to;
 use assembly::next_out;
 use junction_trees::root_slot;
-ghost use mathlib.Core.Path.{_≡_};
 ghost use Prim.Native.Nat.{_*_, _≤_};
 ghost use lib.ListN.{length};
 ghost use Rattle.pivotal_edges.specs.Walk.{Here, Linked};
@@ -55,8 +54,8 @@ fn fill_only(vertices: &[u32], edges: &[u32], m: usize, sink: usize, only: &mut 
     }
 }
 
-// Both tables, over the graph whose m edges, the symbolic one too, are linked. (Rust: the walk to the next vertex with a tree or a fork, in
-// find_junction_best_haplotypes)
+// Both tables, over the graph whose m edges, the symbolic one too, are linked. A vertex without edges gets 0, so `only` may have more places than the
+// graph has vertices.
 pub fn chain_tables(
     vertices: &[u32],
     edges: &[u32],
