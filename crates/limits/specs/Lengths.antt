@@ -5,7 +5,7 @@ use native.Mathlib.Omega.{arith}
 use Rattle.definition.specs.Refusal.{firstBroken}
 use Rattle.definition.specs.Limits.{GraphMaxima, SearchMaxima, toldEdges, toldNodes, toldBases, toldOrigins, lengthsRules}
 use Rattle.definition.specs.Calls.{LengthsAnswer, lengthsOf, lengthsCall}
-use Rattle.limits.specs.Workspaces.{vertexTable, edgeTable, kmerIndex, nodeTable, openTrees, targetTable, pathTable, pathScores, activeNodes, waitingQueue, closedPaths, pivotalOrder, pivotalMarks, pathWalks}
+use Rattle.limits.specs.Workspaces.{vertexTable, edgeTable, kmerIndex, nodeTable, openTrees, targetTable, pathTable, pathScores, activeNodes, waitingQueue, closedPaths, pivotalOrder, pivotalMarks, pathWalks, rowColumns}
 use Rattle.limits.specs.declared.Workspace.{Workspace}
 use Rattle.limits.specs.declared.LengthsTold.{LengthsTold}
 
@@ -31,6 +31,7 @@ withWalks t w =
       order = t .order;
       marks = t .marks;
       walks = w;
+      columns = t .columns;
     }
 
 unfoldable pub workspaceTold : ℕ → GraphMaxima → SearchMaxima → Workspace
@@ -50,6 +51,7 @@ workspaceTold asked g s =
       order = pivotalOrder g;
       marks = pivotalMarks g;
       walks = pathWalks asked g s;
+      columns = rowColumns asked;
     }
 
 pub told-walks : (asked : ℕ) (g : GraphMaxima) (s : SearchMaxima) (w : ℕ) → w ≡ pathWalks asked g s → withWalks (workspaceTold asked g s) w ≡ workspaceTold asked g s
@@ -58,7 +60,7 @@ told-walks asked g s w e = rw e
 
 unfoldable pub noWorkspace : Workspace
 noWorkspace =
-    record { vertices = 0; edges = 0; index = 0; nodes = 0; «open» = 0; targets = 0; paths = 0; scores = 0; active = 0; queue = 0; closed = 0; order = 0; marks = 0; walks = 0 }
+    record { vertices = 0; edges = 0; index = 0; nodes = 0; «open» = 0; targets = 0; paths = 0; scores = 0; active = 0; queue = 0; closed = 0; order = 0; marks = 0; walks = 0; columns = 0 }
 
 -- "A refused answer holds 0 in every other field", in the workspace too.
 unfoldable pub workspaceOf : ℕ → GraphMaxima → SearchMaxima → ℕ → Workspace
@@ -112,11 +114,11 @@ module _ (k asked : ℕ) (g : GraphMaxima) (s : SearchMaxima) (r : LengthsTold) 
 
 -- ---- in bytes
 
--- numbers of 4 bytes, scores of 8
+-- numbers of 4 bytes, scores of 8; there is a column of scores and two of numbers
 unfoldable pub workspaceBytes : Workspace → ℕ
 workspaceBytes w =
-    4 * (w .vertices + w .edges + w .index + w .nodes + w .«open» + w .targets + w .paths + w .active + w .queue + w .closed + w .order + w .marks + w .walks)
-    + 8 * w .scores
+    4 * (w .vertices + w .edges + w .index + w .nodes + w .«open» + w .targets + w .paths + w .active + w .queue + w .closed + w .order + w .marks + w .walks + 2 * w .columns)
+    + 8 * (w .scores + w .columns)
 
 -- Edge and node rows are numbers of 4 bytes, a path row is a record of 24, a base is a byte, and there are two slices of origins, of 4 bytes a number.
 unfoldable pub toldBytes : LengthsAnswer → Workspace → ℕ

@@ -62,3 +62,7 @@ pivotalMarks g = g .edges
 -- fork (8 rows of 4 numbers), and the edges of all closed paths.
 abbrev pub pathWalks : ℕ → GraphMaxima → SearchMaxima → ℕ
 pathWalks asked g s = max (openTrees g) (max (g .edges * 2) (max 32 (asked * s .pathEdges)))
+
+-- the columns from which the rows of the list are copied: scores, closing numbers, edge counts
+abbrev pub rowColumns : ℕ → ℕ
+rowColumns asked = asked

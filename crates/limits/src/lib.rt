@@ -296,6 +296,7 @@ pub struct Workspace {
     pub order: usize,
     pub marks: usize,
     pub walks: usize,
+    pub columns: usize,
 }
 
 // The answer of `lengths`: a refusal, or how many elements each slice needs; there are two slices of `origins` numbers.
@@ -342,6 +343,7 @@ fn lengths_refused(refusal: u32) -> LengthsTold
         order: 0,
         marks: 0,
         walks: 0,
+        columns: 0,
     };
     LengthsTold {
         refusal: refusal,
@@ -396,6 +398,7 @@ fn workspace_told(asked: u32, g: GraphMaxima, s: SearchMaxima) -> Workspace
         order: g.edges as usize,
         marks: g.edges as usize,
         walks: walks,
+        columns: asked as usize,
     }
 }
 

@@ -1,0 +1,60 @@
+-- `fill_only` meets its contract: the places passed tell the sole edges of their vertices. Assumes nothing.
+use Prim.Native.Nat.{_-_}
+use native.Mathlib.Omega.{arith}
+use lib.ListN.{length, length-set}
+use Rattle.search_ground.specs.Tables.{Filled, IsSole, filled-start, filled-next, soles-end}
+use Rattle.search_ground.proofs.fill_only.Statement.{statement}
+use Rattle.search_ground.proofs.fill_only.Tie as tie
+
+abbrev Inv-loop : tie.InvT-loop
+Inv-loop vertices edges m sink only₀ v₀ only v = Filled (IsSole vertices edges m sink) only₀ only v
+
+abbrev μ-loop : tie.MeasureT-loop
+μ-loop vertices edges m sink only₀ v₀ only v = length only - v
+
+loop-holds : tie.Need-loop-holds Inv-loop μ-loop
+loop-holds c = filled-start
+
+sole-out-requires : tie.Need-sole-out-requires Inv-loop μ-loop
+sole-out-requires c κs = record { linked = c .before .before .before .before .before .pre .0; v-in = (let h = c .loop-test .taken in let s = c .before .loop .inv .size in let p = c .before .before .before .before .before .pre .1 in omega arith) }
+
+cast-only : tie.Need-cast-only Inv-loop μ-loop
+cast-only c = let h = c .sole-out .ensures .known in let p = c .before .before .before .before .before .before .pre .0 .few in omega arith
+
+mul-only : tie.Need-mul-only Inv-loop μ-loop
+mul-only c = let h = c .before .loop-test .taken in let s = c .before .before .loop .inv .size in let g = c .before .before .before .before .before .before .good in omega arith
+
+slice-write-only : tie.Need-slice-write-only Inv-loop μ-loop
+slice-write-only c = c .before .loop-test .taken
+
+add-v : tie.Need-add-v Inv-loop μ-loop
+add-v c = let h = c .before .loop-test .taken in let s = c .before .before .loop .inv .size in let g = c .before .before .before .before .before .before .good in omega arith
+
+loop-less : tie.Need-loop-less Inv-loop μ-loop
+loop-less c = let h = c .before .loop-test .taken in simp length-set (omega arith)
+
+loop-again : tie.Need-loop-again Inv-loop μ-loop
+loop-again c = filled-next (c .before .before .loop .inv) (c .before .loop-test .taken) (c .sole-out .ensures)
+
+same-length : tie.Need-same-length Inv-loop μ-loop
+same-length c = c .before .loop .inv .size
+
+returns : tie.Need-returns Inv-loop μ-loop
+returns c = soles-end (c .before .loop .inv) (c .loop-test .left)
+
+pub fill-only-spec : {M : Type 1} → statement M
+fill-only-spec =
+    tie.close
+    (tie.spec
+    Inv-loop
+    μ-loop
+    loop-holds
+    sole-out-requires
+    cast-only
+    mul-only
+    slice-write-only
+    add-v
+    loop-less
+    loop-again
+    same-length
+    returns)
