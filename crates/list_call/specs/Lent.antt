@@ -1,14 +1,15 @@
 -- What the call for the list is lent: the lengths told of its workspace, and when all slices are long enough. Assumes nothing.
-use mathlib.Core.Path.{_≡_, refl, sym, _∙_}
+use mathlib.Core.Path.{_≡_, refl, sym, ap, _∙_}
 use mathlib.Core.Bool.{Bool, true, false, _&&_}
-use mathlib.Core.List.{List, [], _∷_}
+use mathlib.Core.List.{List, [], _∷_, _++_}
 use Prim.Native.Nat.{ℕ, _+_, _*_, _<_, _≤_}
 use native.Mathlib.Omega.{arith}
 use lib.Dec.{leb}
+use lib.ListN.{length}
 use borrow.Author.Tests.{leb-true, le-leb, lt-leb}
 use Rattle.laws.specs.ListLaws.{and-left, and-right}
 use Rattle.definition.specs.Limits.{GraphMaxima, SearchMaxima, Input, longEnough, basesStride, toldBases, toldOrigins, listTold}
-use Rattle.limits.specs.Workspaces.{vertexTable, edgeTable, kmerIndex, nodeTable, targetTable, pathTable, pathScores, activeNodes, waitingQueue, closedPaths, pivotalOrder, pivotalMarks, pathWalks}
+use Rattle.limits.specs.Workspaces.{vertexTable, edgeTable, kmerIndex, nodeTable, targetTable, pathTable, pathScores, activeNodes, waitingQueue, closedPaths, pivotalOrder, pivotalMarks, pathWalks, rowColumns}
 use Rattle.list_call.specs.declared.Lent as lent
 
 -- the lengths told of the workspace slices
@@ -27,6 +28,9 @@ workspaceTold asked g s =
     ∷ pivotalOrder g
     ∷ pivotalMarks g
     ∷ pathWalks asked g s
+    ∷ rowColumns asked
+    ∷ rowColumns asked
+    ∷ rowColumns asked
     ∷ []
 
 abbrev pub toldOf : Input → List ℕ
@@ -48,6 +52,9 @@ workspaceLent l =
     ∷ l .order
     ∷ l .marks
     ∷ l .walks
+    ∷ l .«row_scores»
+    ∷ l .«row_closings»
+    ∷ l .«row_edges»
     ∷ []
 
 abbrev pub lentOf : lent.Lent → List ℕ
@@ -60,6 +67,13 @@ is-short n l ns ls h = rw (lt-leb n l h)
 pub no-short : (n l : ℕ) (ns ls : List ℕ) → n ≤ l → longEnough ns ls ≡ longEnough (n ∷ ns) (l ∷ ls)
 unfolding longEnough
 no-short n l ns ls h = rw (le-leb n l h)
+
+-- where the code has computed the length told
+pub is-short-by : (n m l : ℕ) (ns ls : List ℕ) → m ≡ n → l < m → false ≡ longEnough (n ∷ ns) (l ∷ ls)
+is-short-by n m l ns ls e h = is-short n l ns ls (omega arith)
+
+pub no-short-by : (n m l : ℕ) (ns ls : List ℕ) → m ≡ n → m ≤ l → longEnough ns ls ≡ longEnough (n ∷ ns) (l ∷ ls)
+no-short-by n m l ns ls e h = no-short n l ns ls (omega arith)
 
 pub none-short : true ≡ longEnough [] []
 unfolding longEnough
@@ -88,3 +102,124 @@ pub record Long (k asked : ℕ) (g : GraphMaxima) (s : SearchMaxima) (l : lent.L
   pub order : pivotalOrder g ≤ l .order
   pub marks : pivotalMarks g ≤ l .marks
   pub walks : pathWalks asked g s ≤ l .walks
+  pub row-scores : rowColumns asked ≤ l .«row_scores»
+  pub row-closings : rowColumns asked ≤ l .«row_closings»
+  pub row-edges : rowColumns asked ≤ l .«row_edges»
+
+-- ---- the parts of the test, as the code makes them
+
+-- the output slices
+abbrev pub outputsTold : ℕ → ℕ → SearchMaxima → List ℕ
+outputsTold k asked s = asked ∷ asked * (k + s .pathEdges) ∷ asked * s .pathEdges ∷ asked * s .pathEdges ∷ []
+
+abbrev pub outputsLent : lent.Lent → List ℕ
+outputsLent l = l .rows ∷ l .bases ∷ l .sequences ∷ l .places ∷ []
+
+-- the tables of the graph
+abbrev pub graphTold : GraphMaxima → List ℕ
+graphTold g = vertexTable g ∷ edgeTable g ∷ kmerIndex g ∷ nodeTable g ∷ targetTable g ∷ []
+
+abbrev pub graphLent : lent.Lent → List ℕ
+graphLent l = l .vertices ∷ l .edges ∷ l .index ∷ l .nodes ∷ l .targets ∷ []
+
+-- the tables of the search
+abbrev pub searchTold : ℕ → GraphMaxima → SearchMaxima → List ℕ
+searchTold asked g s =
+    pathTable asked s
+    ∷ pathScores asked s
+    ∷ activeNodes asked s
+    ∷ waitingQueue s
+    ∷ closedPaths asked
+    ∷ pivotalOrder g
+    ∷ pivotalMarks g
+    ∷ pathWalks asked g s
+    ∷ rowColumns asked
+    ∷ rowColumns asked
+    ∷ rowColumns asked
+    ∷ []
+
+abbrev pub searchLent : lent.Lent → List ℕ
+searchLent l =
+    l .paths
+    ∷ l .scores
+    ∷ l .active
+    ∷ l .queue
+    ∷ l .closed
+    ∷ l .order
+    ∷ l .marks
+    ∷ l .walks
+    ∷ l .«row_scores»
+    ∷ l .«row_closings»
+    ∷ l .«row_edges»
+    ∷ []
+
+-- two parts of lists of equal lengths
+long-parts : (a b c d : List ℕ) → length a ≡ length c → longEnough (a ++ b) (c ++ d) ≡ (longEnough a c && longEnough b d)
+unfolding longEnough
+long-parts [] b [] d e = refl
+long-parts [] b (y ∷ c) d e = absurd (omega arith)
+long-parts (x ∷ a) b [] d e = absurd (omega arith)
+long-parts (x ∷ a) b (y ∷ c) d e = rw (long-parts a b c d (omega arith)) (and-assoc (leb x y) (longEnough a c) (longEnough b d))
+  where
+    and-assoc : (p q r : Bool) → (p && (q && r)) ≡ ((p && q) && r)
+    and-assoc true q r = refl
+    and-assoc false q r = refl
+
+-- what is told and lent in all, in those parts
+pub long-is : (i : Input) (l : lent.Lent)
+    → longEnough (toldOf i) (lentOf l)
+    ≡ (longEnough (outputsTold (i .sample .k) (i .asked) (i .searchMaxima)) (outputsLent l)
+    && (longEnough (graphTold (i .graphMaxima)) (graphLent l) && longEnough (searchTold (i .asked) (i .graphMaxima) (i .searchMaxima)) (searchLent l)))
+unfolding listTold toldBases toldOrigins basesStride
+long-is i l =
+    let o = outputsTold (i .sample .k) (i .asked) (i .searchMaxima) in
+    let g = graphTold (i .graphMaxima) in
+    let s = searchTold (i .asked) (i .graphMaxima) (i .searchMaxima) in
+    long-parts o (g ++ s) (outputsLent l) (graphLent l ++ searchLent l) refl
+    ∙ ap (λ (b : Bool). longEnough o (outputsLent l) && b) (long-parts g s (graphLent l) (searchLent l) refl)
+
+pub long-of : (i : Input) (l : lent.Lent) → longEnough (toldOf i) (lentOf l) ≡ true → Long (i .sample .k) (i .asked) (i .graphMaxima) (i .searchMaxima) l
+unfolding listTold toldBases toldOrigins basesStride
+long-of i l h =
+    let a1 = long-head _ _ _ _ h in
+    let a2 = long-head _ _ _ _ (a1 .1) in
+    let a3 = long-head _ _ _ _ (a2 .1) in
+    let a4 = long-head _ _ _ _ (a3 .1) in
+    let b1 = long-head _ _ _ _ (a4 .1) in
+    let b2 = long-head _ _ _ _ (b1 .1) in
+    let b3 = long-head _ _ _ _ (b2 .1) in
+    let b4 = long-head _ _ _ _ (b3 .1) in
+    let b5 = long-head _ _ _ _ (b4 .1) in
+    let c1 = long-head _ _ _ _ (b5 .1) in
+    let c2 = long-head _ _ _ _ (c1 .1) in
+    let c3 = long-head _ _ _ _ (c2 .1) in
+    let c4 = long-head _ _ _ _ (c3 .1) in
+    let c5 = long-head _ _ _ _ (c4 .1) in
+    let c6 = long-head _ _ _ _ (c5 .1) in
+    let c7 = long-head _ _ _ _ (c6 .1) in
+    let c8 = long-head _ _ _ _ (c7 .1) in
+    let d1 = long-head _ _ _ _ (c8 .1) in
+    let d2 = long-head _ _ _ _ (d1 .1) in
+    let d3 = long-head _ _ _ _ (d2 .1) in
+    record {
+      rows = a1 .0;
+      bases = a2 .0;
+      sequences = a3 .0;
+      places = a4 .0;
+      vertices = b1 .0;
+      edges = b2 .0;
+      index = b3 .0;
+      nodes = b4 .0;
+      targets = b5 .0;
+      paths = c1 .0;
+      scores = c2 .0;
+      active = c3 .0;
+      queue = c4 .0;
+      closed = c5 .0;
+      order = c6 .0;
+      marks = c7 .0;
+      walks = c8 .0;
+      row-scores = d1 .0;
+      row-closings = d2 .0;
+      row-edges = d3 .0;
+    }
