@@ -1,14 +1,17 @@
 // The call for the list, over number slices alone: checks, build, trees, search, the list in columns, and clearing.
 use limits::GraphMaxima;
+use limits::check_list;
 use limits::SearchMaxima;
 use limits::walks_told;
 ghost use mathlib.Core.Path.{_≡_};
 ghost use mathlib.Core.List.{[], _∷_};
 ghost use Prim.Native.Nat.{_≤_};
-ghost use Rattle.definition.specs.Limits.{longEnough};
+ghost use Rattle.definition.specs.Refusal.{firstBroken};
+ghost use Rattle.definition.specs.Limits.{longEnough, listRules};
 ghost use Rattle.limits.specs.Handed.{graphMaximaOf, searchMaximaOf};
 ghost use Rattle.limits.specs.Bounds.{InLimits};
-ghost use Rattle.list_call.specs.Lent.{outputsTold, outputsLent, graphTold, graphLent, searchTold, searchLent};
+ghost use Rattle.list_call.specs.Rules.{inputFor};
+ghost use Rattle.list_call.specs.Lent.{toldOf, lentOf, outputsTold, outputsLent, graphTold, graphLent, searchTold, searchLent};
 
 // What a run is asked for: k, the minimum quality, the paths asked, the threshold, recovery, and the maxima.
 #[repr(C)]
@@ -128,4 +131,48 @@ fn search_fits(asked: u32, g: GraphMaxima, s: SearchMaxima, l: Lent) -> bool
         return false;
     }
     true
+}
+
+// 1 to 7; the lengths told are known once the settings are.
+fn check(
+    a: Settings,
+    reference: &[u8],
+    ends: &[u32],
+    bases: &[u8],
+    qualities: &[u8],
+    column: &[f64],
+    l: Lent,
+) -> u32
+    ensures { λ r. ⌜ r ≡ firstBroken (listRules (inputFor a (now (reference .entry)) (now (ends .entry)) (now (bases .entry)) (now (qualities .entry)) (now (column .entry))) (toldOf (inputFor a (now (reference .entry)) (now (ends .entry)) (now (bases .entry)) (now (qualities .entry)) (now (column .entry)))) (lentOf l)) ⌝ }
+{
+    let g = a.graph;
+    let s = a.search;
+    let refusal = check_list(
+        a.k,
+        reference,
+        ends,
+        bases,
+        qualities,
+        a.asked,
+        g,
+        s,
+        column,
+        true,
+    );
+    if refusal > 0 {
+        return refusal;
+    }
+    let outputs = outputs_fit(a.k, a.asked, g, s, l);
+    if !outputs {
+        return 7;
+    }
+    let graphs = graph_fits(g, l);
+    if !graphs {
+        return 7;
+    }
+    let searches = search_fits(a.asked, g, s, l);
+    if !searches {
+        return 7;
+    }
+    0
 }
