@@ -11,6 +11,7 @@ ghost use Rattle.definition.specs.Limits.{longEnough, listRules};
 ghost use Rattle.limits.specs.Handed.{graphMaximaOf, searchMaximaOf};
 ghost use Rattle.limits.specs.Bounds.{InLimits};
 ghost use Rattle.list_call.specs.Rules.{inputFor};
+ghost use Rattle.list_call.specs.Outcome.{refusedAnswer};
 ghost use Rattle.list_call.specs.Lent.{toldOf, lentOf, outputsTold, outputsLent, graphTold, graphLent, searchTold, searchLent};
 
 // What a run is asked for: k, the minimum quality, the paths asked, the threshold, recovery, and the maxima.
@@ -175,4 +176,25 @@ fn check(
         return 7;
     }
     0
+}
+
+// The answer of the call for the list: a refusal, or how many paths are listed, the pushes made, and the waiting mark.
+#[repr(C)]
+pub struct ListAnswer {
+    pub refusal: u32,
+    pub paths: u32,
+    pub pushes: u32,
+    pub mark: u32,
+}
+
+// A refused answer holds 0 in every other field.
+fn refused(number: u32) -> ListAnswer
+    ensures { λ r. ⌜ r ≡ refusedAnswer number ⌝ }
+{
+    ListAnswer {
+        refusal: number,
+        paths: 0,
+        pushes: 0,
+        mark: 0,
+    }
 }

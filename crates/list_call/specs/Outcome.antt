@@ -1,0 +1,137 @@
+-- The answer of the call for the list in the definition's words, over columns: a row of the list stands at one place of three columns. Assumes nothing.
+use mathlib.Core.Path.{_≡_, refl, sym, ap, _∙_}
+use mathlib.Core.Bool.{Bool, true, false}
+use mathlib.Core.List.{List, [], _∷_, _++_, map}
+use Prim.Native.Nat.{ℕ, zero, suc, _+_, _*_, _<_, _≤_}
+use native.Mathlib.Omega.{arith}
+use lib.IntN.{pos}
+use lib.ListN.{length, replicate}
+use lib.Ieee.{Float, fin}
+use Rattle.laws.specs.Numbers.{within}
+use Rattle.definition.specs.Limits.{GraphMaxima, SearchMaxima, Input, basesStride}
+use Rattle.definition.specs.Threading.{Origin}
+use Rattle.definition.specs.Score.{columnScoring}
+use Rattle.definition.specs.Building.{built}
+use Rattle.definition.specs.Listing.{Row, Answer, refusal, listed, afterBuild, afterChecks, answer}
+use Rattle.definition.specs.Calls.{writtenAt, writtenRows, workspaceAfter, ListAnswer}
+use Rattle.limits.specs.Workspaces.{vertexTable, edgeTable, kmerIndex, nodeTable, targetTable, pathTable, pathScores, activeNodes, waitingQueue, closedPaths, pivotalOrder, pivotalMarks, pathWalks}
+use Rattle.list_call.specs.declared.ListAnswer as declared
+
+-- ---- the output
+
+-- columns of scores, closing numbers and edge counts, and the bases and origins beside them
+pub record Outputs : Type 0 where
+  pub scores : List Float
+  pub closings : List ℕ
+  pub edges : List ℕ
+  pub bases : List ℕ
+  pub sequences : List ℕ
+  pub places : List ℕ
+
+-- "Row r, from 0, has its bases from r times (k plus the path-edge maximum) and its origins from r times that maximum."
+unfoldable pub writtenList : Input → List (Row Float) → Outputs → Outputs
+writtenList i rs old =
+    record {
+      scores = writtenAt 0 (map (λ (r : Row Float). r .score) rs) (old .scores);
+      closings = writtenAt 0 (map (λ (r : Row Float). r .closing) rs) (old .closings);
+      edges = writtenAt 0 (map (λ (r : Row Float). r .edges) rs) (old .edges);
+      bases = writtenRows (basesStride (i .sample .k) (i .searchMaxima)) 0 (map (λ (r : Row Float). r .bases) rs) (old .bases);
+      sequences = writtenRows (i .searchMaxima .pathEdges) 0 (map (λ (r : Row Float). map (λ (o : Origin). o .sequence) (r .origins)) rs) (old .sequences);
+      places = writtenRows (i .searchMaxima .pathEdges) 0 (map (λ (r : Row Float). map (λ (o : Origin). o .place) (r .origins)) rs) (old .places);
+    }
+
+unfoldable pub outputsAfter : Input → Answer Float → Outputs → Outputs
+outputsAfter i (refusal n) old = old
+outputsAfter i (listed rs pushes longest) old = writtenList i rs old
+
+-- ---- the answer
+
+unfoldable pub summary : Answer Float → ListAnswer
+summary (refusal n) = record { refusal = n; paths = 0; pushes = 0; longest = 0 }
+summary (listed rs pushes longest) = record { refusal = 0; paths = length rs; pushes = pushes; longest = longest }
+
+-- the answer told, with the outputs before and after; the waiting mark is "no less than the longest waiting list, no more than the pushes"
+pub record Listed (i : Input) (o : Answer Float) (r : declared.ListAnswer) (old new : Outputs) : Type 0 where
+  pub refusal : r .refusal ≡ summary o .refusal
+  pub paths : r .paths ≡ summary o .paths
+  pub pushes : r .pushes ≡ summary o .pushes
+  pub mark-low : summary o .longest ≤ r .mark
+  pub mark-high : r .mark ≤ summary o .pushes
+  pub outputs : new ≡ outputsAfter i o old
+
+-- a refused answer
+abbrev pub refusedAnswer : ℕ → declared.ListAnswer
+refusedAnswer n = record { refusal = n; paths = 0; pushes = 0; mark = 0 }
+
+pub listed-refused : (i : Input) (o : Answer Float) (n : ℕ) (r : declared.ListAnswer) (old : Outputs) → o ≡ refusal n → r ≡ refusedAnswer n → Listed i o r old old
+unfolding summary outputsAfter
+listed-refused i o n r old e f =
+    rw (e, f) (record { refusal = refl; paths = refl; pushes = refl; mark-low = omega arith; mark-high = omega arith; outputs = refl })
+
+-- ---- the workspace
+
+pub record Tables : Type 0 where
+  pub vertices : List ℕ
+  pub edges : List ℕ
+  pub index : List ℕ
+  pub nodes : List ℕ
+  pub targets : List ℕ
+  pub paths : List ℕ
+  pub scores : List Float
+  pub active : List ℕ
+  pub queue : List ℕ
+  pub closed : List ℕ
+  pub order : List ℕ
+  pub marks : List ℕ
+  pub walks : List ℕ
+
+abbrev pub floatZero : Float
+floatZero = fin false 0 (pos 0)
+
+-- each slice by the length told, what it held, and how a slice of numbers and one of scores are left
+abbrev pub tablesBy : (ℕ → List ℕ → List ℕ) → (ℕ → List Float → List Float) → Input → Tables → Tables
+tablesBy f h i w =
+    record {
+      vertices = f (vertexTable (i .graphMaxima)) (w .vertices);
+      edges = f (edgeTable (i .graphMaxima)) (w .edges);
+      index = f (kmerIndex (i .graphMaxima)) (w .index);
+      nodes = f (nodeTable (i .graphMaxima)) (w .nodes);
+      targets = f (targetTable (i .graphMaxima)) (w .targets);
+      paths = f (pathTable (i .asked) (i .searchMaxima)) (w .paths);
+      scores = h (pathScores (i .asked) (i .searchMaxima)) (w .scores);
+      active = f (activeNodes (i .asked) (i .searchMaxima)) (w .active);
+      queue = f (waitingQueue (i .searchMaxima)) (w .queue);
+      closed = f (closedPaths (i .asked)) (w .closed);
+      order = f (pivotalOrder (i .graphMaxima)) (w .order);
+      marks = f (pivotalMarks (i .graphMaxima)) (w .marks);
+      walks = f (pathWalks (i .asked) (i .graphMaxima) (i .searchMaxima)) (w .walks);
+    }
+
+-- zero as far as told, and untouched beyond
+abbrev pub zeroedTo : {A : Type 0} → A → ℕ → List A → List A
+zeroedTo z n w = writtenAt 0 (replicate n z) w
+
+unfoldable pub clearedTables : Input → Tables → Tables
+clearedTables i w = tablesBy (zeroedTo 0) (zeroedTo floatZero) i w
+
+-- "Workspace after", by the number answered
+unfoldable pub tablesAfter : ℕ → Input → Tables → Tables
+tablesAfter n i w = tablesBy (workspaceAfter 0 n) (workspaceAfter floatZero n) i w
+
+-- where the number is not one of 1 to 7
+cleared-after : {A : Type 0} (z : A) (n told : ℕ) (l : List A) → within 1 7 n ≡ false → zeroedTo z told l ≡ workspaceAfter z n told l
+unfolding workspaceAfter
+cleared-after z n told l h = sym (rw (h, workspaceAfter))
+
+pub after-work : (n : ℕ) (i : Input) (w : Tables) → within 1 7 n ≡ false → clearedTables i w ≡ tablesAfter n i w
+unfolding clearedTables tablesAfter
+after-work n i w h = λ j. tablesBy (λ told l. cleared-after 0 n told l h j) (λ told l. cleared-after floatZero n told l h j) i w
+
+-- where it is
+same-after : {A : Type 0} (z : A) (n told : ℕ) (l : List A) → within 1 7 n ≡ true → l ≡ workspaceAfter z n told l
+unfolding workspaceAfter
+same-after z n told l h = sym (rw (h, workspaceAfter))
+
+pub after-checks : (n : ℕ) (i : Input) (w : Tables) → within 1 7 n ≡ true → w ≡ tablesAfter n i w
+unfolding tablesAfter
+after-checks n i w h = λ j. tablesBy (λ told l. same-after 0 n told l h j) (λ told l. same-after floatZero n told l h j) i w
