@@ -1,3 +1,4 @@
 pub mod Lent
 pub mod Rules
 pub mod Outcome
+pub mod Within

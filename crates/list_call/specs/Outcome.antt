@@ -28,6 +28,10 @@ pub record Outputs : Type 0 where
   pub sequences : List ℕ
   pub places : List ℕ
 
+abbrev pub outputsOf : List Float → List ℕ → List ℕ → List ℕ → List ℕ → List ℕ → Outputs
+outputsOf scores closings edges bases sequences places =
+    record { scores = scores; closings = closings; edges = edges; bases = bases; sequences = sequences; places = places }
+
 -- "Row r, from 0, has its bases from r times (k plus the path-edge maximum) and its origins from r times that maximum."
 unfoldable pub writtenList : Input → List (Row Float) → Outputs → Outputs
 writtenList i rs old =
@@ -45,6 +49,10 @@ outputsAfter i (refusal n) old = old
 outputsAfter i (listed rs pushes longest) old = writtenList i rs old
 
 -- ---- the answer
+
+-- what the definition answers, once nothing of 1 to 7 is broken
+abbrev pub found : Input → Answer Float
+found i = afterBuild (columnScoring (i .column)) i (built (i .sample) (i .graphMaxima))
 
 unfoldable pub summary : Answer Float → ListAnswer
 summary (refusal n) = record { refusal = n; paths = 0; pushes = 0; longest = 0 }
@@ -84,6 +92,24 @@ pub record Tables : Type 0 where
   pub order : List ℕ
   pub marks : List ℕ
   pub walks : List ℕ
+
+abbrev pub tablesOf : List ℕ → List ℕ → List ℕ → List ℕ → List ℕ → List ℕ → List Float → List ℕ → List ℕ → List ℕ → List ℕ → List ℕ → List ℕ → Tables
+tablesOf vertices edges index nodes targets paths scores active queue closed order marks walks =
+    record {
+      vertices = vertices;
+      edges = edges;
+      index = index;
+      nodes = nodes;
+      targets = targets;
+      paths = paths;
+      scores = scores;
+      active = active;
+      queue = queue;
+      closed = closed;
+      order = order;
+      marks = marks;
+      walks = walks;
+    }
 
 abbrev pub floatZero : Float
 floatZero = fin false 0 (pos 0)

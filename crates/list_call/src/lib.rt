@@ -1,7 +1,8 @@
 // The call for the list, over number slices alone: checks, build, trees, search, the list in columns, and clearing.
+use graph_rows::clear;
 use limits::GraphMaxima;
-use limits::check_list;
 use limits::SearchMaxima;
+use limits::check_list;
 use limits::walks_told;
 ghost use mathlib.Core.Path.{_≡_};
 ghost use mathlib.Core.List.{[], _∷_};
@@ -11,7 +12,10 @@ ghost use Rattle.definition.specs.Limits.{longEnough, listRules};
 ghost use Rattle.limits.specs.Handed.{graphMaximaOf, searchMaximaOf};
 ghost use Rattle.limits.specs.Bounds.{InLimits};
 ghost use Rattle.list_call.specs.Rules.{inputFor};
-ghost use Rattle.list_call.specs.Outcome.{refusedAnswer};
+ghost use lib.ListN.{length, replicate};
+ghost use Rattle.definition.specs.Calls.{writtenAt};
+ghost use Rattle.list_call.specs.Outcome.{refusedAnswer, floatZero, Listed, outputsOf, tablesOf, found};
+ghost use Rattle.list_call.specs.Within.{Works, Within, Done, Called};
 ghost use Rattle.list_call.specs.Lent.{toldOf, lentOf, outputsTold, outputsLent, graphTold, graphLent, searchTold, searchLent};
 
 // What a run is asked for: k, the minimum quality, the paths asked, the threshold, recovery, and the maxima.
@@ -197,4 +201,226 @@ fn refused(number: u32) -> ListAnswer
         pushes: 0,
         mark: 0,
     }
+}
+
+// ---- the work
+
+// The graph, its trees, the search and the list, over tables of just the lengths told, whatever they hold; the output is written once nothing can be
+// refused any more.
+fn work(
+    a: Settings,
+    reference: &[u8],
+    ends: &[u32],
+    bases: &[u8],
+    qualities: &[u8],
+    column: &[f64],
+    row_scores: &mut [f64],
+    row_closings: &mut [u32],
+    row_edges: &mut [u32],
+    out_bases: &mut [u8],
+    sequences: &mut [u32],
+    places: &mut [u32],
+    w_vertices: &mut [u32],
+    w_edges: &mut [u32],
+    w_index: &mut [u32],
+    w_nodes: &mut [u32],
+    w_targets: &mut [u32],
+    w_paths: &mut [u32],
+    w_scores: &mut [f64],
+    w_active: &mut [u32],
+    w_queue: &mut [u32],
+    w_closed: &mut [u32],
+    w_order: &mut [u32],
+    w_marks: &mut [u32],
+    w_walks: &mut [u32],
+) -> ListAnswer
+    requires { ⌜ Works (inputFor a (now reference) (now ends) (now bases) (now qualities) (now column)) (outputsOf (now «row_scores») (now «row_closings») (now «row_edges») (now «out_bases») (now sequences) (now places)) (tablesOf (now «w_vertices») (now «w_edges») (now «w_index») (now «w_nodes») (now «w_targets») (now «w_paths») (now «w_scores») (now «w_active») (now «w_queue») (now «w_closed») (now «w_order») (now «w_marks») (now «w_walks»)) ⌝ }
+    ensures { λ r. ⌜ Listed (inputFor a (now (reference .entry)) (now (ends .entry)) (now (bases .entry)) (now (qualities .entry)) (now (column .entry))) (found (inputFor a (now (reference .entry)) (now (ends .entry)) (now (bases .entry)) (now (qualities .entry)) (now (column .entry)))) r (outputsOf (now («row_scores» .entry)) (now («row_closings» .entry)) (now («row_edges» .entry)) (now («out_bases» .entry)) (now (sequences .entry)) (now (places .entry))) (outputsOf (now («row_scores» .exit)) (now («row_closings» .exit)) (now («row_edges» .exit)) (now («out_bases» .exit)) (now (sequences .exit)) (now (places .exit))) ⌝ }
+{
+    refused(8)
+}
+
+// The first n scores become 0.
+fn clear_scores(scores: &mut [f64], n: usize)
+    requires { ⌜ n ≤ length (now scores) ⌝ }
+    ensures { λ _. ⌜ now (scores .exit) ≡ writtenAt 0 (replicate n floatZero) (now (scores .entry)) ⌝ }
+{
+    let mut i: usize = 0;
+    while i < n {
+        scores[i] = 0.0;
+        i += 1;
+    }
+}
+
+// The work over just the part of each workspace slice that is told, which is zero afterwards.
+fn list_within(
+    a: Settings,
+    reference: &[u8],
+    ends: &[u32],
+    bases: &[u8],
+    qualities: &[u8],
+    column: &[f64],
+    row_scores: &mut [f64],
+    row_closings: &mut [u32],
+    row_edges: &mut [u32],
+    out_bases: &mut [u8],
+    sequences: &mut [u32],
+    places: &mut [u32],
+    w_vertices: &mut [u32],
+    w_edges: &mut [u32],
+    w_index: &mut [u32],
+    w_nodes: &mut [u32],
+    w_targets: &mut [u32],
+    w_paths: &mut [u32],
+    w_scores: &mut [f64],
+    w_active: &mut [u32],
+    w_queue: &mut [u32],
+    w_closed: &mut [u32],
+    w_order: &mut [u32],
+    w_marks: &mut [u32],
+    w_walks: &mut [u32],
+) -> ListAnswer
+    requires { ⌜ Within (inputFor a (now reference) (now ends) (now bases) (now qualities) (now column)) (outputsOf (now «row_scores») (now «row_closings») (now «row_edges») (now «out_bases») (now sequences) (now places)) (tablesOf (now «w_vertices») (now «w_edges») (now «w_index») (now «w_nodes») (now «w_targets») (now «w_paths») (now «w_scores») (now «w_active») (now «w_queue») (now «w_closed») (now «w_order») (now «w_marks») (now «w_walks»)) ⌝ }
+    ensures { λ r. ⌜ Done (inputFor a (now (reference .entry)) (now (ends .entry)) (now (bases .entry)) (now (qualities .entry)) (now (column .entry))) r (outputsOf (now («row_scores» .entry)) (now («row_closings» .entry)) (now («row_edges» .entry)) (now («out_bases» .entry)) (now (sequences .entry)) (now (places .entry))) (outputsOf (now («row_scores» .exit)) (now («row_closings» .exit)) (now («row_edges» .exit)) (now («out_bases» .exit)) (now (sequences .exit)) (now (places .exit))) (tablesOf (now («w_vertices» .entry)) (now («w_edges» .entry)) (now («w_index» .entry)) (now («w_nodes» .entry)) (now («w_targets» .entry)) (now («w_paths» .entry)) (now («w_scores» .entry)) (now («w_active» .entry)) (now («w_queue» .entry)) (now («w_closed» .entry)) (now («w_order» .entry)) (now («w_marks» .entry)) (now («w_walks» .entry))) (tablesOf (now («w_vertices» .exit)) (now («w_edges» .exit)) (now («w_index» .exit)) (now («w_nodes» .exit)) (now («w_targets» .exit)) (now («w_paths» .exit)) (now («w_scores» .exit)) (now («w_active» .exit)) (now («w_queue» .exit)) (now («w_closed» .exit)) (now («w_order» .exit)) (now («w_marks» .exit)) (now («w_walks» .exit))) ⌝ }
+{
+    let g = a.graph;
+    let s = a.search;
+    let asked = a.asked as usize;
+    let records = s.pushes as usize + asked + 8;
+    let v = g.vertices as usize * 12;
+    let e = g.edges as usize * 6;
+    let i = g.vertices as usize * 2;
+    let n = (g.nodes as usize + 1) * 5;
+    let m = g.edges as usize;
+    let p = records * 8;
+    let x = records * s.active as usize;
+    let w = s.pushes as usize;
+    let k = walks_told(a.asked, g, s);
+    let r = work(
+        a,
+        reference,
+        ends,
+        bases,
+        qualities,
+        column,
+        row_scores,
+        row_closings,
+        row_edges,
+        out_bases,
+        sequences,
+        places,
+        &mut w_vertices[..v],
+        &mut w_edges[..e],
+        &mut w_index[..i],
+        &mut w_nodes[..n],
+        &mut w_targets[..m],
+        &mut w_paths[..p],
+        &mut w_scores[..records],
+        &mut w_active[..x],
+        &mut w_queue[..w],
+        &mut w_closed[..asked],
+        &mut w_order[..m],
+        &mut w_marks[..m],
+        &mut w_walks[..k],
+    );
+    clear(w_vertices, v);
+    clear(w_edges, e);
+    clear(w_index, i);
+    clear(w_nodes, n);
+    clear(w_targets, m);
+    clear(w_paths, p);
+    clear_scores(w_scores, records);
+    clear(w_active, x);
+    clear(w_queue, w);
+    clear(w_closed, asked);
+    clear(w_order, m);
+    clear(w_marks, m);
+    clear(w_walks, k);
+    r
+}
+
+// The call for the list, with its rows in columns: refused with nothing touched, or the work; `rows` is the length of the slice of rows.
+pub fn list_columns(
+    a: Settings,
+    rows: usize,
+    reference: &[u8],
+    ends: &[u32],
+    bases: &[u8],
+    qualities: &[u8],
+    column: &[f64],
+    row_scores: &mut [f64],
+    row_closings: &mut [u32],
+    row_edges: &mut [u32],
+    out_bases: &mut [u8],
+    sequences: &mut [u32],
+    places: &mut [u32],
+    w_vertices: &mut [u32],
+    w_edges: &mut [u32],
+    w_index: &mut [u32],
+    w_nodes: &mut [u32],
+    w_targets: &mut [u32],
+    w_paths: &mut [u32],
+    w_scores: &mut [f64],
+    w_active: &mut [u32],
+    w_queue: &mut [u32],
+    w_closed: &mut [u32],
+    w_order: &mut [u32],
+    w_marks: &mut [u32],
+    w_walks: &mut [u32],
+) -> ListAnswer
+    ensures { λ r. ⌜ Called (inputFor a (now (reference .entry)) (now (ends .entry)) (now (bases .entry)) (now (qualities .entry)) (now (column .entry))) rows r (outputsOf (now («row_scores» .entry)) (now («row_closings» .entry)) (now («row_edges» .entry)) (now («out_bases» .entry)) (now (sequences .entry)) (now (places .entry))) (outputsOf (now («row_scores» .exit)) (now («row_closings» .exit)) (now («row_edges» .exit)) (now («out_bases» .exit)) (now (sequences .exit)) (now (places .exit))) (tablesOf (now («w_vertices» .entry)) (now («w_edges» .entry)) (now («w_index» .entry)) (now («w_nodes» .entry)) (now («w_targets» .entry)) (now («w_paths» .entry)) (now («w_scores» .entry)) (now («w_active» .entry)) (now («w_queue» .entry)) (now («w_closed» .entry)) (now («w_order» .entry)) (now («w_marks» .entry)) (now («w_walks» .entry))) (tablesOf (now («w_vertices» .exit)) (now («w_edges» .exit)) (now («w_index» .exit)) (now («w_nodes» .exit)) (now («w_targets» .exit)) (now («w_paths» .exit)) (now («w_scores» .exit)) (now («w_active» .exit)) (now («w_queue» .exit)) (now («w_closed» .exit)) (now («w_order» .exit)) (now («w_marks» .exit)) (now («w_walks» .exit))) ⌝ }
+{
+    let l = Lent {
+        rows: rows,
+        bases: out_bases.len(),
+        sequences: sequences.len(),
+        places: places.len(),
+        vertices: w_vertices.len(),
+        edges: w_edges.len(),
+        index: w_index.len(),
+        nodes: w_nodes.len(),
+        targets: w_targets.len(),
+        paths: w_paths.len(),
+        scores: w_scores.len(),
+        active: w_active.len(),
+        queue: w_queue.len(),
+        closed: w_closed.len(),
+        order: w_order.len(),
+        marks: w_marks.len(),
+        walks: w_walks.len(),
+        row_scores: row_scores.len(),
+        row_closings: row_closings.len(),
+        row_edges: row_edges.len(),
+    };
+    let refusal = check(a, reference, ends, bases, qualities, column, l);
+    if refusal > 0 {
+        return refused(refusal);
+    }
+    list_within(
+        a,
+        reference,
+        ends,
+        bases,
+        qualities,
+        column,
+        row_scores,
+        row_closings,
+        row_edges,
+        out_bases,
+        sequences,
+        places,
+        w_vertices,
+        w_edges,
+        w_index,
+        w_nodes,
+        w_targets,
+        w_paths,
+        w_scores,
+        w_active,
+        w_queue,
+        w_closed,
+        w_order,
+        w_marks,
+        w_walks,
+    )
 }
