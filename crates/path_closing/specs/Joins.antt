@@ -3,38 +3,37 @@ use mathlib.Core.Path.{_≡_, refl, sym, ap, subst, _∙_}
 use mathlib.Core.Logic.{_⊎_, inl, inr, _≢_}
 use mathlib.Core.Bool.{Bool, true, false, not}
 use mathlib.Core.List.{List, [], _∷_, _++_}
-use mathlib.Core.Option.{Option, none, some}
-use Prim.Native.Nat.{ℕ, zero, suc, _+_, _-_, _*_, _<_, _≤_}
+use mathlib.Core.Option.{none, some}
+use Prim.Native.Nat.{ℕ, _+_, _-_, _*_, _<_, _≤_}
 use native.Mathlib.Decide.{ℕ-discrete}
 use native.Mathlib.Omega.{arith}
 use borrow.Author.Tests.{eq-eqb, ne-eqb}
 use lib.Dec.{eqb}
 use lib.ListN.{length, getD, set, length-set}
 use lib.Seq.{getD-set-same, getD-set-other}
-use lib.Ieee.{Float, isNan}
+use lib.Ieee.{Float}
 use Rattle.laws.specs.Lists.{any}
 use Rattle.laws.specs.ListLaws.{All, nil, cons, all-append}
 use Rattle.laws.specs.Records.{field, row-step, place-row}
-use Rattle.definition.specs.Refusal.{Result, ok, refused}
-use Rattle.definition.specs.Threading.{Ends}
-use Rattle.definition.specs.Evidence.{Branches, bare, hasBranch, treeAt}
-use Rattle.definition.specs.Search.{SearchInput, Path, joinTree}
+use Rattle.definition.specs.Refusal.{ok, refused}
+use Rattle.definition.specs.Evidence.{Branches, hasBranch}
+use Rattle.definition.specs.Search.{SearchInput, joinTree}
 use Rattle.definition.proofs.Counts.{Small}
 use Rattle.threading_tree.specs.Slots.{cols, Slot}
 use Rattle.threading_tree.specs.Take.{wide-slot}
-use Rattle.threading_tree.specs.Read.{Leads, leads-has, leads-none}
+use Rattle.threading_tree.specs.Read.{leads-has}
 use Rattle.path_store.specs.declared.records.PathRecord.{PathRecord}
 use Rattle.path_store.specs.declared.growth.PathAnswer.{PathAnswer}
 use Rattle.path_store.specs.declared.growth.PathAnswer.the-variants.{Made, Refused}
 use Rattle.path_store.specs.declared.growth.Taken.{Taken}
 use Rattle.path_store.specs.Steps.{after-low}
-use Rattle.path_store.specs.Cells.{parentOf, countOf, joinedOf, treesOf, scoreOf, Inside, pathAt, putCells, put-other, put-trees, put-length}
+use Rattle.path_store.specs.Cells.{joinedOf, treesOf, scoreOf, Inside, pathAt, putCells, put-other, put-trees}
 use Rattle.path_store.specs.Path.{Table, inside, table-front}
 use Rattle.path_store.specs.Grow.{Following, joinedRow}
 use Rattle.path_store.specs.Visit.{seen, visited, seen-visited}
 use Rattle.path_store.specs.View.{viewOf, hasTree}
 use Rattle.path_store.specs.Join.{Childless, joined-same, joined-scores, join-none, join-bare, join-had, join-over, join-made}
-use Rattle.path_store.specs.Held.{Held, held-joined, following-joined, joined-view, joined-closed}
+use Rattle.path_store.specs.Held.{held-joined, following-joined, joined-view, joined-closed}
 use Rattle.path_store.specs.Held as held
 use Rattle.path_store.specs.Grow as grow
 use Rattle.fork_offers.specs.Actives.{Actives, actives-kept, actives-join, actives-many}

@@ -1,17 +1,24 @@
 // Two steps of a path that is taken, over the stores: the tree at its vertex joins it, and at the sink it may close. (Rust: junction_kbest.rs)
 use assembly::wide;
+use fork_offers::has_stopping_evidence;
 use junction_trees::root_slot;
 use path_store::growth::PathAnswer;
 use path_store::growth::Taken;
+use path_store::growth::close_path;
 use path_store::growth::join_tree;
+use path_store::pivotal::cross_off;
 use path_store::records::path_at;
 use path_store::walks::has_visited;
+use search_state::Progress;
 use search_state::Setting;
+use search_state::Step;
 use threading_tree::first_child;
 ghost use mathlib.Core.Path.{_≡_};
-ghost use Prim.Native.Nat.{ℕ, _+_, _-_, _*_, _^_, _<_, _≤_};
-ghost use lib.ListN.{length, getD, set};
+ghost use Prim.Native.Nat.{_+_, _*_, _<_};
+ghost use lib.ListN.{length, set};
 ghost use Rattle.path_closing.specs.Joins.{Joins, TreeAdded, Rootable, Rooted};
+ghost use Rattle.path_closing.specs.Shuts.{Shuts, Shutting};
+ghost use Rattle.path_closing.specs.Closes.{Closes, ClosedAt};
 
 // ---- a tree joins
 
@@ -68,4 +75,81 @@ pub fn add_junction_tree(
     };
     store_tree(active, taken.path, g.active, row.trees, s);
     PathAnswer::Made(m)
+}
+
+// ---- a path closes
+
+// A path at the sink closes where its active trees let it: with its chain it becomes the next record, whose number stands next in `shut`.
+fn shut_path(
+    nodes: &[u32],
+    paths: &mut [u32],
+    scores: &mut [f64],
+    active: &[u32],
+    shut: &mut [u32],
+    g: Setting,
+    taken: Taken,
+    p: Progress,
+) -> Step
+    requires { ⌜ Shuts g (now nodes) (now active) (now paths) (now scores) (now shut) taken p ⌝ }
+    ensures { λ r. ⌜ Shutting g (now (nodes .entry)) (now (active .entry)) (now (paths .entry)) (now (scores .entry)) (now (shut .entry)) taken p r (now (paths .exit)) (now (scores .exit)) (now (shut .exit)) ⌝ }
+{
+    let row = path_at(paths, scores, taken.path);
+    let at = wide(taken.path) * g.active;
+    let count = wide(row.trees);
+    if !has_stopping_evidence(
+        nodes,
+        g.nodes,
+        g.cap,
+        active,
+        at,
+        count,
+        g.sink,
+        g.symbolic,
+        g.least,
+    ) {
+        return Step::On(p);
+    }
+    let r = close_path(paths, scores, p.records, taken, g.most);
+    let PathAnswer::Made(n) = r else {
+        return Step::Refused(11);
+    };
+    let i = p.closed;
+    shut[i] = n;
+    Step::On(Progress {
+        records: p.records + 1,
+        waiting: p.waiting,
+        closed: p.closed + 1,
+        next: p.next,
+        pivotal: p.pivotal,
+        pushes: p.pushes,
+        mark: p.mark,
+    })
+}
+
+// At the sink a path may close, which more edges than the maximum refuse with 11; closed or not, its edges before the chain are no longer pivotal.
+pub fn close_at_sink(
+    nodes: &[u32],
+    only: &[u32],
+    to: &[u32],
+    paths: &mut [u32],
+    scores: &mut [f64],
+    active: &[u32],
+    shut: &mut [u32],
+    marks: &mut [u32],
+    g: Setting,
+    taken: Taken,
+    p: Progress,
+) -> Step
+    requires { ⌜ Closes g (now nodes) (now only) (now to) (now paths) (now scores) (now active) (now shut) (now marks) p taken ⌝ }
+    ensures { λ r. ⌜ ClosedAt g (now (nodes .entry)) (now (only .entry)) (now (to .entry)) (now (paths .entry)) (now (scores .entry)) (now (active .entry)) (now (shut .entry)) (now (marks .entry)) p taken r (now (paths .exit)) (now (scores .exit)) (now (shut .exit)) (now (marks .exit)) ⌝ }
+{
+    if taken.vertex != g.sink {
+        return Step::On(p);
+    }
+    let r = shut_path(nodes, paths, scores, active, shut, g, taken, p);
+    let Step::On(q) = r else {
+        return r;
+    };
+    cross_off(paths, scores, only, to, marks, taken.path);
+    Step::On(q)
 }

@@ -2,27 +2,26 @@
 use mathlib.Core.Path.{_≡_, refl, sym, ap, subst, _∙_}
 use mathlib.Core.Logic.{_⊎_, inl, inr, _≢_}
 use mathlib.Core.Bool.{true, false}
-use mathlib.Core.List.{List, [], _∷_, map}
-use Prim.Native.Nat.{ℕ, zero, suc, _+_, _-_, _*_, _<_, _≤_}
+use mathlib.Core.List.{List, map}
+use Prim.Native.Nat.{ℕ, suc, _<_, _≤_}
 use native.Mathlib.Omega.{arith}
 use borrow.Author.Tests.{ltb-true, ltb-false}
 use lib.Dec.{ltb}
-use lib.ListN.{length, getD, take, drop}
+use lib.ListN.{getD, take}
 use lib.Ieee.{Float, nan}
 use Rattle.laws.specs.BoolLaws.{Bool-cases}
 use Rattle.laws.specs.ListLaws.{All, nil, cons, all-mono}
 use Rattle.laws.specs.Heaps.{nth, above}
 use Rattle.definition.specs.Evidence.{Branches}
 use Rattle.definition.specs.Search.{SearchInput, State}
-use Rattle.path_store.specs.Cells.{parentOf, joinedOf, scoreOf}
+use Rattle.path_store.specs.Cells.{parentOf}
 use Rattle.path_store.specs.Join.{Childless}
 use Rattle.path_store.specs.Cross.{Distinct}
 use Rattle.path_heap.specs.First.{leads-same}
 use Rattle.path_heap.specs.Heap.{ScoreHeap, waiting, waiting-scores, waiting-all, all-waiting}
 use Rattle.search_state.specs.declared.Setting.{Setting}
 use Rattle.search_state.specs.declared.Progress.{Progress}
-use Rattle.search_state.specs.Ground.{nameOf}
-use Rattle.search_state.specs.State.{pathOf, shutOf, Records, Idle, Holds, Apart, Kept}
+use Rattle.search_state.specs.State.{pathOf, shutOf, Records, Holds, Apart, Kept}
 
 -- the same progress with n records
 abbrev pub withRecords : Progress → ℕ → Progress
