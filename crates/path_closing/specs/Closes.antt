@@ -1,0 +1,534 @@
+-- At the sink the path that was taken may close; closed or not, its edges are no longer pivotal.
+use mathlib.Core.Path.{_≡_, refl, sym, ap, subst, _∙_}
+use mathlib.Core.Logic.{_⊎_, inl, inr, _≢_}
+use mathlib.Core.Bool.{Bool, true, false}
+use mathlib.Core.List.{List, [], _∷_, _++_, map, map-append}
+use Prim.Native.Nat.{ℕ, zero, suc, _+_, _*_, _<_, _≤_}
+use native.Mathlib.Nat.{eq-or-lt-of-le}
+use native.Mathlib.Numerals.{add-one}
+use native.Mathlib.Omega.{arith}
+use borrow.Author.Tests.{eq-eqb, ne-eqb}
+use lib.Dec.{eqb}
+use lib.ListN.{length, take, drop, set, length-set}
+use lib.Seq.{getD-set-same, getD-set-other, take-suc-set}
+use lib.Ieee.{Float, nan, isNan}
+use Rattle.laws.specs.ListLaws.{All, nil, cons, all-mono, all-append}
+use Rattle.laws.specs.Records.{row-step}
+use Rattle.definition.specs.Refusal.{Result, ok, refused}
+use Rattle.definition.specs.Threading.{Ends}
+use Rattle.definition.specs.Evidence.{Branches}
+use Rattle.definition.specs.Search.{SearchInput, Path, Closed, State, closeAt, crossOff, hasStoppingEvidence}
+use Rattle.definition.specs.Search as defs
+use Rattle.definition.proofs.Counts.{Small}
+use Rattle.path_store.specs.declared.records.PathRecord.{PathRecord}
+use Rattle.path_store.specs.declared.growth.Taken.{Taken}
+use Rattle.path_store.specs.Cells.{parentOf, countOf, treesOf, scoreOf, Inside, putCells, put-at, put-trees}
+use Rattle.path_store.specs.Path.{Table, edges, table-front}
+use Rattle.path_store.specs.Push.{put-same, edges-kept}
+use Rattle.path_store.specs.Grow.{Following, closedRow}
+use Rattle.path_store.specs.Link.{Agrees}
+use Rattle.path_store.specs.View.{viewOf, closedOf}
+use Rattle.path_store.specs.Held.{Held, held-closed, pushed-view, pushed-closed, following-pushed}
+use Rattle.path_store.specs.Cross.{clears, length-clears, Distinct, crossed}
+use Rattle.path_store.specs.Recover.{edges-in}
+use Rattle.path_store.specs.Close.{close-elsewhere, close-kept, close-over, close-made}
+use Rattle.fork_offers.specs.Actives.{Actives, actives-none}
+use Rattle.search_state.specs.declared.Setting.{Setting}
+use Rattle.search_state.specs.declared.Progress.{Progress}
+use Rattle.search_state.specs.declared.Step.{Step}
+use Rattle.search_state.specs.declared.Step.the-variants.{On, Refused}
+use Rattle.search_state.specs.Ground.{nameOf, Ground}
+use Rattle.search_state.specs.State.{pathOf, shutOf, Records, Holds, Apart, Kept}
+use Rattle.search_state.specs.Keep.{withRecords, map-agree, holds-kept, apart-kept}
+use Rattle.path_closing.specs.Shuts.{withClosed, Shuts, Shut, Shutting, ShutBy}
+use Rattle.path_closing.specs.Joins.{Joined}
+
+-- ---- what the contract says
+
+-- the stores as a search f has them, with room for one record more
+pub record Closing (f : SearchInput) (g : Setting) (vs es x only to : List ℕ) (bs : ℕ → List Branches) (closing : ℕ → ℕ) (t : List ℕ) (sc : List Float) (ac queue shut order marks : List ℕ)
+    (p : Progress) (s : State Float) (taken : Taken) : Type 0 where
+  pub ground : Ground f g vs es x only to
+  pub holds : Holds f g es x only to bs closing t sc ac queue shut order marks p s
+  pub known : taken .path < p .records
+  pub following : Following only to t (taken .path) taken
+  pub apart : Apart sc queue (p .waiting) (taken .path)
+  pub more : p .closed < length shut
+  pub paths : (p .records + 1) * 8 ≤ length t
+  pub scores : p .records + 1 ≤ length sc
+  pub actives : (p .records + 1) * g .active ≤ length ac
+  pub few : p .records + 1 < 2147483648
+
+-- what the code asks: they are those of some search
+pub record Closes (g : Setting) (x only to t : List ℕ) (sc : List Float) (ac shut marks : List ℕ) (p : Progress) (taken : Taken) : Type 0 where
+  pub input : SearchInput
+  pub vertices : List ℕ
+  pub edges : List ℕ
+  pub branches : ℕ → List Branches
+  pub closings : ℕ → ℕ
+  pub queue : List ℕ
+  pub order : List ℕ
+  pub state : State Float
+  pub all : Closing input g vertices edges x only to branches closings t sc ac queue shut order marks p state taken
+
+-- the chain after the path r, as the definition has it
+abbrev pub chainAfter : SearchInput → Path Float → List Ends
+chainAfter f q = defs.chain f (defs.endFrom (f .source) (q .edges))
+
+-- the definition's `closeAt`, of the path that was taken
+abbrev pub closing : SearchInput → List ℕ → List ℕ → List ℕ → (ℕ → List Branches) → List ℕ → List Float → Taken → State Float → Result (State Float)
+closing f es only to bs t sc taken s = closeAt f (taken .vertex) (pathOf f es only to bs t sc (taken .path)) (chainAfter f (pathOf f es only to bs t sc (taken .path))) s
+
+-- the stores after the step
+pub record ClosedOn (f : SearchInput) (g : Setting) (es x only to : List ℕ) (bs : ℕ → List Branches) (t : List ℕ) (sc : List Float) (ac queue order : List ℕ) (p : Progress) (s : State Float) (taken : Taken)
+    (p′ : Progress) (t′ : List ℕ) (sc′ : List Float) (shut′ marks′ : List ℕ) : Type 0 where
+  pub branches : ℕ → List Branches
+  pub closings : ℕ → ℕ
+  pub state : State Float
+  pub is : closing f es only to bs t sc taken s ≡ ok state
+  pub holds : Holds f g es x only to branches closings t′ sc′ ac queue shut′ order marks′ p′ state
+  pub path : pathOf f es only to branches t′ sc′ (taken .path) ≡ pathOf f es only to bs t sc (taken .path)
+  pub following : Following only to t′ (taken .path) taken
+  pub apart : Apart sc′ queue (p′ .waiting) (taken .path)
+  pub known : taken .path < p′ .records
+  pub progress : (p′ ≡ p) ⊎ (p′ ≡ withClosed p)
+
+abbrev pub ClosedBy : SearchInput → Setting → List ℕ → List ℕ → List ℕ → List ℕ → (ℕ → List Branches) → List ℕ → List Float → List ℕ → List ℕ → List ℕ → Progress → State Float → Taken → Step → List ℕ → List Float → List ℕ → List ℕ → Type 0
+ClosedBy f g es x only to bs t sc ac queue order p s taken (On p′) t′ sc′ shut′ marks′ = ClosedOn f g es x only to bs t sc ac queue order p s taken p′ t′ sc′ shut′ marks′
+ClosedBy f g es x only to bs t sc ac queue order p s taken (Refused k) t′ sc′ shut′ marks′ = closing f es only to bs t sc taken s ≡ refused k
+
+-- by the answer, for every search whose stores these are
+pub record ClosedAt (g : Setting) (x only to t : List ℕ) (sc : List Float) (ac shut marks : List ℕ) (p : Progress) (taken : Taken) (r : Step) (t′ : List ℕ) (sc′ : List Float) (shut′ marks′ : List ℕ) : Type 0 where
+  pub is : (f : SearchInput) (vs es : List ℕ) (bs : ℕ → List Branches) (closings : ℕ → ℕ) (queue order : List ℕ) (s : State Float)
+      → Closing f g vs es x only to bs closings t sc ac queue shut order marks p s taken → ClosedBy f g es x only to bs t sc ac queue order p s taken r t′ sc′ shut′ marks′
+
+-- ---- the marks of a path's edges are cleared
+
+distinct-drop : (n : ℕ) (xs : List ℕ) → Distinct xs → Distinct (drop n xs)
+distinct-drop zero xs d = d
+distinct-drop (suc n) [] d = tt
+distinct-drop (suc n) (x ∷ xs) d = distinct-drop n xs (d .1)
+
+all-drop : {P : ℕ → Type 0} (n : ℕ) {xs : List ℕ} → All P xs → All P (drop n xs)
+all-drop zero a = a
+all-drop (suc n) nil = nil
+all-drop (suc n) (cons h a) = all-drop n a
+
+-- the state with these edges crossed off
+abbrev crossedState : List Ends → State Float → State Float
+crossedState ds s = record { waiting = s .waiting; closed = s .closed; pivotal = crossOff ds (s .pivotal); pushes = s .pushes; longest = s .longest }
+
+module _ (f : SearchInput) (g : Setting) (es x only to : List ℕ) (bs : ℕ → List Branches) (cl : ℕ → ℕ) (t : List ℕ) (sc : List Float) (ac queue shut order marks : List ℕ) (p : Progress) (s : State Float)
+    (H : Holds f g es x only to bs cl t sc ac queue shut order marks p s) where
+  holds-crossed : Agrees f only to (nameOf es) → (ds : List ℕ) → All (λ e. e < length to) ds
+      → Holds f g es x only to bs cl t sc ac queue shut order (clears marks ds) p (crossedState (map (nameOf es) ds) s)
+  holds-crossed A ds a =
+      record {
+        records = H .records;
+        heap = H .heap;
+        idle = H .idle;
+        once = H .once;
+        waiting = H .waiting;
+        shut-known = H .shut-known;
+        closed = H .closed;
+        shut-room = H .shut-room;
+        pivotal =
+            ap (λ (l : List Ends). crossOff (map (nameOf es) ds) l) (H .pivotal)
+            ∙ sym
+            (crossed f only to (nameOf es) A (drop (p .next) (take (p .pivotal) order)) marks ds (distinct-drop (p .next) (take (p .pivotal) order) (H .pivotal-once))
+            (all-drop (p .next) (H .pivotal-known)) (H .marks-room) a);
+        pivotal-once = H .pivotal-once;
+        pivotal-known = H .pivotal-known;
+        order-room = H .order-room;
+        marks-room = let q = length-clears marks ds in let r = H .marks-room in omega arith;
+        next-low = H .next-low;
+        pushes = H .pushes;
+        longest = H .longest;
+        mark-fits = H .mark-fits;
+        waiting-fits = H .waiting-fits;
+        pushes-fit = H .pushes-fit;
+      }
+
+-- ---- the record n closes: its number stands next among the closed
+
+-- the closing numbers with that of n
+closingWith : (ℕ → ℕ) → ℕ → ℕ → ℕ → ℕ
+closingWith cl n c q = elim (eqb q n) [ true ↦ c | false ↦ cl q ]
+
+closing-own : (cl : ℕ → ℕ) (n c : ℕ) → closingWith cl n c n ≡ c
+unfolding closingWith
+closing-own cl n c = rw (eq-eqb n n refl, closingWith)
+
+closing-other : (cl : ℕ → ℕ) (n c q : ℕ) → q ≢ n → closingWith cl n c q ≡ cl q
+unfolding closingWith
+closing-other cl n c q d = rw (ne-eqb q n d, closingWith)
+
+-- the state with a closed path more
+abbrev shutState : Closed Float → State Float → State Float
+shutState c s = record { waiting = s .waiting; closed = s .closed ++ c ∷ []; pivotal = s .pivotal; pushes = s .pushes; longest = s .longest }
+
+module _ (f : SearchInput) (g : Setting) (es x only to : List ℕ) (bs : ℕ → List Branches) (cl : ℕ → ℕ) (t : List ℕ) (sc : List Float) (ac queue shut order marks : List ℕ) (p : Progress) (s : State Float)
+    (H : Holds f g es x only to bs cl t sc ac queue shut order marks (withRecords p (p .records + 1)) s) (before : All (λ q. q < p .records) (take (p .closed) shut)) (more : p .closed < length shut) (c : ℕ) where
+  shut′ : List ℕ
+  shut′ = set shut (p .closed) (p .records)
+
+  numbers : take (p .closed + 1) shut′ ≡ take (p .closed) shut ++ p .records ∷ []
+  unfolding shut′
+  numbers = ap (λ (d : ℕ). take d (set shut (p .closed) (p .records))) (add-one (p .closed)) ∙ take-suc-set shut (p .closed) (p .records) more
+
+  earlier : map (shutOf es only to cl t sc) (take (p .closed) shut) ≡ map (shutOf es only to (closingWith cl (p .records) c) t sc) (take (p .closed) shut)
+  earlier =
+      map-agree (shutOf es only to cl t sc) (shutOf es only to (closingWith cl (p .records) c) t sc)
+      (all-mono (λ q l. ap (λ (d : ℕ). closedOf (nameOf es) only to t sc d q) (sym (closing-other cl (p .records) c q (omega arith)))) before)
+
+  both : s .closed ++ closedOf (nameOf es) only to t sc c (p .records) ∷ []
+      ≡ map (shutOf es only to (closingWith cl (p .records) c) t sc) (take (p .closed + 1) shut′)
+  both =
+      ap (λ (l : List (Closed Float)). l ++ closedOf (nameOf es) only to t sc c (p .records) ∷ []) (H .closed ∙ earlier)
+      ∙ ap (λ (d : ℕ). map (shutOf es only to (closingWith cl (p .records) c) t sc) (take (p .closed) shut) ++ closedOf (nameOf es) only to t sc d (p .records) ∷ []) (sym (closing-own cl (p .records) c))
+      ∙ sym (map-append (shutOf es only to (closingWith cl (p .records) c) t sc) (take (p .closed) shut) (p .records ∷ []))
+      ∙ ap (λ (l : List ℕ). map (shutOf es only to (closingWith cl (p .records) c) t sc) l) (sym numbers)
+
+  holds-shut : Holds f g es x only to bs (closingWith cl (p .records) c) t sc ac queue (set shut (p .closed) (p .records)) order marks (withClosed p)
+      (shutState (closedOf (nameOf es) only to t sc c (p .records)) s)
+  unfolding shut′
+  holds-shut =
+      record {
+        records = H .records;
+        heap = H .heap;
+        idle = H .idle;
+        once = H .once;
+        waiting = H .waiting;
+        shut-known = rw numbers (all-append (H .shut-known) (cons {x = p .records} (omega arith) nil));
+        closed = both;
+        shut-room = let q = length-set shut (p .closed) (p .records) in omega arith;
+        pivotal = H .pivotal;
+        pivotal-once = H .pivotal-once;
+        pivotal-known = H .pivotal-known;
+        order-room = H .order-room;
+        marks-room = H .marks-room;
+        next-low = H .next-low;
+        pushes = H .pushes;
+        longest = H .longest;
+        mark-fits = H .mark-fits;
+        waiting-fits = H .waiting-fits;
+        pushes-fit = H .pushes-fit;
+      }
+
+-- ---- the step, for a search whose stores these are
+
+-- the active trees, with none for the record n
+branchesWith : (ℕ → List Branches) → ℕ → ℕ → List Branches
+branchesWith bs n q = elim (eqb q n) [ true ↦ [] | false ↦ bs q ]
+
+branches-own : (bs : ℕ → List Branches) (n : ℕ) → branchesWith bs n n ≡ []
+unfolding branchesWith
+branches-own bs n = rw (eq-eqb n n refl, branchesWith)
+
+branches-other : (bs : ℕ → List Branches) (n q : ℕ) → q ≢ n → branchesWith bs n q ≡ bs q
+unfolding branchesWith
+branches-other bs n q d = rw (ne-eqb q n d, branchesWith)
+
+module _ (f : SearchInput) (g : Setting) (vs es x only to : List ℕ) (bs : ℕ → List Branches) (cl : ℕ → ℕ) (t : List ℕ) (sc : List Float) (ac queue shut order marks : List ℕ) (p : Progress) (s : State Float)
+    (taken : Taken) (C : Closing f g vs es x only to bs cl t sc ac queue shut order marks p s taken) where
+  abbrev n : ℕ
+  n = p .records
+
+  abbrev r : ℕ
+  r = taken .path
+
+  H : Holds f g es x only to bs cl t sc ac queue shut order marks p s
+  H = C .holds
+
+  G : Held only to (f .source) t sc n
+  G = H .records .held
+
+  A : Agrees f only to (nameOf es)
+  A = C .ground .agrees
+
+  I : Inside t sc n
+  I = let a = C .paths in let b = C .scores in record { cells = omega arith; score = omega arith }
+
+  pub closing-table : Table only to t sc (taken .path + 1)
+  closing-table = table-front only to t sc n (r + 1) (G .table) (let q = C .known in omega arith)
+
+  pub closing-shuts : Shuts g x ac t sc shut taken p
+  closing-shuts =
+      record {
+        active = record { branches = bs r; stands = H .records .actives r (C .known) };
+        room = I;
+        known = C .known;
+        more = C .more;
+        few = C .few;
+      }
+
+  pub closed-elsewhere : (taken .vertex ≡ g .sink → ⊥) → ClosedOn f g es x only to bs t sc ac queue order p s taken p t sc shut marks
+  closed-elsewhere h =
+      record {
+        branches = bs;
+        closings = cl;
+        state = s;
+        is = close-elsewhere f (nameOf es) only to A t sc n taken (G .table) (G .rooted) I (C .known) (C .following) (bs r) (taken .vertex) s (λ e. h (e ∙ C .ground .sink));
+        holds = H;
+        path = refl;
+        following = C .following;
+        apart = C .apart;
+        known = C .known;
+        progress = inl refl;
+      }
+
+  module _ (at : taken .vertex ≡ g .sink) where
+    sunk : taken .vertex ≡ f .sink
+    sunk = at ∙ sym (C .ground .sink)
+
+    own : All (λ e. e < length to) (edges only to t r)
+    own = edges-in only to t sc n (G .table) r (C .known)
+
+    pub closed-open : hasStoppingEvidence f (bs (taken .path)) ≡ false
+        → ClosedOn f g es x only to bs t sc ac queue order p s taken p t sc shut (clears marks (edges only to t (taken .path)))
+    closed-open e =
+        record {
+          branches = bs;
+          closings = cl;
+          state = crossedState (map (nameOf es) (edges only to t r)) s;
+          is = close-kept f (nameOf es) only to A t sc n taken (G .table) (G .rooted) I (C .known) (C .following) (bs r) (taken .vertex) s sunk e;
+          holds = holds-crossed f g es x only to bs cl t sc ac queue shut order marks p s H A (edges only to t r) own;
+          path = refl;
+          following = C .following;
+          apart = C .apart;
+          known = C .known;
+          progress = inl refl;
+        }
+
+    module _ (e : hasStoppingEvidence f (bs (taken .path)) ≡ true) where
+      pub closed-over : g .most < closedRow t sc taken .edges → closing f es only to bs t sc taken s ≡ refused 11
+      closed-over h =
+          close-over f (nameOf es) only to A t sc n taken (G .table) (G .rooted) I (C .known) (C .following) (bs r) (taken .vertex) s sunk e
+          (let q = C .ground .most in omega arith)
+
+      module _ (h : closedRow t sc taken .edges ≤ g .most) where
+        row : PathRecord
+        row = closedRow t sc taken
+
+        t′ : List ℕ
+        t′ = putCells t n (closedRow t sc taken)
+
+        sc′ : List Float
+        sc′ = set sc n (scoreOf sc r)
+
+        bs′ : ℕ → List Branches
+        bs′ = branchesWith bs n
+
+        kept : Kept f es only to bs t sc bs′ t′ sc′ n r
+        unfolding t′ sc′ bs′
+        kept =
+            record {
+              path = λ q l d.
+                  ap (λ (b : List Branches). viewOf f (nameOf es) only to b t′ sc′ q) (branches-other bs n q (omega arith))
+                  ∙ pushed-view only to (f .source) t sc n G I f (nameOf es) (bs q) (closedRow t sc taken) q l;
+              closed = λ c q l. pushed-closed only to (f .source) t sc n G I f (nameOf es) (closedRow t sc taken) c q l;
+              joined = λ q l d. put-same t n (closedRow t sc taken) q 6 l (omega arith);
+              parent = λ q l. put-same t n (closedRow t sc taken) q 0 l (omega arith);
+              score = λ q l. getD-set-other sc n q (scoreOf sc r) nan (omega arith);
+            }
+
+        trees-new : treesOf t′ n ≡ 0
+        unfolding t′
+        trees-new = put-trees t n (closedRow t sc taken) (I .cells)
+
+        trees-old : (q : ℕ) → q < n → treesOf t′ q ≡ treesOf t q
+        unfolding t′
+        trees-old q l = rw (put-same t n (closedRow t sc taken) q 7 l (omega arith))
+
+        count-new : countOf t′ n ≡ closedRow t sc taken .edges
+        unfolding t′
+        count-new = put-at t n (closedRow t sc taken) (I .cells) 3 (omega arith)
+
+        score-new : scoreOf sc′ n ≡ scoreOf sc r
+        unfolding sc′
+        score-new = getD-set-same sc n (scoreOf sc r) nan (I .score)
+
+        actives-new : Actives (g .cap) (g .nodes) x ac (n * g .active) (n * g .active + treesOf t′ n) (bs′ n)
+        unfolding bs′
+        actives-new =
+            let a = row-step (g .active) n (n + 1) (omega arith) in
+            let b = C .actives in
+            let z : n * g .active + treesOf t′ n ≡ n * g .active = let q = trees-new in omega arith in
+            rw (z, branches-own bs n) (actives-none (g .cap) (g .nodes) x ac (n * g .active) (omega arith) (C .ground .nodes) (C .ground .wide))
+
+        records : Records f g es x only to bs′ t′ sc′ ac (n + 1)
+        unfolding t′ sc′ bs′
+        records =
+            record {
+              held = held-closed only to (f .source) t sc n G I taken (C .known) (C .following);
+              actives = λ q l. go-actives q (eq-or-lt-of-le (omega arith));
+              trees = λ q l. go-trees q (eq-or-lt-of-le (omega arith));
+              small = λ q l. go-small q (eq-or-lt-of-le (omega arith));
+              short = λ q l. go-short q (eq-or-lt-of-le (omega arith));
+              number = λ q l. go-number q (eq-or-lt-of-le (omega arith));
+            }
+          where
+            go-actives : (q : ℕ) → (q ≡ n) ⊎ (q < n) → Actives (g .cap) (g .nodes) x ac (q * g .active) (q * g .active + treesOf t′ q) (bs′ q)
+            go-actives q (inl z) = subst (λ (d : ℕ). Actives (g .cap) (g .nodes) x ac (d * g .active) (d * g .active + treesOf t′ d) (bs′ d)) (sym z) actives-new
+            go-actives q (inr l) = rw (trees-old q l, branches-other bs n q (omega arith)) (H .records .actives q l)
+
+            go-trees : (q : ℕ) → (q ≡ n) ⊎ (q < n) → treesOf t′ q ≤ g .active
+            go-trees q (inl z) = rw z (let w = trees-new in omega arith)
+            go-trees q (inr l) = rw (trees-old q l) (H .records .trees q l)
+
+            go-small : (q : ℕ) → (q ≡ n) ⊎ (q < n) → All (Small 65535) (bs′ q)
+            go-small q (inl z) = rw (z, branches-own bs n) nil
+            go-small q (inr l) = rw (branches-other bs n q (omega arith)) (H .records .small q l)
+
+            go-short : (q : ℕ) → (q ≡ n) ⊎ (q < n) → countOf t′ q ≤ g .most
+            go-short q (inl z) = rw z (let w = count-new in omega arith)
+            go-short q (inr l) = rw (put-same t n (closedRow t sc taken) q 3 l (omega arith)) (H .records .short q l)
+
+            go-number : (q : ℕ) → (q ≡ n) ⊎ (q < n) → isNan (scoreOf sc′ q) ≡ false
+            go-number q (inl z) = rw (z, score-new) (H .records .number r (C .known))
+            go-number q (inr l) = rw (kept .score q l) (H .records .number q l)
+
+        parent-new : (q : ℕ) → n ≤ q → q < n + 1 → parentOf t′ q ≡ suc r
+        unfolding t′
+        parent-new q a b =
+            let z : q ≡ n = omega arith in
+            rw z (put-at t n (closedRow t sc taken) (I .cells) 0 (omega arith) ∙ add-one r)
+
+        held : Holds f g es x only to bs′ cl t′ sc′ ac queue shut order marks (withRecords p (n + 1)) s
+        held = holds-kept f g es x only to bs cl t sc ac queue shut order marks p s H bs′ t′ sc′ ac (n + 1) r records (omega arith) kept (C .apart) parent-new
+
+        made : ClosedOn f g es x only to bs t sc ac queue order p s taken (withClosed p) t′ sc′ (set shut (p .closed) n) (clears marks (edges only to t′ r))
+        unfolding t′ sc′ bs′
+        made =
+            let same : edges only to t′ r ≡ edges only to t r = edges-kept only to t t′ sc sc′ n (G .table) (λ a b i j. put-same t n (closedRow t sc taken) a b i (omega arith)) r (C .known) in
+            let c = suc (length (s .closed)) in
+            rw same
+            (record {
+              branches = bs′;
+              closings = closingWith cl n c;
+              state = crossedState (map (nameOf es) (edges only to t r)) (shutState (closedOf (nameOf es) only to t′ sc′ c n) s);
+              is = close-made f (nameOf es) only to A t sc n taken (G .table) (G .rooted) I (C .known) (C .following) (bs r) (taken .vertex) s sunk e (let q = C .ground .most in omega arith);
+              holds =
+                  holds-crossed f g es x only to bs′ (closingWith cl n c) t′ sc′ ac queue (set shut (p .closed) n) order marks (withClosed p) (shutState (closedOf (nameOf es) only to t′ sc′ c n) s)
+                  (holds-shut f g es x only to bs′ cl t′ sc′ ac queue shut order marks p s held (H .shut-known) (C .more) c) A (edges only to t r) own;
+              path =
+                  ap (λ (b : List Branches). viewOf f (nameOf es) only to b t′ sc′ r) (branches-other bs n r (let q = C .known in omega arith))
+                  ∙ pushed-view only to (f .source) t sc n G I f (nameOf es) (bs r) (closedRow t sc taken) r (C .known);
+              following = following-pushed only to (f .source) t sc n G I (closedRow t sc taken) taken (C .known) (C .following);
+              apart = apart-kept f g es x only to bs cl t sc ac queue shut order marks p s H bs′ t′ sc′ ac (n + 1) r records (omega arith) kept (C .apart) parent-new;
+              known = let q = C .known in omega arith;
+              progress = inr refl;
+            })
+
+        -- the tables as the code leaves them
+        module _ (p″ : Progress) (t″ : List ℕ) (sc″ : List Float) (shut″ : List ℕ) (u : Shut g t sc shut taken p p″ t″ sc″ shut″) where
+          pub shut-table : Table only to t″ sc″ (taken .path + 1)
+          unfolding t′ sc′
+          shut-table = rw (u .cells, u .scores) (table-front only to t′ sc′ (n + 1) (r + 1) (records .held .table) (let q = C .known in omega arith))
+
+          pub closed-made : (marks″ : List ℕ) → marks″ ≡ clears marks (edges only to t″ (taken .path)) → ClosedOn f g es x only to bs t sc ac queue order p s taken p″ t″ sc″ shut″ marks″
+          unfolding t′ sc′
+          closed-made marks″ z =
+              let y : marks″ ≡ clears marks (edges only to t′ r) = z ∙ ap (λ (d : List ℕ). clears marks (edges only to d r)) (u .cells) in
+              rw (u .progress, u .cells, u .scores, u .numbers, y) made
+
+-- ---- what the code asks and says, by what it has read
+
+on-on : {a b : Progress} → On a ≡ On b → a ≡ b
+on-on e = cc
+
+refused-on : {B : Type 0} {k : ℕ} {a : Progress} → Refused k ≡ On a → B
+refused-on e = let z : _≡_ {A = ℕ} 0 1 = cc in absurd (omega arith)
+
+module _ (g : Setting) (x only to t : List ℕ) (sc : List Float) (ac shut marks : List ℕ) (p : Progress) (taken : Taken) where
+  pub closed-away : (taken .vertex ≡ g .sink → ⊥) → ClosedAt g x only to t sc ac shut marks p taken (On p) t sc shut marks
+  closed-away h = record { is = λ f vs es bs cl queue order s C. closed-elsewhere f g vs es x only to bs cl t sc ac queue shut order marks p s taken C h }
+
+  pub closes-shuts : Closes g x only to t sc ac shut marks p taken → Shuts g x ac t sc shut taken p
+  closes-shuts P =
+      closing-shuts (P .input) g (P .vertices) (P .edges) x only to (P .branches) (P .closings) t sc ac (P .queue) shut (P .order) marks p (P .state) taken (P .all)
+
+  pub closes-marks : Closes g x only to t sc ac shut marks p taken → length to ≤ length marks
+  closes-marks P = P .all .holds .marks-room
+
+  module _ (at : taken .vertex ≡ g .sink) (a : Step) (t′ : List ℕ) (sc′ : List Float) (shut′ : List ℕ) (Z : Shutting g x ac t sc shut taken p a t′ sc′ shut′) where
+    module _ (f : SearchInput) (vs es : List ℕ) (bs : ℕ → List Branches) (cl : ℕ → ℕ) (queue order : List ℕ) (s : State Float) (C : Closing f g vs es x only to bs cl t sc ac queue shut order marks p s taken) where
+      evidence : Z .evidence ≡ hasStoppingEvidence f (bs (taken .path))
+      evidence = Z .stops .is f (bs (taken .path)) (C .ground .settings .symbolic) (C .ground .settings .threshold) (C .holds .records .actives (taken .path) (C .known))
+
+      refused-by : (b : Bool) (k : ℕ) → b ≡ hasStoppingEvidence f (bs (taken .path)) → ShutBy g t sc shut taken p b (Refused k) t′ sc′ shut′ → closing f es only to bs t sc taken s ≡ refused k
+      refused-by false k e u = refused-on (u .answer)
+      refused-by true k e u =
+          closed-over f g vs es x only to bs cl t sc ac queue shut order marks p s taken C at (sym e) (u .over) ∙ ap (λ (d : ℕ). refused d) (sym (u .number))
+
+      on-by : (b : Bool) (q : Progress) → b ≡ hasStoppingEvidence f (bs (taken .path)) → ShutBy g t sc shut taken p b (On q) t′ sc′ shut′ → (marks′ : List ℕ)
+          → marks′ ≡ clears marks (edges only to t′ (taken .path)) → ClosedOn f g es x only to bs t sc ac queue order p s taken q t′ sc′ shut′ marks′
+      on-by false q e u marks′ z =
+          let y : marks′ ≡ clears marks (edges only to t (taken .path)) = z ∙ ap (λ (d : List ℕ). clears marks (edges only to d (taken .path))) (u .cells) in
+          rw (on-on (u .answer), u .cells, u .scores, u .numbers, y) (closed-open f g vs es x only to bs cl t sc ac queue shut order marks p s taken C at (sym e))
+      on-by true q e u marks′ z = closed-made f g vs es x only to bs cl t sc ac queue shut order marks p s taken C at (sym e) (u .fits) q t′ sc′ shut′ u marks′ z
+
+      table-by : (b : Bool) (q : Progress) → b ≡ hasStoppingEvidence f (bs (taken .path)) → ShutBy g t sc shut taken p b (On q) t′ sc′ shut′ → Table only to t′ sc′ (taken .path + 1)
+      table-by false q e u = rw (u .cells, u .scores) (closing-table f g vs es x only to bs cl t sc ac queue shut order marks p s taken C)
+      table-by true q e u = shut-table f g vs es x only to bs cl t sc ac queue shut order marks p s taken C at (sym e) (u .fits) q t′ sc′ shut′ u
+
+    abbrev By : Step → Type 0
+    By d = ShutBy g t sc shut taken p (Z .evidence) d t′ sc′ shut′
+
+    pub closed-refused : (k : ℕ) → a ≡ Refused k → ClosedAt g x only to t sc ac shut marks p taken a t′ sc′ shut′ marks
+    closed-refused k e =
+        rw e
+        (record {
+          is = λ f vs es bs cl queue order s C.
+              refused-by f vs es bs cl queue order s C (Z .evidence) k (evidence f vs es bs cl queue order s C) (subst By e (Z .by));
+        })
+
+    module _ (q : Progress) (e : a ≡ On q) where
+      pub closed-table : Closes g x only to t sc ac shut marks p taken → Table only to t′ sc′ (taken .path + 1)
+      closed-table P =
+          table-by (P .input) (P .vertices) (P .edges) (P .branches) (P .closings) (P .queue) (P .order) (P .state) (P .all) (Z .evidence) q
+          (evidence (P .input) (P .vertices) (P .edges) (P .branches) (P .closings) (P .queue) (P .order) (P .state) (P .all)) (subst By e (Z .by))
+
+      pub closed-on : (marks′ : List ℕ) → marks′ ≡ clears marks (edges only to t′ (taken .path)) → ClosedAt g x only to t sc ac shut marks p taken (On q) t′ sc′ shut′ marks′
+      closed-on marks′ z =
+          record {
+            is = λ f vs es bs cl queue order s C.
+                on-by f vs es bs cl queue order s C (Z .evidence) q (evidence f vs es bs cl queue order s C) (subst By e (Z .by)) marks′ z;
+          }
+
+-- ---- for callers: the step comes after a tree has joined, or has not
+module _ (f : SearchInput) (g : Setting) (vs es x only to : List ℕ) (bs : ℕ → List Branches) (cl : ℕ → ℕ) (t : List ℕ) (sc : List Float) (ac queue shut order marks : List ℕ) (p : Progress) (s : State Float)
+    (taken : Taken) (H : Holds f g es x only to bs cl t sc ac queue shut order marks p s) (known : taken .path < p .records) (apart : Apart sc queue (p .waiting) (taken .path))
+    (t′ : List ℕ) (sc′ : List Float) (ac′ : List ℕ) (J : Joined f g es x only to bs t sc (p .records) taken t′ sc′ ac′) where
+  none-new : (q : ℕ) → p .records ≤ q → q < p .records → parentOf t′ q ≡ suc (taken .path)
+  none-new q a b = absurd (omega arith)
+
+  -- the state stays
+  pub joined-holds : Holds f g es x only to (J .branches) cl t′ sc′ ac′ queue shut order marks p s
+  joined-holds =
+      holds-kept f g es x only to bs cl t sc ac queue shut order marks p s H (J .branches) t′ sc′ ac′ (p .records) (taken .path) (J .records) (omega arith) (J .kept) apart none-new
+
+  pub joined-apart : Apart sc′ queue (p .waiting) (taken .path)
+  joined-apart =
+      apart-kept f g es x only to bs cl t sc ac queue shut order marks p s H (J .branches) t′ sc′ ac′ (p .records) (taken .path) (J .records) (omega arith) (J .kept) apart none-new
+
+  -- and so does the chain after the path
+  pub joined-chain : chainAfter f (pathOf f es only to (J .branches) t′ sc′ (taken .path)) ≡ chainAfter f (pathOf f es only to bs t sc (taken .path))
+  joined-chain = ap (λ (c : Closed Float). defs.chain f (defs.endFrom (f .source) (c .edges))) (J .kept .closed 0 (taken .path) known)
+
+  -- what this step asks
+  pub joined-closing : Ground f g vs es x only to → p .closed < length shut → (p .records + 1) * 8 ≤ length t′ → p .records + 1 ≤ length sc′ → (p .records + 1) * g .active ≤ length ac′
+      → p .records + 1 < 2147483648 → Closing f g vs es x only to (J .branches) cl t′ sc′ ac′ queue shut order marks p s taken
+  joined-closing G more a b c few =
+      record {
+        ground = G;
+        holds = joined-holds;
+        known = known;
+        following = J .following;
+        apart = joined-apart;
+        more = more;
+        paths = a;
+        scores = b;
+        actives = c;
+        few = few;
+      }
