@@ -1,3 +1,5 @@
 pub mod Turn
 pub mod Run
 pub mod Counts
+pub mod Answers
+pub mod Extend

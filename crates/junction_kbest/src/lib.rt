@@ -1,1 +1,82 @@
 // Best-path search over a built graph with its trees. (Rust: junction_kbest.rs)
+use path_closing::add_junction_tree;
+use path_closing::close_at_sink;
+use path_extensions::Extended;
+use path_extensions::process_vertex;
+use path_store::growth::PathAnswer;
+use path_store::growth::Taken;
+use search_state::Progress;
+use search_state::Setting;
+use search_state::Step;
+ghost use mathlib.Core.Path.{_≡_};
+ghost use Rattle.junction_kbest.specs.Extend.{ExtendsTaken, TakenExtended};
+ghost use Rattle.junction_kbest.specs.Answers.{joinRefusal, extendRefusal};
+
+fn join_refusal(a: PathAnswer) -> u32
+    ensures { λ n. ⌜ n ≡ joinRefusal a ⌝ }
+{
+    match a {
+        PathAnswer::Made(_) => 0,
+        PathAnswer::Refused(n) => n,
+    }
+}
+
+fn extend_refusal(a: Extended) -> u32
+    ensures { λ n. ⌜ n ≡ extendRefusal a ⌝ }
+{
+    match a {
+        Extended::Made(_) => 0,
+        Extended::Refused(n) => n,
+    }
+}
+
+// The taken path is extended: the tree at the end of its chain joins, then it may close, then all its extensions are made. (process_vertex)
+fn extend_taken(
+    vertices: &[u32],
+    edges: &[u32],
+    nodes: &[u32],
+    only: &[u32],
+    to: &[u32],
+    column: &[f64],
+    paths: &mut [u32],
+    scores: &mut [f64],
+    active: &mut [u32],
+    shut: &mut [u32],
+    marks: &mut [u32],
+    offers: &mut [u32],
+    g: Setting,
+    taken: Taken,
+    p: Progress,
+) -> Step
+    requires { ⌜ ExtendsTaken g (now vertices) (now edges) (now nodes) (now only) (now to) (now column) (now paths) (now scores) (now active) (now shut) (now marks) (now offers) p taken ⌝ }
+    ensures { λ r. ⌜ TakenExtended g (now (vertices .entry)) (now (edges .entry)) (now (nodes .entry)) (now (only .entry)) (now (to .entry)) (now (column .entry)) (now (paths .entry)) (now (scores .entry)) (now (active .entry)) (now (shut .entry)) (now (marks .entry)) p taken r (now (paths .exit)) (now (scores .exit)) (now (active .exit)) (now (shut .exit)) (now (marks .exit)) ⌝ }
+{
+    let a = add_junction_tree(
+        vertices, nodes, only, to, paths, scores, active, g, taken,
+    );
+    let PathAnswer::Made(_) = a else {
+        return Step::Refused(join_refusal(a));
+    };
+    let c = close_at_sink(
+        nodes, only, to, paths, scores, active, shut, marks, g, taken, p,
+    );
+    let Step::On(q) = c else {
+        return c;
+    };
+    let e = process_vertex(
+        vertices, edges, nodes, only, to, column, paths, scores, active, offers, g, taken,
+        q.records,
+    );
+    let Extended::Made(n) = e else {
+        return Step::Refused(extend_refusal(e));
+    };
+    Step::On(Progress {
+        records: n,
+        waiting: q.waiting,
+        closed: q.closed,
+        next: q.next,
+        pivotal: q.pivotal,
+        pushes: q.pushes,
+        mark: q.mark,
+    })
+}
