@@ -3,3 +3,4 @@ pub mod Run
 pub mod Counts
 pub mod Answers
 pub mod Extend
+pub mod Take
