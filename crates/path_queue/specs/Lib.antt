@@ -1,0 +1,3 @@
+pub mod Scene
+pub mod Push
+pub mod Take
