@@ -1,3 +1,4 @@
 pub mod Scene
 pub mod Push
 pub mod Take
+pub mod Begin

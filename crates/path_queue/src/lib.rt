@@ -1,12 +1,15 @@
 // The steps of the search over the queue of waiting paths: paths are pushed, the first is taken, and where none waits a pivotal edge is tried.
 use path_heap::heap_pop;
 use path_heap::heap_push;
+use path_store::growth::start_path;
+use pivotal_edges::create_pivotal_edges_in_topological_order;
 use search_state::Progress;
 use search_state::Setting;
 use search_state::Step;
 ghost use mathlib.Core.Path.{_≡_};
 ghost use Prim.Native.Nat.{ℕ, _+_, _-_, _*_, _<_, _≤_, max};
 ghost use lib.ListN.{length};
+ghost use Rattle.path_queue.specs.Begin.{MarksSet, ListsPivotal, PivotalListed, Begins, Begun};
 ghost use Rattle.path_queue.specs.Push.{Pushes, OnePushes, OnePushed, AllPushed};
 ghost use Rattle.path_queue.specs.Take.{Takes, Taken};
 
@@ -81,5 +84,76 @@ pub fn take_first(scores: &[f64], queue: &mut [u32], p: Progress) -> Taking
             pushes: p.pushes,
             mark: p.mark,
         },
+    }
+}
+
+// The first n marks become x.
+fn set_marks(marks: &mut [u32], n: usize, x: u32)
+    requires { ⌜ n ≤ length (now marks) ⌝ }
+    ensures { λ _. ⌜ MarksSet n x (now (marks .exit)) ⌝ }
+{
+    let mut i: usize = 0;
+    while i < n {
+        marks[i] = x;
+        i += 1;
+    }
+}
+
+// With recovery the pivotal edges, all of them marked as not yet visited; without it none: how many.
+fn list_pivotal(
+    vertices: &[u32],
+    edges: &[u32],
+    pivots: &mut [u32],
+    order: &mut [u32],
+    marks: &mut [u32],
+    g: Setting,
+    recovery: bool,
+) -> usize
+    requires { ⌜ ListsPivotal g (now vertices) (now edges) (now pivots) (now order) (now marks) ⌝ }
+    ensures { λ n. ⌜ PivotalListed g (now (vertices .entry)) (now (edges .entry)) (now (order .exit)) (now (marks .exit)) n recovery ⌝ }
+{
+    if !recovery {
+        return 0;
+    }
+    set_marks(marks, g.edges, 0);
+    let n = create_pivotal_edges_in_topological_order(
+        vertices,
+        edges,
+        g.edges,
+        pivots,
+        marks,
+        order,
+    );
+    set_marks(marks, g.edges, 1);
+    n
+}
+
+// The start path waits alone, and the pivotal edges are listed where recovery is asked for.
+pub fn begin(
+    vertices: &[u32],
+    edges: &[u32],
+    paths: &mut [u32],
+    scores: &mut [f64],
+    queue: &mut [u32],
+    pivots: &mut [u32],
+    order: &mut [u32],
+    marks: &mut [u32],
+    g: Setting,
+    recovery: bool,
+) -> Progress
+    requires { ⌜ Begins g (now vertices) (now edges) (now paths) (now scores) (now queue) (now pivots) (now order) (now marks) ⌝ }
+    ensures { λ r. ⌜ Begun g (now (vertices .entry)) (now (edges .entry)) (now (paths .exit)) (now (scores .exit)) (now (queue .exit)) (now (order .exit)) (now (marks .exit)) recovery r ⌝ }
+{
+    start_path(paths, scores, 0);
+    heap_push(queue, 0, scores, 0);
+    let n = list_pivotal(vertices, edges, pivots, order, marks, g, recovery);
+    Progress {
+        records: 1,
+        waiting: 1,
+        closed: 0,
+        next: 0,
+        pivotal: n,
+        pushes: 1,
+        mark: 1,
     }
 }
