@@ -1,36 +1,31 @@
 -- The start: record 0 is the start path, which waits, and the pivotal edges are listed where recovery is asked for.
 use mathlib.Core.Path.{_≡_, refl, sym, ap, _∙_}
-use mathlib.Core.Logic.{_⊎_, inl, inr, _≢_}
 use mathlib.Core.Bool.{Bool, true, false}
 use mathlib.Core.List.{List, [], _∷_, map}
-use Prim.Native.Nat.{ℕ, zero, suc, _+_, _-_, _*_, _<_, _≤_}
+use Prim.Native.Nat.{ℕ, _+_, _-_, _*_, _<_, _≤_}
 use native.Mathlib.Decide.{ℕ-discrete}
 use native.Mathlib.Omega.{arith}
 use borrow.Author.Tests.{lt-ltb}
 use lib.Dec.{ltb}
 use lib.IntN.{pos}
-use lib.ListN.{length, getD, take, drop, set, length-set}
+use lib.ListN.{length, getD, take, set, length-set}
 use lib.Seq.{getD-set-same, getD-set-other}
 use lib.Ieee.{Float, nan, fin, isNan}
-use Rattle.laws.specs.Lists.{keep}
-use Rattle.laws.specs.ListLaws.{All, nil, cons, all-mono, keep-all}
+use Rattle.laws.specs.ListLaws.{All, nil, all-mono, keep-all}
 use Rattle.laws.specs.Sorting.{insert-nil}
-use Rattle.laws.specs.Heaps.{nth}
 use Rattle.definition.specs.Threading.{Ends}
-use Rattle.definition.specs.Evidence.{Branches}
 use Rattle.definition.specs.Score.{columnScoring}
-use Rattle.definition.specs.Search.{SearchInput, Path, State, endsOf, pivotalEdges, firstState}
+use Rattle.definition.specs.Search.{SearchInput, Path, endsOf, pivotalEdges, firstState}
 use Rattle.assembly.specs.Store.{edgesOf}
 use Rattle.pivotal_edges.specs.Turns.{Pivots, Pivoted}
 use Rattle.pivotal_edges.specs.Once as once
 use Rattle.path_store.specs.Pivots as pivots
-use Rattle.path_store.specs.Cells.{parentOf, countOf, joinedOf, treesOf, scoreOf, Inside, putCells, Stored, put-at, put-trees}
+use Rattle.path_store.specs.Cells.{treesOf, scoreOf, Inside, putCells, Stored, put-at, put-trees}
 use Rattle.path_store.specs.Grow.{startRow}
 use Rattle.path_store.specs.View.{start-view}
 use Rattle.path_store.specs.Held.{held-start}
 use Rattle.path_store.specs.Cross.{unvisited, Distinct}
-use Rattle.path_heap.specs.First.{Known}
-use Rattle.path_heap.specs.Heap.{ScoreHeap, Pushable, Pushed, waiting, aheadOf, waiting-none, pushed-all}
+use Rattle.path_heap.specs.Heap.{Pushable, Pushed, waiting, aheadOf, waiting-none, pushed-all}
 use Rattle.search_state.specs.declared.Setting.{Setting}
 use Rattle.search_state.specs.declared.Progress.{Progress}
 use Rattle.search_state.specs.Ground.{nameOf, Ground}

@@ -1,20 +1,16 @@
 -- Paths that were made join those that wait, as the definition's `pushAll`: in the order of their records, as many as the maximum allows.
 use mathlib.Core.Path.{_≡_, refl, sym, ap, _∙_}
 use mathlib.Core.Logic.{_≢_}
-use mathlib.Core.Bool.{Bool, true, false}
 use mathlib.Core.List.{List, [], _∷_, map}
-use Prim.Native.Nat.{ℕ, zero, suc, _+_, _-_, _<_, _≤_, max}
+use Prim.Native.Nat.{ℕ, suc, _+_, _-_, _<_, _≤_, max}
 use native.Mathlib.Numerals.{add-one}
 use native.Mathlib.Omega.{arith}
 use borrow.Author.Tests.{lt-ltb, le-ltb}
-use lib.Dec.{ltb}
 use lib.ListN.{length, length-map}
 use lib.Ieee.{Float}
-use Rattle.laws.specs.ListLaws.{All}
 use Rattle.laws.specs.Heaps.{nth}
 use Rattle.definition.specs.Score.{columnScoring}
 use Rattle.definition.specs.Search.{Path, State, Turn, more, full, wait, push, pushAll}
-use Rattle.path_store.specs.Cross.{Distinct}
 use Rattle.path_heap.specs.First.{Known}
 use Rattle.path_heap.specs.Heap.{Pushable, Pushed, waiting, aheadOf, waiting-length, waiting-all, pushed-all}
 use Rattle.path_heap.specs.Link.{pushed-view}
@@ -22,7 +18,7 @@ use Rattle.search_state.specs.declared.Setting.{Setting}
 use Rattle.search_state.specs.declared.Progress.{Progress}
 use Rattle.search_state.specs.declared.Step.{Step}
 use Rattle.search_state.specs.declared.Step.the-variants.{On, Refused}
-use Rattle.search_state.specs.State.{Idle, Holds, upFrom}
+use Rattle.search_state.specs.State.{Idle, upFrom}
 use Rattle.path_queue.specs.Scene.{Scene, Stands, pathIn, distinct-insert}
 
 -- the records from `from` on may be pushed: nothing was made from them, and all that wait are earlier

@@ -1,13 +1,11 @@
 -- What a step of the queue neither reads nor writes, but is told by: the input of the search and the other slices.
-use mathlib.Core.Path.{_≡_, refl, sym, ap, _∙_}
+use mathlib.Core.Path.{_≡_, refl, sym}
 use mathlib.Core.Logic.{_≢_}
-use mathlib.Core.List.{List, [], _∷_, map}
-use Prim.Native.Nat.{ℕ, _+_, _<_, _≤_}
-use native.Mathlib.Omega.{arith}
+use mathlib.Core.List.{List, [], _∷_}
+use Prim.Native.Nat.{ℕ}
 use lib.Ieee.{Float}
-use Rattle.laws.specs.ListLaws.{All, nil, cons, all-mono, all-head, all-tail}
+use Rattle.laws.specs.ListLaws.{All, nil, all-mono, all-head, all-tail}
 use Rattle.laws.specs.Insertion.{insert, insert-past, insert-here, all-insert}
-use Rattle.laws.specs.BoolLaws.{Bool-cases}
 use mathlib.Core.Bool.{Bool, true, false}
 use Rattle.definition.specs.Evidence.{Branches}
 use Rattle.definition.specs.Search.{SearchInput, Path, State}

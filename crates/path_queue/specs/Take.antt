@@ -1,18 +1,16 @@
 -- The first of the waiting paths is taken.
 use mathlib.Core.Path.{_≡_, refl, sym, ap, _∙_}
-use mathlib.Core.Logic.{_≢_}
-use mathlib.Core.List.{List, [], _∷_, map}
-use Prim.Native.Nat.{ℕ, _+_, _-_, _<_, _≤_}
+use mathlib.Core.List.{List, _∷_, map}
+use Prim.Native.Nat.{ℕ, _-_, _<_}
 use native.Mathlib.Omega.{arith}
 use lib.Ieee.{Float}
-use Rattle.laws.specs.ListLaws.{All, all-mono}
-use Rattle.laws.specs.Heaps.{nth}
+use Rattle.laws.specs.ListLaws.{all-mono}
 use Rattle.definition.specs.Search.{Path, State}
 use Rattle.path_store.specs.Cross.{Distinct}
-use Rattle.path_heap.specs.Heap.{ScoreHeap, Popped, waiting, popped-first, popped-all}
+use Rattle.path_heap.specs.Heap.{Popped, waiting, popped-first, popped-all}
 use Rattle.search_state.specs.declared.Setting.{Setting}
 use Rattle.search_state.specs.declared.Progress.{Progress}
-use Rattle.search_state.specs.State.{Idle, Holds, Apart}
+use Rattle.search_state.specs.State.{Idle, Apart}
 use Rattle.path_queue.specs.declared.Taking.{Taking}
 use Rattle.path_queue.specs.Scene.{Scene, Stands, pathIn}
 

@@ -6,9 +6,7 @@ use Rattle.path_queue.proofs.begin.Lts as lts
 use Rattle.path_heap.proofs.heap_push.Reads as heap-push-reads
 use Rattle.path_queue.proofs.list_pivotal.Reads as list-pivotal-reads
 use Rattle.path_store.proofs.growth.start_path.Reads as start-path-reads
-use mathlib.Core.Path.{_≡_, refl, sym, _∙_}
 use Rattle.path_queue.specs.Begin.{begin-inside, begin-heap, begun}
-use native.Mathlib.Omega.{arith}
 
 start-path-requires : tie.Need-start-path-requires
 start-path-requires c κs = begin-inside (c .before .before .before .before .before .before .before .before .before .before .pre)

@@ -5,10 +5,8 @@ use Rattle.path_queue.proofs.list_pivotal.Reads as reads
 use Rattle.path_queue.proofs.list_pivotal.Lts as lts
 use Rattle.path_queue.proofs.set_marks.Reads as set-marks-reads
 use Rattle.pivotal_edges.proofs.create_pivotal_edges_in_topological_order.Reads as create-pivotal-edges-in-topological-order-reads
-use mathlib.Core.Path.{_≡_, refl, sym, _∙_}
 use borrow.Author.Tests.{not-true, not-false}
 use Rattle.path_queue.specs.Begin.{no-pivotal, pivotal-asks, some-pivotal}
-use native.Mathlib.Omega.{arith}
 
 returns : tie.Need-returns
 returns c = no-pivotal (c .before .before .before .before .before .before .pre) _ (not-true _ (c .if1 .taken))

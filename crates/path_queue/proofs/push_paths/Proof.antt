@@ -4,7 +4,7 @@ use Rattle.path_queue.proofs.push_paths.Reads as reads
 use Rattle.path_queue.proofs.push_paths.Lts as lts
 use Rattle.path_queue.proofs.push_path.Reads as push-path-reads
 use Prim.Native.Nat.{_-_}
-use mathlib.Core.Path.{_≡_, refl, sym, _∙_}
+use mathlib.Core.Path.{_∙_}
 use Rattle.path_queue.specs.Push.{Pushing, pushing-start, pushing-one, pushing-refused, pushing-on, pushing-end}
 use native.Mathlib.Omega.{arith}
 use borrow.Author.Needs.{needs}

@@ -3,10 +3,8 @@ use Rattle.path_queue.proofs.set_marks.Tie as tie
 use Rattle.path_queue.proofs.set_marks.Reads as reads
 use Rattle.path_queue.proofs.set_marks.Lts as lts
 use Prim.Native.Nat.{_-_}
-use lib.ListN.{length-set}
 use Rattle.path_queue.specs.Begin.{Setting-marks, marks-start, marks-next, marks-end}
 use native.Mathlib.Omega.{arith}
-use borrow.Author.Needs.{needs}
 
 abbrev Inv-loop : tie.InvT-loop
 Inv-loop marks₀ n x i₀ marks i = Setting-marks marks₀ n x marks i

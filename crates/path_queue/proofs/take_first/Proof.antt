@@ -5,7 +5,6 @@ use Rattle.path_queue.proofs.take_first.Reads as reads
 use Rattle.path_queue.proofs.take_first.Lts as lts
 use Rattle.path_heap.proofs.heap_pop.Reads as heap-pop-reads
 use Rattle.path_queue.specs.Take.{taken-first}
-use native.Mathlib.Omega.{arith}
 
 heap-pop-requires : tie.Need-heap-pop-requires
 heap-pop-requires c κs = (c .before .before .before .pre .holds .heap, c .before .before .before .pre .some)
