@@ -1,0 +1,146 @@
+-- Where a path is split, and the record that is made of its front and an edge.
+use mathlib.Core.Path.{_≡_, refl, sym, ap, _∙_}
+use mathlib.Core.Logic.{_⊎_, inl, inr}
+use mathlib.Core.List.{List}
+use Prim.Native.Nat.{ℕ, _+_, _-_, _<_, _≤_}
+use native.Mathlib.Omega.{arith}
+use lib.ListN.{length, getD, take, set}
+use lib.Seq.{sets, length-sets, getD-take}
+use lib.Ieee.{Float}
+use Rattle.laws.specs.Stores.{take-sets}
+use Rattle.path_store.specs.declared.growth.PathAnswer.{PathAnswer}
+use Rattle.path_store.specs.declared.growth.PathAnswer.the-variants as answer
+use Rattle.path_store.specs.Cells.{countOf, scoreOf, Inside, putCells}
+use Rattle.path_store.specs.Path.{Table, edges, table-front}
+use Rattle.path_store.specs.Cut.{Links, table-links, links-front}
+use Rattle.path_store.specs.Grow.{Growable, Grown, recoveredRow}
+use Rattle.path_store.specs.Held.{grown-made, grown-refused}
+use Rattle.path_store.specs.Split.{splitAt}
+use Rattle.path_store.specs.Recover.{edges-in, all-at, split-low}
+use Rattle.search_state.specs.declared.Setting.{Setting}
+use Rattle.search_state.specs.declared.Progress.{Progress}
+use Rattle.path_queue.specs.declared.Recovery.{Recovery}
+use Rattle.path_queue.specs.declared.Recovery.the-variants as recovery
+
+-- ---- where a path is split
+
+pub record Splits (only to t : List ℕ) (sc : List Float) (walk : List ℕ) (path : ℕ) : Type 0 where
+  pub table : Table only to t sc (path + 1)
+  pub room : countOf t path ≤ length walk
+
+module _ {only to t : List ℕ} {sc : List Float} {walk : List ℕ} {path : ℕ} (S : Splits only to t sc walk path) where
+  pub split-inside : Inside t sc path
+  split-inside = record { cells = omega (arith, S .table .room); score = omega (arith, S .table .scored) }
+
+  count-is : countOf t path ≡ length (edges only to t path)
+  count-is = S .table .rows path (omega arith) .count
+
+  pub split-room : 0 + countOf t path ≤ length walk
+  split-room = omega (arith, S .room)
+
+  module _ (n : ℕ) (walk′ : List ℕ) (e : n ≡ countOf t path) (w : walk′ ≡ sets walk 0 (edges only to t path)) where
+    written : take n walk′ ≡ edges only to t path
+    written = rw (e, w, count-is) (take-sets walk (edges only to t path) (omega (arith, S .room, count-is)))
+
+    size : length walk′ ≡ length walk
+    size = ap (λ (l : List ℕ). length l) w ∙ length-sets walk 0 (edges only to t path)
+
+    pub split-asks : (n ≤ length walk′) × ((i : ℕ) → i < n → getD walk′ i 0 < length to) × (length to < 4294967295)
+    split-asks = (
+      omega (arith, S .room, size),
+      (λ i h.
+          (let k = all-at (λ d. d < length to) (edges only to t path) (edges-in only to t sc (path + 1) (S .table) path (omega arith)) i (omega (arith, count-is)) in
+          let r : getD (take n walk′) i 0 ≡ getD walk′ i 0 = getD-take n walk′ i 0 h in
+          let q : getD (take n walk′) i 0 ≡ getD (edges only to t path) i 0 = ap (λ (l : List ℕ). getD l i 0) written in
+          omega arith)),
+      S .table .graph .small,
+    )
+
+    pub split-is : (v k : ℕ) → k ≡ splitAt to v (take n walk′) → k ≡ splitAt to v (edges only to t path)
+    split-is v k h = h ∙ ap (λ l. splitAt to v l) written
+
+-- ---- the path goes on by the edge e
+
+-- the record n is free, and the edge is one of the graph's
+pub record Leaves (only to t : List ℕ) (sc : List Float) (walk : List ℕ) (g : Setting) (p : Progress) (path e : ℕ) : Type 0 where
+  pub table : Table only to t sc (p .records)
+  pub known : path < p .records
+  pub short : countOf t path ≤ g .most
+  pub walk-room : g .most ≤ length walk
+  pub most-fits : g .most ≤ 4096
+  pub room : Inside t sc (p .records)
+  pub fits : p .records + 1 < 4294967296
+  pub edge : e < length to
+
+abbrev pub oneMore : Progress → Progress
+oneMore p =
+    record { records = p .records + 1; waiting = p .waiting; closed = p .closed; next = p .next; pivotal = p .pivotal; pushes = p .pushes; mark = p .mark }
+
+abbrev pub kept : List ℕ → List ℕ → List ℕ → ℕ → ℕ → ℕ
+kept only to t path v = splitAt to v (edges only to t path)
+
+-- nothing is made
+pub record Lost (t : List ℕ) (sc : List Float) (p : Progress) (t′ : List ℕ) (sc′ : List Float) (p′ : Progress) : Type 0 where
+  pub progress : p′ ≡ p
+  pub cells : t′ ≡ t
+  pub scores : sc′ ≡ sc
+
+-- the record is made of the first k edges
+pub record Recovered (to t : List ℕ) (sc : List Float) (g : Setting) (p : Progress) (path k e : ℕ) (t′ : List ℕ) (sc′ : List Float) (p′ : Progress) : Type 0 where
+  pub some : 0 < k
+  pub short : k + 1 ≤ g .most
+  pub progress : p′ ≡ oneMore p
+  pub cells : t′ ≡ putCells t (p .records) (recoveredRow t sc to path k e)
+  pub scores : sc′ ≡ set sc (p .records) (scoreOf sc path)
+
+pub record Long (g : Setting) (k n : ℕ) : Type 0 where
+  pub number : n ≡ 11
+  pub some : 0 < k
+  pub over : g .most < k + 1
+
+abbrev pub Left : List ℕ → List ℕ → List ℕ → List Float → Setting → Progress → ℕ → ℕ → ℕ → List ℕ → List Float → Recovery → Type 0
+Left only to t sc g p path v e t′ sc′ recovery.Ended = ⊥
+Left only to t sc g p path v e t′ sc′ (recovery.Made p′) =
+    ((kept only to t path v ≡ 0) × Lost t sc p t′ sc′ p′) ⊎ Recovered to t sc g p path (kept only to t path v) e t′ sc′ p′
+Left only to t sc g p path v e t′ sc′ (recovery.Refused n) = Long g (kept only to t path v) n
+
+module _ {only to t : List ℕ} {sc : List Float} {walk : List ℕ} {g : Setting} {p : Progress} {path e : ℕ} (L : Leaves only to t sc walk g p path e) where
+  pub leave-splits : Splits only to t sc walk path
+  leave-splits =
+      record {
+        table = table-front only to t sc (p .records) (path + 1) (L .table) (omega (arith, L .known));
+        room = omega (arith, L .short, L .walk-room);
+      }
+
+  module _ (v k : ℕ) (K : k ≡ kept only to t path v) where
+    pub leave-none : k ≡ 0 → Left only to t sc g p path v e t sc (recovery.Made p)
+    leave-none z = inl (sym K ∙ z, record { progress = refl; cells = refl; scores = refl })
+
+    module _ (h : k ≡ 0 → ⊥) where
+      low : k ≤ countOf t path
+      low = omega (arith, split-low to v (edges only to t path) k K (omega arith), L .table .rows path (L .known) .count)
+
+      pub leave-fits : k < 4294967296
+      leave-fits = omega (arith, low, L .short, L .most-fits)
+
+      pub leave-asks : (c : ℕ) → c ≡ k
+          → Growable t sc (p .records) path × Links t sc (path + 1) × (0 < c) × (c ≤ countOf t path) × (e < length to) × (e + 1 < 4294967296)
+      leave-asks c q =
+          (record { room = L .room; known = L .known }, links-front t sc (p .records) (path + 1) (table-links only to t sc (p .records) (L .table)) (omega (arith, L .known)), omega arith, omega (arith, low), L .edge, omega (arith, L .edge, L .table .graph .small))
+
+      module _ (c : ℕ) (q : c ≡ k) (t′ : List ℕ) (sc′ : List Float) (r : PathAnswer)
+          (G : Grown t sc (p .records) (recoveredRow t sc to path c e) (g .most) r t′ sc′) where
+        same : c ≡ kept only to t path v
+        same = q ∙ K
+
+        pub leave-over : (n : ℕ) → r ≡ answer.Refused n → Left only to t sc g p path v e t′ sc′ (recovery.Refused 11)
+        leave-over n E =
+            let R = grown-refused t sc (p .records) (recoveredRow t sc to path c e) (g .most) t′ sc′ n (rw E at G) in
+            record { number = refl; some = omega (arith, same); over = omega (arith, same, R .1) }
+
+        pub leave-made : (n : ℕ) → r ≡ answer.Made n → Left only to t sc g p path v e t′ sc′ (recovery.Made (oneMore p))
+        leave-made n E =
+            let R = grown-made t sc (p .records) (recoveredRow t sc to path c e) (g .most) t′ sc′ n (rw E at G) in
+            inr
+            (rw (← same)
+            (record { some = omega arith; short = R .1; progress = refl; cells = R .0 .cells; scores = R .0 .scores }))
