@@ -184,6 +184,7 @@ module _ {g : Setting} {vs es t : List ℕ} {sc : List Float} {queue pivots orde
                 (let z : r ≡ 0 = omega arith in
                 let e : treesOf t′ 0 ≡ 0 = rw (S .cells) (put-trees t 0 (startRow 0) (omega (arith, A .paths))) in
                 rw z (record { stand = omega arith; inside = omega arith; room = B .nodes; wide = B .wide }));
+            trees = λ r h. (let z : r ≡ 0 = omega arith in let e : treesOf t′ 0 ≡ 0 = rw (S .cells) (put-trees t 0 (startRow 0) (omega (arith, A .paths))) in rw z (omega (arith, e)));
             small = λ r h. nil;
             short = λ r h. (let z : r ≡ 0 = omega arith in rw z (omega (arith, cell 3 (omega arith))));
             number = λ r h. (let z : r ≡ 0 = omega arith in rw z score-number);

@@ -99,7 +99,7 @@ pub record Moved (p p′ : Progress) : Type 0 where
 
 abbrev pub Tried : List ℕ → List ℕ → List ℕ → List ℕ → List Float → List ℕ → List ℕ → List ℕ → Setting → Progress → List ℕ → List Float → Recovery → Type 0
 Tried es only to t sc shut order marks g p t′ sc′ recovery.Ended =
-    (A : Around) (s : State Float) → Resting A es only to t sc shut order marks g p s → s .pivotal ≡ []
+    (t′ ≡ t) × (sc′ ≡ sc) × ((A : Around) (s : State Float) → Resting A es only to t sc shut order marks g p s → s .pivotal ≡ [])
 Tried es only to t sc shut order marks g p t′ sc′ (recovery.Refused k) =
     (A : Around) (s : State Float) (column : List Float) → Resting A es only to t sc shut order marks g p s → Broken A es s column k
 Tried es only to t sc shut order marks g p t′ sc′ (recovery.Made p′) =
@@ -188,6 +188,7 @@ module _ {A : Around} {es only to t : List ℕ} {sc : List Float} {shut order ma
         record {
           held = new-held;
           actives = λ r a. go r (low-or-last r (p .records) a);
+          trees = λ r a. few r (low-or-last r (p .records) a);
           small = λ r a. all r (low-or-last r (p .records) a);
           short = λ r a. count r (low-or-last r (p .records) a);
           number = λ r a. num r (low-or-last r (p .records) a);
@@ -202,6 +203,10 @@ module _ {A : Around} {es only to t : List ℕ} {sc : List Float} {shut order ma
             rw e
             (actives-none (g .cap) (g .nodes) (A .x) (A .ac) (p .records * g .active) (p .records * g .active + treesOf new-cells (p .records)) (with-none (A .bs) (p .records) (p .records))
             (with-new (A .bs) (p .records) (p .records) refl) (omega (arith, new-trees)) row-room (R .ground .nodes) (R .ground .wide))
+
+        few : (r : ℕ) → (r < p .records) ⊎ (r ≡ p .records) → treesOf new-cells r ≤ g .active
+        few r (inl a) = omega (arith, ap (λ y. y / 2) (old-cell r 7 a (omega arith)), R .holds .records .trees r a)
+        few r (inr e) = rw e (omega (arith, new-trees))
 
         all : (r : ℕ) → (r < p .records) ⊎ (r ≡ p .records) → All (Small 65535) (with-none (A .bs) (p .records) r)
         all r (inl a) = subst (λ y. All (Small 65535) y) (sym (with-old (A .bs) (p .records) r a)) (R .holds .records .small r a)
