@@ -16,7 +16,7 @@ use Rattle.laws.specs.Records.{field}
 use Rattle.definition.specs.Threading.{Ends}
 use Rattle.definition.specs.Evidence.{Branches}
 use Rattle.definition.specs.Score.{columnScoring}
-use Rattle.definition.specs.Search.{SearchInput, Path, State, made, broken, recover}
+use Rattle.definition.specs.Search.{SearchInput, Path, State, atEnd, made, broken, recover, advance}
 use Rattle.definition.proofs.Counts.{Small}
 use Rattle.path_store.specs.Cells.{countOf, joinedOf, treesOf, scoreOf, Inside, putCells, put-at, put-other, put-trees}
 use Rattle.path_store.specs.Grow.{recoveredRow}
@@ -499,3 +499,32 @@ module _ {es only to t : List ℕ} {sc : List Float} {shut order marks walk : Li
                 lost A s column R t′ sc′ p′ (L .1) (gives-lost (next-resting R N h) column e (best - 1) (let u = q .0 in omega arith) (best-low (q .0)) (L .0)),
           )
           go (inr L) = (more-moved t′ sc′ p′ L, λ A s column R. more A s column R t′ sc′ p′ (q .0) L)
+
+-- ---- the definition's `advance`, by the answer
+
+module _ {A : Around} {es only to t : List ℕ} {sc : List Float} {shut order marks : List ℕ} {g : Setting} {p : Progress} {s : State Float}
+    (R : Resting A es only to t sc shut order marks g p s) where
+  pub nothing-waits : s .waiting ≡ []
+  nothing-waits = R .holds .waiting ∙ ap (λ q. map (pathOf (A .f) es only to (A .bs) t sc) q) (none-waiting R sc)
+
+  module _ (column : List Float) where
+    pub advance-ended : s .pivotal ≡ [] → advance (columnScoring column) (A .f) s (s .waiting) (s .pivotal) ≡ atEnd
+    unfolding advance
+    advance-ended e =
+        ap (λ (w : List (Path Float)). advance (columnScoring column) (A .f) s w (s .pivotal)) nothing-waits
+        ∙ ap (λ (l : List Ends). advance (columnScoring column) (A .f) s [] l) e
+
+    advance-next : (n : NextEdge es s)
+        → advance (columnScoring column) (A .f) s (s .waiting) (s .pivotal) ≡ recover (columnScoring column) (A .f) (nameOf es (n .edge)) (withPivotal s (n .rest))
+    unfolding advance
+    advance-next n =
+        ap (λ (w : List (Path Float)). advance (columnScoring column) (A .f) s w (s .pivotal)) nothing-waits
+        ∙ ap (λ (l : List Ends). advance (columnScoring column) (A .f) s [] l) (n .is)
+
+    pub advance-broken : (k : ℕ) → Broken A es s column k → advance (columnScoring column) (A .f) s (s .waiting) (s .pivotal) ≡ broken k
+    advance-broken k B = advance-next (B .next) ∙ B .gives
+
+    pub advance-made : (t′ : List ℕ) (sc′ : List Float) (p′ : Progress) (M : Remade A es only to shut order marks g p s column t′ sc′ p′)
+        → advance (columnScoring column) (A .f) s (s .waiting) (s .pivotal)
+        ≡ made (withPivotal s (M .next .rest)) (map (pathOf (A .f) es only to (M .bs) t′ sc′) (upFrom (p .records) (p′ .records - p .records)))
+    advance-made t′ sc′ p′ M = advance-next (M .next) ∙ M .gives
