@@ -35,9 +35,9 @@ shutOf es only to closing t sc r = closedOf (nameOf es) only to t sc (closing r)
 pub record Records (f : SearchInput) (g : Setting) (es x only to : List ℕ) (bs : ℕ → List Branches) (t : List ℕ) (sc : List Float) (ac : List ℕ) (n : ℕ) : Type 0 where
   pub held : Held only to (f .source) t sc n
   pub actives : (r : ℕ) → r < n → Actives (g .cap) (g .nodes) x ac (r * g .active) (r * g .active + treesOf t r) (bs r)
+  pub trees : (r : ℕ) → r < n → treesOf t r ≤ g .active
   pub small : (r : ℕ) → r < n → All (Small 65535) (bs r)
   pub short : (r : ℕ) → r < n → countOf t r ≤ g .most
-  pub trees : (r : ℕ) → r < n → treesOf t r ≤ g .active
   pub number : (r : ℕ) → r < n → isNan (scoreOf sc r) ≡ false
 
 -- a record that waits, or may: no tree has joined since it was made, and no path has been made from it
