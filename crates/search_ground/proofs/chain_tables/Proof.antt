@@ -1,0 +1,32 @@
+use Rattle.search_ground.specs.Tables.{tabled-of}
+use borrow.Author.Needs.{needs}
+use Rattle.search_ground.proofs.chain_tables.Statement.{statement}
+use Rattle.search_ground.proofs.chain_tables.Tie as tie
+use Rattle.search_ground.proofs.chain_tables.Reads as reads
+use Rattle.search_ground.proofs.chain_tables.Lts as lts
+use Rattle.search_ground.proofs.fill_only.Reads as fill-only-reads
+use Rattle.search_ground.proofs.fill_to.Reads as fill-to-reads
+
+-- src/lib.rt:71:5
+fill-to-requires : tie.Need-fill-to-requires
+fill-to-requires c κs = search needs
+
+-- src/lib.rt:72:5
+fill-only-requires : tie.Need-fill-only-requires
+fill-only-requires c κs = search needs
+
+-- src/lib.rt:60:1
+same-length : tie.Need-same-length
+same-length c = search needs
+
+-- src/lib.rt:60:1
+same-length-2 : tie.Need-same-length-2
+same-length-2 c = search needs
+
+-- src/lib.rt:60:1
+returns : tie.Need-returns
+returns c = tabled-of (c .before .before .before .before .before .before .before .before .before .before .before .before .pre) (c .before .before .before .before .before .before .fill-to .ensures) (c .before .before .fill-only .ensures)
+
+pub chain-tables-spec : {M : Type 1} → statement M
+chain-tables-spec =
+    tie.close (tie.spec fill-to-requires fill-only-requires same-length same-length-2 returns)

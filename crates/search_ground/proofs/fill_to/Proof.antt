@@ -1,0 +1,72 @@
+use Prim.Native.Nat.{_+_, _-_, _*_}
+use native.Mathlib.Omega.{arith}
+use lib.ListN.{length, length-set}
+use Rattle.search_ground.specs.Tables.{Filled, IsTarget, filled-start, filled-next, targets-end}
+use Rattle.search_ground.proofs.fill_to.Statement.{statement}
+use Rattle.search_ground.proofs.fill_to.Tie as tie
+use Rattle.search_ground.proofs.fill_to.Reads as reads
+use Rattle.search_ground.proofs.fill_to.Lts as lts
+use Rattle.assembly.proofs.edge_to.Reads as edge-to-reads
+
+abbrev Inv-loop : tie.InvT-loop
+Inv-loop edges to₀ e₀ to e = Filled (IsTarget edges) to₀ to e
+
+abbrev μ-loop : tie.MeasureT-loop
+μ-loop edges to₀ e₀ to e = length to - e
+
+-- src/lib.rt:40:5
+loop-holds : tie.Need-loop-holds Inv-loop μ-loop
+loop-holds c = filled-start
+
+-- src/lib.rt:41:17
+edge-to-requires : tie.Need-edge-to-requires Inv-loop μ-loop
+edge-to-requires c κs = let h = c .loop-test .taken in let s = c .before .loop .inv .size in let p = c .before .before .before .before .pre in omega arith
+
+-- src/lib.rt:41:17
+cast-to : tie.Need-cast-to Inv-loop μ-loop
+cast-to c = let h = c .before .before .before .before .shared-slice-known .given (c .before .before .loop .e * 6 + 1) in let q = c .edge-to .ensures in omega arith
+
+-- src/lib.rt:41:9
+mul-to : tie.Need-mul-to Inv-loop μ-loop
+mul-to c = let h = c .before .loop-test .taken in let s = c .before .before .loop .inv .size in let g = c .before .before .before .before .before .good in omega arith
+
+-- src/lib.rt:41:9
+slice-write-to : tie.Need-slice-write-to Inv-loop μ-loop
+slice-write-to c = c .before .loop-test .taken
+
+-- src/lib.rt:42:9
+add-e : tie.Need-add-e Inv-loop μ-loop
+add-e c = let h = c .before .loop-test .taken in let s = c .before .before .loop .inv .size in let g = c .before .before .before .before .before .good in omega arith
+
+-- src/lib.rt:40:5
+loop-less : tie.Need-loop-less Inv-loop μ-loop
+loop-less c = let h = c .before .loop-test .taken in simp length-set (omega arith)
+
+-- src/lib.rt:40:5
+loop-again : tie.Need-loop-again Inv-loop μ-loop
+loop-again c = filled-next (c .before .before .loop .inv) (c .before .loop-test .taken) (c .edge-to .ensures)
+
+-- src/lib.rt:35:1
+same-length : tie.Need-same-length Inv-loop μ-loop
+same-length c = c .before .loop .inv .size
+
+-- src/lib.rt:35:1
+returns : tie.Need-returns Inv-loop μ-loop
+returns c = targets-end (c .before .loop .inv) (c .loop-test .left)
+
+pub fill-to-spec : {M : Type 1} → statement M
+fill-to-spec =
+    tie.close
+    (tie.spec
+    Inv-loop
+    μ-loop
+    loop-holds
+    edge-to-requires
+    cast-to
+    mul-to
+    slice-write-to
+    add-e
+    loop-less
+    loop-again
+    same-length
+    returns)

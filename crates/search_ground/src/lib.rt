@@ -1,0 +1,73 @@
+// What the search stands on. Where a vertex has no tree, is not the sink and one edge leaves it, a path goes on without a decision: the two tables here
+// tell that edge, and where an edge leads.
+use assembly::edge_to;
+use assembly::next_out;
+use junction_trees::root_slot;
+ghost use mathlib.Core.Path.{_≡_};
+ghost use Prim.Native.Nat.{_*_, _≤_};
+ghost use lib.ListN.{length};
+ghost use Rattle.pivotal_edges.specs.Walk.{Here, Linked};
+ghost use Rattle.search_ground.specs.Tables.{Sole, Targets, Soles, Tables, Tabled};
+
+// The only edge that leaves v, its number plus 1, where v has no tree and is not the sink; else 0.
+fn sole_out(vertices: &[u32], edges: &[u32], m: usize, sink: usize, v: usize) -> usize
+    requires { ⌜ Here (now vertices) (now edges) m v ⌝ }
+    ensures { λ r. ⌜ Sole (now (vertices .entry)) (now (edges .entry)) m sink v r ⌝ }
+{
+    if v == sink {
+        return 0;
+    }
+    if root_slot(vertices, v) != 0 {
+        return 0;
+    }
+    let r = next_out(vertices, edges, v, 0);
+    if r == 0 {
+        return 0;
+    }
+    let s = next_out(vertices, edges, v, edge_to(edges, r - 1) + 1);
+    if s == 0 {
+        return r;
+    }
+    0
+}
+
+// `to` tells the target of each edge that it has a place for.
+fn fill_to(edges: &[u32], to: &mut [u32])
+    requires { ⌜ length (now to) * 6 ≤ length (now edges) ⌝ }
+    ensures { λ _. ⌜ Targets (now (edges .entry)) (now (to .entry)) (now (to .exit)) ⌝ }
+{
+    let mut e: usize = 0;
+    while e < to.len() {
+        to[e] = edge_to(edges, e) as u32;
+        e += 1;
+    }
+}
+
+// `only` tells the sole edge of each vertex that it has a place for.
+fn fill_only(vertices: &[u32], edges: &[u32], m: usize, sink: usize, only: &mut [u32])
+    requires { ⌜ Linked (now vertices) (now edges) m × (length (now only) * 12 ≤ length (now vertices)) ⌝ }
+    ensures { λ _. ⌜ Soles (now (vertices .entry)) (now (edges .entry)) m sink (now (only .entry)) (now (only .exit)) ⌝ }
+{
+    let mut v: usize = 0;
+    while v < only.len() {
+        only[v] = sole_out(vertices, edges, m, sink, v) as u32;
+        v += 1;
+    }
+}
+
+// Both tables, over the graph whose m edges, the symbolic one too, are linked. (Rust: the walk to the next vertex with a tree or a fork, in
+// find_junction_best_haplotypes)
+pub fn chain_tables(
+    vertices: &[u32],
+    edges: &[u32],
+    m: usize,
+    sink: usize,
+    only: &mut [u32],
+    to: &mut [u32],
+)
+    requires { ⌜ Tables (now vertices) (now edges) m (now only) (now to) ⌝ }
+    ensures { λ _. ⌜ Tabled (now (vertices .entry)) (now (edges .entry)) m sink (now (only .exit)) (now (to .exit)) ⌝ }
+{
+    fill_to(edges, to);
+    fill_only(vertices, edges, m, sink, only);
+}
