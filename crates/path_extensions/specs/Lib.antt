@@ -1,2 +1,4 @@
 pub mod Made
 pub mod One
+pub mod Offer
+pub mod Each
