@@ -209,8 +209,8 @@ module _ {g : Setting} {vs es x only to : List ℕ} {column : List Float} {t₀ 
             so-far .left
             ∙ ap
             (λ (is : List ℕ).
-                rest (extend (columnScoring column) f (pathOf f es only to bs t₀ sc₀ (taken .path)) (chainOf f (pathOf f es only to bs t₀ sc₀ (taken .path)))) (repeatRule f) (map (offerAt es out) is)
-                (so-far .done))
+            rest (extend (columnScoring column) f (pathOf f es only to bs t₀ sc₀ (taken .path)) (chainOf f (pathOf f es only to bs t₀ sc₀ (taken .path)))) (repeatRule f) (map (offerAt es out) is)
+            (so-far .done))
             (up-head row k l)
 
       pub trying-asks : OfferStands g vs es x only to column t sc ac out made taken row

@@ -228,8 +228,8 @@ module _ {g : Setting} {vs es x only to : List ℕ} {column : List Float} {t : L
             }
 
     module _ {b : Bool} (hb : b ≡ keeps only to 0 t′ n) where
-      pub tried-kept : b ≡ true → Gives g vs es x only to t sc ac n taken 1 (tried column es out row) r t′ sc′ ac′
-      tried-kept h = rw e (record { is = λ f bs H. kept-run f bs H hb h })
+      pub tried-kept : b ≡ true → Gives g vs es x only to t sc ac n taken 1 (tried column es out row) (Made m) t′ sc′ ac′
+      tried-kept h = record { is = λ f bs H. kept-run f bs H hb h }
 
       pub tried-lost : b ≡ false → Gives g vs es x only to t sc ac n taken 1 (tried column es out row) (Made n) t′ sc′ ac′
       tried-lost h = record { is = λ f bs H. lost-run f bs H hb h }

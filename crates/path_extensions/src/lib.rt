@@ -1,16 +1,23 @@
 // The paths that a taken path is extended to, all made before any is pushed. (Rust: process_vertex, junction_kbest.rs)
 use fork_offers::walk_trees;
+use kbest_haplotype::Penalty;
+use kbest_haplotype::log_penalty;
 use path_store::chains::wide;
 use path_store::growth::Extension;
 use path_store::growth::PathAnswer;
 use path_store::growth::Taken;
 use path_store::growth::extend_path;
 use path_store::records::path_at;
+use path_store::walks::repeat_rule;
 use search_state::Setting;
 ghost use mathlib.Core.Path.{_≡_};
 ghost use Prim.Native.Nat.{ℕ, _+_, _*_, _<_, _≤_};
 ghost use lib.ListN.{length, getD};
 ghost use Rattle.laws.specs.Records.{field};
+ghost use Rattle.kbest_haplotype.specs.Penalties.{penaltyOf};
+ghost use Rattle.path_store.specs.Cells.{scoreOf};
+ghost use Rattle.path_extensions.specs.Offer.{offerScore, OfferStands, offered, tried};
+ghost use Rattle.path_extensions.specs.Each.{OffersStand, allTried};
 ghost use Rattle.path_extensions.specs.One.{decisions, Lengthens, lengthened, Gives};
 
 // The number of the next free record once the extensions are made, or a refusal.
@@ -100,4 +107,155 @@ fn extend_with_edges(
         return Extended::Refused(11);
     };
     Extended::Made(m + 1)
+}
+
+// The score of the path with the penalty of the offer in a row, if its counts have a place in the column.
+fn offer_score(column: &[f64], scores: &[f64], offers: &[u32], path: u32, row: usize) -> Penalty
+    requires { ⌜ (path < length (now scores)) × (row * 4 + 4 ≤ length (now offers)) ⌝ }
+    ensures { λ r. ⌜ penaltyOf r ≡ offerScore (now (column .entry)) (now (offers .entry)) row (scoreOf (now (scores .entry)) path) ⌝ }
+{
+    let p = log_penalty(column, offers[row * 4 + 1], offers[row * 4 + 2]);
+    let Penalty::Of(penalty) = p else {
+        return Penalty::NoPlace;
+    };
+    Penalty::Of(scores[wide(path)] + penalty)
+}
+
+// The extension by the offer in a row. A count or a total without a place in the column is 10, which comes before 11.
+fn extend_by_offer(
+    vertices: &[u32],
+    edges: &[u32],
+    nodes: &[u32],
+    only: &[u32],
+    to: &[u32],
+    column: &[f64],
+    paths: &mut [u32],
+    scores: &mut [f64],
+    active: &mut [u32],
+    offers: &[u32],
+    g: Setting,
+    taken: Taken,
+    n: u32,
+    row: usize,
+) -> Extended
+    requires { ⌜ OfferStands g (now vertices) (now edges) (now nodes) (now only) (now to) (now column) (now paths) (now scores) (now active) (now offers) n taken row ⌝ }
+    ensures { λ r. ⌜ Gives g (now (vertices .entry)) (now (edges .entry)) (now (nodes .entry)) (now (only .entry)) (now (to .entry)) (now (paths .entry)) (now (scores .entry)) (now (active .entry)) n taken 1 (offered (now (column .entry)) (now (edges .entry)) (now (offers .entry)) row) r (now (paths .exit)) (now (scores .exit)) (now (active .exit)) ⌝ }
+{
+    let p = offer_score(column, scores, offers, taken.path, row);
+    let Penalty::Of(score) = p else {
+        return Extended::Refused(10);
+    };
+    let way = Way {
+        edge: offers[row * 4 + 0],
+        score: score,
+        guided: offers[row * 4 + 3] != 0,
+        free: false,
+    };
+    extend_with_edges(
+        vertices,
+        edges,
+        nodes,
+        only,
+        to,
+        paths,
+        scores,
+        active,
+        g,
+        taken,
+        n,
+        way,
+    )
+}
+
+// The same, but an extension that the repeat rule does not keep is given up: the next one takes its number.
+fn try_offer(
+    vertices: &[u32],
+    edges: &[u32],
+    nodes: &[u32],
+    only: &[u32],
+    to: &[u32],
+    column: &[f64],
+    paths: &mut [u32],
+    scores: &mut [f64],
+    active: &mut [u32],
+    offers: &[u32],
+    g: Setting,
+    taken: Taken,
+    n: u32,
+    row: usize,
+) -> Extended
+    requires { ⌜ OfferStands g (now vertices) (now edges) (now nodes) (now only) (now to) (now column) (now paths) (now scores) (now active) (now offers) n taken row ⌝ }
+    ensures { λ r. ⌜ Gives g (now (vertices .entry)) (now (edges .entry)) (now (nodes .entry)) (now (only .entry)) (now (to .entry)) (now (paths .entry)) (now (scores .entry)) (now (active .entry)) n taken 1 (tried (now (column .entry)) (now (edges .entry)) (now (offers .entry)) row) r (now (paths .exit)) (now (scores .exit)) (now (active .exit)) ⌝ }
+{
+    let step = extend_by_offer(
+        vertices,
+        edges,
+        nodes,
+        only,
+        to,
+        column,
+        paths,
+        scores,
+        active,
+        offers,
+        g,
+        taken,
+        n,
+        row,
+    );
+    let Extended::Made(m) = step else {
+        return step;
+    };
+    if repeat_rule(paths, scores, only, to, 0, n) {
+        return step;
+    }
+    Extended::Made(n)
+}
+
+// The extensions by the offers of the first `rows` rows, as records from n on.
+fn extend_by_offers(
+    vertices: &[u32],
+    edges: &[u32],
+    nodes: &[u32],
+    only: &[u32],
+    to: &[u32],
+    column: &[f64],
+    paths: &mut [u32],
+    scores: &mut [f64],
+    active: &mut [u32],
+    offers: &[u32],
+    g: Setting,
+    taken: Taken,
+    n: u32,
+    rows: usize,
+) -> Extended
+    requires { ⌜ OffersStand g (now vertices) (now edges) (now nodes) (now only) (now to) (now column) (now paths) (now scores) (now active) (now offers) n taken rows ⌝ }
+    ensures { λ r. ⌜ Gives g (now (vertices .entry)) (now (edges .entry)) (now (nodes .entry)) (now (only .entry)) (now (to .entry)) (now (paths .entry)) (now (scores .entry)) (now (active .entry)) n taken 6 (allTried (now (column .entry)) (now (edges .entry)) (now (offers .entry)) rows) r (now (paths .exit)) (now (scores .exit)) (now (active .exit)) ⌝ }
+{
+    let mut next = n;
+    let mut row: usize = 0;
+    while row < rows {
+        let step = try_offer(
+            vertices,
+            edges,
+            nodes,
+            only,
+            to,
+            column,
+            paths,
+            scores,
+            active,
+            offers,
+            g,
+            taken,
+            next,
+            row,
+        );
+        let Extended::Made(m) = step else {
+            return step;
+        };
+        next = m;
+        row += 1;
+    }
+    Extended::Made(next)
 }
