@@ -44,8 +44,8 @@ rooms-place g t sc ac n R t′ sc′ ac′ m a b c h =
     let z : (m + 1) * g .active ≤ (n + 8) * g .active = mul-le-mul-right (g .active) h in
     record { paths = omega arith; scores = omega arith; actives = omega arith; number = omega arith }
 
-pub record OffersStand (g : Setting) (vs es x only to : List ℕ) (column : List Float) (t : List ℕ) (sc : List Float) (ac out : List ℕ) (n : ℕ) (taken : Taken) (k : ℕ) : Type 0 where
-  pub stands : Stands g vs es x only to t sc ac n taken
+pub record OffersStand (g : Setting) (es x only to : List ℕ) (column : List Float) (t : List ℕ) (sc : List Float) (ac out : List ℕ) (n : ℕ) (taken : Taken) (k : ℕ) : Type 0 where
+  pub stands : Stands g es x only to t sc ac n taken
   pub rooms : Rooms g t sc ac n
   pub fits : columnFits column ≡ true
   pub few : k ≤ 6
@@ -134,17 +134,17 @@ pub record Tried (g : Setting) (es x only to : List ℕ) (column : List Float) (
       ≡ rest (extend (columnScoring column) f (pathOf f es only to bs t₀ sc₀ (taken .path)) (chainOf f (pathOf f es only to bs t₀ sc₀ (taken .path)))) (repeatRule f)
       (map (offerAt es out) (upFrom row (k - row))) done
 
-pub record Trying (g : Setting) (vs es x only to : List ℕ) (column : List Float) (t₀ : List ℕ) (sc₀ : List Float) (ac₀ out : List ℕ) (n : ℕ) (taken : Taken) (k : ℕ) (t : List ℕ)
+pub record Trying (g : Setting) (es x only to : List ℕ) (column : List Float) (t₀ : List ℕ) (sc₀ : List Float) (ac₀ out : List ℕ) (n : ℕ) (taken : Taken) (k : ℕ) (t : List ℕ)
     (sc : List Float) (ac : List ℕ) (made row : ℕ) : Type 0 where
-  pub run : (f : SearchInput) (bs : ℕ → List Branches) → Here g vs es x only to t₀ sc₀ ac₀ n taken f bs → Tried g es x only to column t₀ sc₀ out n taken k t sc ac made row f bs
+  pub run : (f : SearchInput) (bs : ℕ → List Branches) → Here g es x only to t₀ sc₀ ac₀ n taken f bs → Tried g es x only to column t₀ sc₀ out n taken k t sc ac made row f bs
   pub paths : length t ≡ length t₀
   pub scores : length sc ≡ length sc₀
   pub actives : length ac ≡ length ac₀
   pub low : row ≤ k
 
-module _ {g : Setting} {vs es x only to : List ℕ} {column : List Float} {t₀ : List ℕ} {sc₀ : List Float} {ac₀ out : List ℕ} {n : ℕ} {taken : Taken} {k : ℕ}
-    (O : OffersStand g vs es x only to column t₀ sc₀ ac₀ out n taken k) where
-  pub trying-start : Trying g vs es x only to column t₀ sc₀ ac₀ out n taken k t₀ sc₀ ac₀ n 0
+module _ {g : Setting} {es x only to : List ℕ} {column : List Float} {t₀ : List ℕ} {sc₀ : List Float} {ac₀ out : List ℕ} {n : ℕ} {taken : Taken} {k : ℕ}
+    (O : OffersStand g es x only to column t₀ sc₀ ac₀ out n taken k) where
+  pub trying-start : Trying g es x only to column t₀ sc₀ ac₀ out n taken k t₀ sc₀ ac₀ n 0
   unfolding rest offersOf
   trying-start =
       record {
@@ -165,9 +165,9 @@ module _ {g : Setting} {vs es x only to : List ℕ} {column : List Float} {t₀ 
         low = omega arith;
       }
 
-  module _ {t : List ℕ} {sc : List Float} {ac : List ℕ} {made row : ℕ} (T : Trying g vs es x only to column t₀ sc₀ ac₀ out n taken k t sc ac made row) where
+  module _ {t : List ℕ} {sc : List Float} {ac : List ℕ} {made row : ℕ} (T : Trying g es x only to column t₀ sc₀ ac₀ out n taken k t sc ac made row) where
     module _ (l : k ≤ row) where
-      pub trying-end : Gives g vs es x only to t₀ sc₀ ac₀ n taken 6 (allTried column es out k) (Made made) t sc ac
+      pub trying-end : Gives g es x only to t₀ sc₀ ac₀ n taken 6 (allTried column es out k) (Made made) t sc ac
       unfolding rest
       trying-end =
           record {
@@ -192,12 +192,12 @@ module _ {g : Setting} {vs es x only to : List ℕ} {column : List Float} {t₀ 
           ended os e f p done = rw e (ap ok (nil-right done))
 
     module _ (l : row < k) where
-      module _ (f : SearchInput) (bs : ℕ → List Branches) (H : Here g vs es x only to t₀ sc₀ ac₀ n taken f bs) where
+      module _ (f : SearchInput) (bs : ℕ → List Branches) (H : Here g es x only to t₀ sc₀ ac₀ n taken f bs) where
         so-far : Tried g es x only to column t₀ sc₀ out n taken k t sc ac made row f bs
         so-far = T .run f bs H
 
-        here-now : Here g vs es x only to t sc ac made taken f (so-far .to-here .bs′)
-        here-now = here-after g vs es x only to t₀ sc₀ ac₀ n taken f bs H t sc ac made (so-far .done) (so-far .to-here)
+        here-now : Here g es x only to t sc ac made taken f (so-far .to-here .bs′)
+        here-now = here-after g es x only to t₀ sc₀ ac₀ n taken f bs H t sc ac made (so-far .done) (so-far .to-here)
 
         same-path : pathOf f es only to (so-far .to-here .bs′) t sc (taken .path) ≡ pathOf f es only to bs t₀ sc₀ (taken .path)
         same-path = let h = H .known in so-far .to-here .kept .path (taken .path) h (omega arith)
@@ -213,7 +213,7 @@ module _ {g : Setting} {vs es x only to : List ℕ} {column : List Float} {t₀ 
             (so-far .done))
             (up-head row k l)
 
-      pub trying-asks : OfferStands g vs es x only to column t sc ac out made taken row
+      pub trying-asks : OfferStands g es x only to column t sc ac out made taken row
       unfolding so-far
       trying-asks =
           let H = O .stands .here in
@@ -230,8 +230,8 @@ module _ {g : Setting} {vs es x only to : List ℕ} {column : List Float} {t₀ 
             edge = O .edges row l;
           }
 
-      module _ {r : Extended} {t′ : List ℕ} {sc′ : List Float} {ac′ : List ℕ} (G : Gives g vs es x only to t sc ac made taken 1 (tried column es out row) r t′ sc′ ac′) where
-        pub trying-stop : {j : ℕ} → r ≡ Refused j → Gives g vs es x only to t₀ sc₀ ac₀ n taken 6 (allTried column es out k) r t′ sc′ ac′
+      module _ {r : Extended} {t′ : List ℕ} {sc′ : List Float} {ac′ : List ℕ} (G : Gives g es x only to t sc ac made taken 1 (tried column es out row) r t′ sc′ ac′) where
+        pub trying-stop : {j : ℕ} → r ≡ Refused j → Gives g es x only to t₀ sc₀ ac₀ n taken 6 (allTried column es out k) r t′ sc′ ac′
         unfolding so-far
         trying-stop {j} e =
             rw e
@@ -245,7 +245,7 @@ module _ {g : Setting} {vs es x only to : List ℕ} {column : List Float} {t₀ 
             })
 
         pub trying-next : {m : ℕ} → r ≡ Made m → length t′ ≡ length t → length sc′ ≡ length sc → length ac′ ≡ length ac
-            → Trying g vs es x only to column t₀ sc₀ ac₀ out n taken k t′ sc′ ac′ m (row + 1)
+            → Trying g es x only to column t₀ sc₀ ac₀ out n taken k t′ sc′ ac′ m (row + 1)
         unfolding so-far
         trying-next {m} e a b c =
             record {

@@ -20,8 +20,9 @@ use Rattle.search_state.specs.Ground.{Ground, nameOf}
 use Rattle.search_state.specs.State.{pathOf, Records, Kept, New, upFrom}
 
 -- the search's tables, of which n records are made, and a taken one of them with the chain after it
-pub record Here (g : Setting) (vs es x only to t : List ℕ) (sc : List Float) (ac : List ℕ) (n : ℕ) (taken : Taken) (f : SearchInput) (bs : ℕ → List Branches) : Type 0 where
-  pub ground : Ground f g vs es x only to
+pub record Here (g : Setting) (es x only to t : List ℕ) (sc : List Float) (ac : List ℕ) (n : ℕ) (taken : Taken) (f : SearchInput) (bs : ℕ → List Branches) : Type 0 where
+  pub vertices : List ℕ
+  pub ground : Ground f g vertices es x only to
   pub records : Records f g es x only to bs t sc ac n
   pub known : taken .path < n
   pub follows : Following only to t (taken .path) taken
@@ -175,14 +176,15 @@ module _ (f : SearchInput) (g : Setting) (es x only to : List ℕ) where
             }
 
 -- the taken path is still there
-pub here-after : (g : Setting) (vs es x only to t : List ℕ) (sc : List Float) (ac : List ℕ) (n : ℕ) (taken : Taken) (f : SearchInput) (bs : ℕ → List Branches)
-    → Here g vs es x only to t sc ac n taken f bs → (t′ : List ℕ) (sc′ : List Float) (ac′ : List ℕ) (n′ : ℕ) (ps : List (Path Float))
-    → (M : MadeTo f g es x only to bs t sc n (taken .path) t′ sc′ ac′ n′ ps) → Here g vs es x only to t′ sc′ ac′ n′ taken f (M .bs′)
-here-after g vs es x only to t sc ac n taken f bs H t′ sc′ ac′ n′ ps M =
+pub here-after : (g : Setting) (es x only to t : List ℕ) (sc : List Float) (ac : List ℕ) (n : ℕ) (taken : Taken) (f : SearchInput) (bs : ℕ → List Branches)
+    → Here g es x only to t sc ac n taken f bs → (t′ : List ℕ) (sc′ : List Float) (ac′ : List ℕ) (n′ : ℕ) (ps : List (Path Float))
+    → (M : MadeTo f g es x only to bs t sc n (taken .path) t′ sc′ ac′ n′ ps) → Here g es x only to t′ sc′ ac′ n′ taken f (M .bs′)
+here-after g es x only to t sc ac n taken f bs H t′ sc′ ac′ n′ ps M =
     let e : endOf t′ (taken .path) ≡ endOf t (taken .path) = M .cells (taken .path) 4 (H .known) (omega arith) in
     let a = M .up in
     let b = H .known in
     record {
+      vertices = H .vertices;
       ground = H .ground;
       records = M .records;
       known = omega arith;

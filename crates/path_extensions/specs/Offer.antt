@@ -54,12 +54,17 @@ some-score column out j s s′ p d h e z = ap (λ (y : Float). some (add binary6
 
 -- ---- what is asked and what is made
 
-pub record OfferStands (g : Setting) (vs es x only to : List ℕ) (column : List Float) (t : List ℕ) (sc : List Float) (ac out : List ℕ) (n : ℕ) (taken : Taken) (row : ℕ) : Type 0 where
-  pub stands : Stands g vs es x only to t sc ac n taken
+pub record OfferStands (g : Setting) (es x only to : List ℕ) (column : List Float) (t : List ℕ) (sc : List Float) (ac out : List ℕ) (n : ℕ) (taken : Taken) (row : ℕ) : Type 0 where
+  pub stands : Stands g es x only to t sc ac n taken
   pub place : Place g t sc ac n
   pub fits : columnFits column ≡ true
   pub room : row * 4 + 4 ≤ length out
   pub edge : field out 4 row 0 < g .edges
+
+-- the same for some table of sole edges, which the extension itself does not read
+pub record Offering (g : Setting) (es x to : List ℕ) (column : List Float) (t : List ℕ) (sc : List Float) (ac out : List ℕ) (n : ℕ) (taken : Taken) (row : ℕ) : Type 0 where
+  pub only : List ℕ
+  pub it : OfferStands g es x only to column t sc ac out n taken row
 
 abbrev pub extended : List Float → List ℕ → List ℕ → ℕ → SearchInput → Path Float → Result (Path Float)
 extended column es out row f p = extend (columnScoring column) f p (chainOf f p) (offerAt es out row)
@@ -100,41 +105,42 @@ score-fine column out j s₀ s c h k = go (columnPenalty column (field out 4 j 1
     go none e k = let z : _≡_ {A = ℕ} 0 1 = cc in absurd (omega arith)
     go (some d) e k = let y : add binary64 s₀ d ≡ s = cc in rw (← y) (column-keeps column c .plus-fine s₀ d (field out 4 j 1) (field out 4 j 2) h e)
 
-module _ {g : Setting} {vs es x only to : List ℕ} {column : List Float} {t : List ℕ} {sc : List Float} {ac out : List ℕ} {n : ℕ} {taken : Taken} {row : ℕ}
-    (O : OfferStands g vs es x only to column t sc ac out n taken row) where
+module _ {g : Setting} {es x to : List ℕ} {column : List Float} {t : List ℕ} {sc : List Float} {ac out : List ℕ} {n : ℕ} {taken : Taken} {row : ℕ}
+    (O : Offering g es x to column t sc ac out n taken row) where
   pub parent-scored : taken .path < length sc
-  parent-scored = let h = O .stands .here .known in let k = O .place .scores in omega arith
+  parent-scored = let h = O .it .stands .here .known in let k = O .it .place .scores in omega arith
 
   module _ {p : Penalty} (hp : penaltyOf p ≡ offerScore column out row (scoreOf sc (taken .path))) where
-    pub offer-refused : p ≡ Penalty.NoPlace → Gives g vs es x only to t sc ac n taken 1 (offered column es out row) (Refused 10) t sc ac
-    offer-refused e =
+    pub offer-refused : p ≡ Penalty.NoPlace → (o : List ℕ) → Gives g es x o to t sc ac n taken 1 (offered column es out row) (Refused 10) t sc ac
+    offer-refused e o =
         record {
           is = λ f bs H.
               ap (λ (y : Result (Path Float)). andThen y (λ q. ok (q ∷ [])))
-              (extend-refused column es out row f (pathOf f es only to bs t sc (taken .path)) (sym hp ∙ ap penaltyOf e));
+              (extend-refused column es out row f (pathOf f es o to bs t sc (taken .path)) (sym hp ∙ ap penaltyOf e));
         }
 
     module _ {s : Float} (e : p ≡ Penalty.Of s) {w : Way} (hw : w ≡ wayOf out row s) where
       scored : offerScore column out row (scoreOf sc (taken .path)) ≡ some s
       scored = sym hp ∙ ap penaltyOf e
 
-      pub offer-asks : Lengthens g vs es x only to t sc ac n taken w
+      pub offer-asks : Lengthens g es x to t sc ac n taken w
       offer-asks =
           record {
-            stands = O .stands;
-            place = O .place;
-            edge = rw hw (O .edge);
-            score = rw hw (score-fine column out row (scoreOf sc (taken .path)) s (O .fits) (O .stands .here .records .number (taken .path) (O .stands .here .known)) scored);
+            only = O .only;
+            stands = O .it .stands;
+            place = O .it .place;
+            edge = rw hw (O .it .edge);
+            score = rw hw (score-fine column out row (scoreOf sc (taken .path)) s (O .it .fits) (O .it .stands .here .records .number (taken .path) (O .it .stands .here .known)) scored);
           }
 
-      pub offer-made : {r : Extended} {t′ : List ℕ} {sc′ : List Float} {ac′ : List ℕ} → Gives g vs es x only to t sc ac n taken 1 (lengthened es w) r t′ sc′ ac′
-          → Gives g vs es x only to t sc ac n taken 1 (offered column es out row) r t′ sc′ ac′
-      offer-made {r} {t′} {sc′} {ac′} G =
+      pub offer-made : {r : Extended} {t′ : List ℕ} {sc′ : List Float} {ac′ : List ℕ} → ((o : List ℕ) → Gives g es x o to t sc ac n taken 1 (lengthened es w) r t′ sc′ ac′)
+          → (o : List ℕ) → Gives g es x o to t sc ac n taken 1 (offered column es out row) r t′ sc′ ac′
+      offer-made {r} {t′} {sc′} {ac′} G o =
           record {
             is = λ f bs H.
-                let p₀ = pathOf f es only to bs t sc (taken .path) in
-                subst (λ (want : Result (List (Path Float))). Answers (Run f g es x only to bs t sc n (taken .path) t′ sc′ ac′ 1 want) (λ k. want ≡ refused k) r)
-                (ap (λ (y : Way). lengthened es y f p₀) hw ∙ sym (extend-is column es out row f p₀ s scored)) (G .is f bs H);
+                let p₀ = pathOf f es o to bs t sc (taken .path) in
+                subst (λ (want : Result (List (Path Float))). Answers (Run f g es x o to bs t sc n (taken .path) t′ sc′ ac′ 1 want) (λ k. want ≡ refused k) r)
+                (ap (λ (y : Way). lengthened es y f p₀) hw ∙ sym (extend-is column es out row f p₀ s scored)) (G o .is f bs H);
           }
 
 -- ---- the repeat rule
@@ -164,17 +170,17 @@ keep-yes f q h = rw h
 keep-no : (f : SearchInput) (q : Path Float) → repeatRule f q ≡ false → keep (repeatRule f) (q ∷ []) ≡ []
 keep-no f q h = rw h
 
-module _ {g : Setting} {vs es x only to : List ℕ} {column : List Float} {t : List ℕ} {sc : List Float} {ac out : List ℕ} {n : ℕ} {taken : Taken} {row : ℕ} {t′ : List ℕ} {sc′ : List Float} {ac′ : List ℕ}
-    (O : OfferStands g vs es x only to column t sc ac out n taken row) where
-  pub tried-refused : {r : Extended} {k : ℕ} → Gives g vs es x only to t sc ac n taken 1 (offered column es out row) r t′ sc′ ac′ → r ≡ Refused k
-      → Gives g vs es x only to t sc ac n taken 1 (tried column es out row) r t′ sc′ ac′
+module _ {g : Setting} {es x only to : List ℕ} {column : List Float} {t : List ℕ} {sc : List Float} {ac out : List ℕ} {n : ℕ} {taken : Taken} {row : ℕ} {t′ : List ℕ} {sc′ : List Float} {ac′ : List ℕ}
+    (O : OfferStands g es x only to column t sc ac out n taken row) where
+  pub tried-refused : {r : Extended} {k : ℕ} → Gives g es x only to t sc ac n taken 1 (offered column es out row) r t′ sc′ ac′ → r ≡ Refused k
+      → Gives g es x only to t sc ac n taken 1 (tried column es out row) r t′ sc′ ac′
   tried-refused {r} {k} G e = rw e (record { is = λ f bs H. refused-of (extended column es out row f (pathOf f es only to bs t sc (taken .path))) k (λ q. keep (repeatRule f) (q ∷ [])) (told f bs H) })
     where
-      told : (f : SearchInput) (bs : ℕ → List Branches) → Here g vs es x only to t sc ac n taken f bs → offered column es out row f (pathOf f es only to bs t sc (taken .path)) ≡ refused k
+      told : (f : SearchInput) (bs : ℕ → List Branches) → Here g es x only to t sc ac n taken f bs → offered column es out row f (pathOf f es only to bs t sc (taken .path)) ≡ refused k
       told f bs H = rw e at (G .is f bs H)
 
-  module _ {r : Extended} {m : ℕ} (G : Gives g vs es x only to t sc ac n taken 1 (offered column es out row) r t′ sc′ ac′) (e : r ≡ Made m) where
-    module _ (f : SearchInput) (bs : ℕ → List Branches) (H : Here g vs es x only to t sc ac n taken f bs) where
+  module _ {r : Extended} {m : ℕ} (G : Gives g es x only to t sc ac n taken 1 (offered column es out row) r t′ sc′ ac′) (e : r ≡ Made m) where
+    module _ (f : SearchInput) (bs : ℕ → List Branches) (H : Here g es x only to t sc ac n taken f bs) where
       run : Run f g es x only to bs t sc n (taken .path) t′ sc′ ac′ 1 (offered column es out row f (pathOf f es only to bs t sc (taken .path))) m
       run = rw e at (G .is f bs H)
 
@@ -228,8 +234,8 @@ module _ {g : Setting} {vs es x only to : List ℕ} {column : List Float} {t : L
             }
 
     module _ {b : Bool} (hb : b ≡ keeps only to 0 t′ n) where
-      pub tried-kept : b ≡ true → Gives g vs es x only to t sc ac n taken 1 (tried column es out row) (Made m) t′ sc′ ac′
+      pub tried-kept : b ≡ true → Gives g es x only to t sc ac n taken 1 (tried column es out row) (Made m) t′ sc′ ac′
       tried-kept h = record { is = λ f bs H. kept-run f bs H hb h }
 
-      pub tried-lost : b ≡ false → Gives g vs es x only to t sc ac n taken 1 (tried column es out row) (Made n) t′ sc′ ac′
+      pub tried-lost : b ≡ false → Gives g es x only to t sc ac n taken 1 (tried column es out row) (Made n) t′ sc′ ac′
       tried-lost h = record { is = λ f bs H. lost-run f bs H hb h }

@@ -68,9 +68,9 @@ Wanted = SearchInput → Path Float → Result (List (Path Float))
 abbrev pub chainOf : SearchInput → Path Float → List Ends
 chainOf f p = defs.chain f (defs.endFrom (f .source) (p .edges))
 
-pub record Gives (g : Setting) (vs es x only to t : List ℕ) (sc : List Float) (ac : List ℕ) (n : ℕ) (taken : Taken) (few : ℕ) (want : Wanted) (r : Extended) (t′ : List ℕ) (sc′ : List Float)
+pub record Gives (g : Setting) (es x only to t : List ℕ) (sc : List Float) (ac : List ℕ) (n : ℕ) (taken : Taken) (few : ℕ) (want : Wanted) (r : Extended) (t′ : List ℕ) (sc′ : List Float)
     (ac′ : List ℕ) : Type 0 where
-  pub is : (f : SearchInput) (bs : ℕ → List Branches) → Here g vs es x only to t sc ac n taken f bs
+  pub is : (f : SearchInput) (bs : ℕ → List Branches) → Here g es x only to t sc ac n taken f bs
       → Answers (Run f g es x only to bs t sc n (taken .path) t′ sc′ ac′ few (want f (pathOf f es only to bs t sc (taken .path)))) (λ k. want f (pathOf f es only to bs t sc (taken .path)) ≡ refused k) r
 
 -- ---- what one extension asks
@@ -82,15 +82,16 @@ pub record Place (g : Setting) (t : List ℕ) (sc : List Float) (ac : List ℕ) 
   pub actives : (n + 1) * g .active ≤ length ac
   pub number : n + 1 < 2147483648
 
-pub record Stands (g : Setting) (vs es x only to t : List ℕ) (sc : List Float) (ac : List ℕ) (n : ℕ) (taken : Taken) : Type 0 where
+pub record Stands (g : Setting) (es x only to t : List ℕ) (sc : List Float) (ac : List ℕ) (n : ℕ) (taken : Taken) : Type 0 where
   pub input : SearchInput
   pub trees : ℕ → List Branches
-  pub here : Here g vs es x only to t sc ac n taken input trees
+  pub here : Here g es x only to t sc ac n taken input trees
   -- a taken path has few decisions since guidance
   pub guided : sinceOf t (taken .path) ≤ 5
 
-pub record Lengthens (g : Setting) (vs es x only to t : List ℕ) (sc : List Float) (ac : List ℕ) (n : ℕ) (taken : Taken) (w : Way) : Type 0 where
-  pub stands : Stands g vs es x only to t sc ac n taken
+pub record Lengthens (g : Setting) (es x to t : List ℕ) (sc : List Float) (ac : List ℕ) (n : ℕ) (taken : Taken) (w : Way) : Type 0 where
+  pub only : List ℕ
+  pub stands : Stands g es x only to t sc ac n taken
   pub place : Place g t sc ac n
   pub edge : w .edge < g .edges
   pub score : isNan (w .score) ≡ false
@@ -115,7 +116,7 @@ put-there : (bs : ℕ → List Branches) (n : ℕ) (b : List Branches) (q : ℕ)
 unfolding putTrees
 put-there bs n b q h = rw (ne-eqb q n h)
 
-empty-is : {A : Type 0} (l : List A) (k : ℕ) → length l ≡ k → isEmpty l ≡ eqb k 0
+pub empty-is : {A : Type 0} (l : List A) (k : ℕ) → length l ≡ k → isEmpty l ≡ eqb k 0
 empty-is [] k h = sym (eq-eqb k 0 (sym h))
 empty-is (a ∷ l) k h = sym (ne-eqb k 0 (λ z. omega arith))
 
@@ -134,11 +135,11 @@ pub one-decision : (trees : ℕ) (guided free : Bool) (since : ℕ) → trees �
 one-decision trees guided free since h k l = rw (eq-eqb trees 0 (omega arith), k, l) (add-one since)
 
 -- ---- the record
-module _ (g : Setting) (vs es x only to t : List ℕ) (sc : List Float) (ac : List ℕ) (n : ℕ) (taken : Taken) (P : Place g t sc ac n) where
+module _ (g : Setting) (es x only to t : List ℕ) (sc : List Float) (ac : List ℕ) (n : ℕ) (taken : Taken) (P : Place g t sc ac n) where
   pub place-inside : Inside t sc n
   place-inside = record { cells = omega (arith, P .paths); score = omega (arith, P .scores) }
 
-  module _ (f : SearchInput) (bs : ℕ → List Branches) (H : Here g vs es x only to t sc ac n taken f bs) where
+  module _ (f : SearchInput) (bs : ℕ → List Branches) (H : Here g es x only to t sc ac n taken f bs) where
     abbrev at : ℕ
     at = taken .path * g .active
 
@@ -313,8 +314,11 @@ module _ (g : Setting) (vs es x only to t : List ℕ) (sc : List Float) (ac : Li
           one-run = record { paths = view ∷ []; is = one-is; made = one-made; most = omega arith }
 
 -- ---- the function's needs
-module _ {g : Setting} {vs es x only to t : List ℕ} {sc : List Float} {ac : List ℕ} {n : ℕ} {taken : Taken} {w : Way} (L : Lengthens g vs es x only to t sc ac n taken w) where
-  abbrev there : Here g vs es x only to t sc ac n taken (L .stands .input) (L .stands .trees)
+module _ {g : Setting} {es x to t : List ℕ} {sc : List Float} {ac : List ℕ} {n : ℕ} {taken : Taken} {w : Way} (L : Lengthens g es x to t sc ac n taken w) where
+  abbrev only : List ℕ
+  only = L .only
+
+  abbrev there : Here g es x only to t sc ac n taken (L .stands .input) (L .stands .trees)
   there = L .stands .here
 
   product : (p a : ℕ) → p < 2147483648 → a ≤ 64 → p * a < 18446744073709551616
@@ -342,7 +346,7 @@ module _ {g : Setting} {vs es x only to t : List ℕ} {sc : List Float} {ac : Li
 
       pub lengthen-walks : Walkable (g .cap) (g .nodes) x ac (p * g .active) (p * g .active + k) (m * g .active)
       lengthen-walks =
-          walk-asks g vs es x only to t sc ac n taken (L .place) (L .stands .input) (L .stands .trees) there (p * g .active) k (m * g .active) (ap (λ (i : ℕ). i * g .active) hp) many-trees
+          walk-asks g es x only to t sc ac n taken (L .place) (L .stands .input) (L .stands .trees) there (p * g .active) k (m * g .active) (ap (λ (i : ℕ). i * g .active) hp) many-trees
           (ap (λ (i : ℕ). i * g .active) hm)
 
       module _ {a b e : ℕ} (he : e ≡ w .edge) (ha : a ≡ field es 6 e 0) (hb : b ≡ field es 6 e 1) {ad : List ℕ} {r : ℕ}
@@ -361,7 +365,7 @@ module _ {g : Setting} {vs es x only to t : List ℕ} {sc : List Float} {ac : Li
             let b = there .ground .size in
             let d = there .ground .linked .few in
             let h = few-trees in
-            (record { room = place-inside g vs es x only to t sc ac n taken (L .place); known = there .known }, omega arith, omega arith, omega arith)
+            (record { room = place-inside g es x only to t sc ac n taken (L .place); known = there .known }, omega arith, omega arith, omega arith)
 
         module _ (long : length ad ≡ length ac) {since : ℕ} (hd : since ≡ decisions r (w .guided) (w .free) (row .since)) {answer : PathAnswer} {t′ : List ℕ} {sc′ : List Float}
             (G : Grown t sc n (extendedRow t to taken (record { edge = w .edge; score = w .score; since = since; trees = r })) (g .most) answer t′ sc′) where
@@ -377,13 +381,13 @@ module _ {g : Setting} {vs es x only to t : List ℕ} {sc : List Float} {ac : Li
           new-row : PathRecord
           new-row = extendedRow t to taken (record { edge = w .edge; score = w .score; since = since; trees = r })
 
-          pub lengthen-refused : {k₀ : ℕ} → answer ≡ answers.Refused k₀ → Gives g vs es x only to t sc ac n taken 1 (lengthened es w) (Refused 11) t′ sc′ ad
+          pub lengthen-refused : {k₀ : ℕ} → answer ≡ answers.Refused k₀ → (o : List ℕ) → Gives g es x o to t sc ac n taken 1 (lengthened es w) (Refused 11) t′ sc′ ad
           unfolding new-row
-          lengthen-refused {k₀} e =
+          lengthen-refused {k₀} e o =
               let q = grown-refused t sc n new-row (g .most) t′ sc′ k₀ (rw e at G) in
               record {
                 is = λ f bs H.
-                    one-refused g vs es x only to t sc ac n taken (L .place) f bs H (p * g .active) k (m * g .active) (ap (λ (i : ℕ). i * g .active) hp) many-trees (ap (λ (i : ℕ). i * g .active) hm) w
+                    one-refused g es x o to t sc ac n taken (L .place) f bs H (p * g .active) k (m * g .active) (ap (λ (i : ℕ). i * g .active) hp) many-trees (ap (λ (i : ℕ). i * g .active) hm) w
                     (L .edge) (L .score) a b source-is target-is ad r W long since since-by (q .1);
               }
 
@@ -395,12 +399,12 @@ module _ {g : Setting} {vs es x only to t : List ℕ} {sc : List Float} {ac : Li
             pub made-low : m₀ < 2147483648
             made-low = let h = put .0 .number in let z = L .place .number in omega arith
 
-            pub lengthen-made : Gives g vs es x only to t sc ac n taken 1 (lengthened es w) (Made (m₀ + 1)) t′ sc′ ad
+            pub lengthen-made : (o : List ℕ) → Gives g es x o to t sc ac n taken 1 (lengthened es w) (Made (m₀ + 1)) t′ sc′ ad
             unfolding new-row
-            lengthen-made =
+            lengthen-made o =
                 record {
                   is = λ f bs H.
                       rw (put .0 .number, put .0 .cells, put .0 .scores)
-                      (one-run g vs es x only to t sc ac n taken (L .place) f bs H (p * g .active) k (m * g .active) (ap (λ (i : ℕ). i * g .active) hp) many-trees (ap (λ (i : ℕ). i * g .active) hm) w
+                      (one-run g es x o to t sc ac n taken (L .place) f bs H (p * g .active) k (m * g .active) (ap (λ (i : ℕ). i * g .active) hp) many-trees (ap (λ (i : ℕ). i * g .active) hm) w
                       (L .edge) (L .score) a b source-is target-is ad r W long since since-by (put .1));
                 }

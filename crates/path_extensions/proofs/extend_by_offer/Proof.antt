@@ -7,7 +7,7 @@ use Rattle.path_extensions.specs.Offer.{parent-scored, offer-refused, of
 use native.Mathlib.Omega.{arith}
 
 offer-score-requires : tie.Need-offer-score-requires
-offer-score-requires c κs = (parent-scored (c .before .before .before .before .before .before .before .before .before .before .before .pre), c .before .before .before .before .before .before .before .before .before .before .before .pre .room)
+offer-score-requires c κs = (parent-scored (c .before .before .before .before .before .before .before .before .before .pre), c .before .before .before .before .before .before .before .before .before .pre .it .room)
 
 enum-known-p : tie.Need-enum-known-p
 enum-known-p c = search needs
@@ -19,34 +19,34 @@ same-length : tie.Need-same-length
 same-length c = search needs
 
 returns : tie.Need-returns
-returns c = offer-refused (c .before .before .before .before .before .before .before .before .before .before .before .before .before .before .pre) (c .before .before .offer-score .ensures) (c .enum-told .given .1)
+returns c = offer-refused (c .before .before .before .before .before .before .before .before .before .before .before .before .pre) (c .before .before .offer-score .ensures) (c .enum-told .given .1)
+
+mul-t18 : tie.Need-mul-t18
+mul-t18 c = search needs
+
+add-t19 : tie.Need-add-t19
+add-t19 c = search needs
 
 mul-t20 : tie.Need-mul-t20
 mul-t20 c = search needs
 
-add-t21 : tie.Need-add-t21
-add-t21 c = search needs
+shared-slice-read-t22 : tie.Need-shared-slice-read-t22
+shared-slice-read-t22 c = search needs
 
-mul-t22 : tie.Need-mul-t22
-mul-t22 c = search needs
+mul-t23 : tie.Need-mul-t23
+mul-t23 c = search needs
 
-shared-slice-read-t24 : tie.Need-shared-slice-read-t24
-shared-slice-read-t24 c = search needs
+add-t24 : tie.Need-add-t24
+add-t24 c = search needs
 
 mul-t25 : tie.Need-mul-t25
 mul-t25 c = search needs
 
-add-t26 : tie.Need-add-t26
-add-t26 c = search needs
-
-mul-t27 : tie.Need-mul-t27
-mul-t27 c = search needs
-
-shared-slice-read-t29 : tie.Need-shared-slice-read-t29
-shared-slice-read-t29 c = search needs
+shared-slice-read-t27 : tie.Need-shared-slice-read-t27
+shared-slice-read-t27 c = search needs
 
 extend-with-edges-requires : tie.Need-extend-with-edges-requires
-extend-with-edges-requires c κs = offer-asks (c .before .before .before .before .before .before .before .before .before .before .before .before .before .before .before .before .before .before .before .before .pre) (c .before .before .before .before .before .before .before .before .offer-score .ensures) (c .before .before .before .before .before .before .p .given .1) refl
+extend-with-edges-requires c κs = offer-asks (c .before .before .before .before .before .before .before .before .before .before .before .before .before .before .before .before .before .before .pre) (c .before .before .before .before .before .before .before .before .offer-score .ensures) (c .before .before .before .before .before .before .p .given .1) refl
 
 same-length-2 : tie.Need-same-length-2
 same-length-2 c = search needs
@@ -58,7 +58,7 @@ same-length-4 : tie.Need-same-length-4
 same-length-4 c = search needs
 
 returns-2 : tie.Need-returns-2
-returns-2 c = offer-made (c .before .before .before .before .before .before .before .before .before .before .before .before .before .before .before .before .before .before .before .before .before .before .before .before .before .before .before .pre) (c .before .before .before .before .before .before .before .before .before .before .before .before .before .before .before .offer-score .ensures) (c .before .before .before .before .before .before .before .before .before .before .before .before .before .p .given .1) refl (c .before .before .before .before .before .before .extend-with-edges .ensures)
+returns-2 c = offer-made (c .before .before .before .before .before .before .before .before .before .before .before .before .before .before .before .before .before .before .before .before .before .before .before .before .before .pre) (c .before .before .before .before .before .before .before .before .before .before .before .before .before .before .before .offer-score .ensures) (c .before .before .before .before .before .before .before .before .before .before .before .before .before .p .given .1) refl (c .before .before .before .before .before .before .extend-with-edges .ensures)
 
 pub extend-by-offer-spec : {M : Type 1} → statement M
 extend-by-offer-spec =
@@ -69,14 +69,14 @@ extend-by-offer-spec =
     enum-told
     same-length
     returns
+    mul-t18
+    add-t19
     mul-t20
-    add-t21
-    mul-t22
-    shared-slice-read-t24
+    shared-slice-read-t22
+    mul-t23
+    add-t24
     mul-t25
-    add-t26
-    mul-t27
-    shared-slice-read-t29
+    shared-slice-read-t27
     extend-with-edges-requires
     same-length-2
     same-length-3

@@ -7,7 +7,7 @@ use Rattle.path_extensions.specs.One.{parent-inside, taken-product, new-
 use native.Mathlib.Omega.{arith}
 
 path-at-requires : tie.Need-path-at-requires
-path-at-requires c κs = parent-inside (c .before .before .before .before .before .before .before .before .before .before .pre)
+path-at-requires c κs = parent-inside (c .before .before .before .before .before .before .before .before .pre)
 
 wide-requires : tie.Need-wide-requires
 wide-requires c κs = search needs
@@ -16,34 +16,34 @@ wide-requires-2 : tie.Need-wide-requires-2
 wide-requires-2 c κs = search needs
 
 mul-at : tie.Need-mul-at
-mul-at c = record { fits = taken-product (c .before .before .before .before .before .before .before .before .before .before .before .before .before .pre) (c .wide2 .ensures .0) }
+mul-at c = record { fits = taken-product (c .before .before .before .before .before .before .before .before .before .before .before .pre) (c .wide2 .ensures .0) }
 
 wide-requires-3 : tie.Need-wide-requires-3
 wide-requires-3 c κs = search needs
 
 mul-slot : tie.Need-mul-slot
-mul-slot c = record { fits = new-product (c .before .before .before .before .before .before .before .before .before .before .before .before .before .before .pre) (c .wide3 .ensures .0) }
+mul-slot c = record { fits = new-product (c .before .before .before .before .before .before .before .before .before .before .before .before .pre) (c .wide3 .ensures .0) }
 
 edge-end-requires : tie.Need-edge-end-requires
-edge-end-requires c κs = (edge-inside (c .before .before .before .before .before .before .before .before .before .before .before .before .before .before .pre) (c .before .before .wide .ensures .0), omega arith)
+edge-end-requires c κs = (edge-inside (c .before .before .before .before .before .before .before .before .before .before .before .before .pre) (c .before .before .wide .ensures .0), omega arith)
 
 edge-end-requires-2 : tie.Need-edge-end-requires-2
-edge-end-requires-2 c κs = (edge-inside (c .before .before .before .before .before .before .before .before .before .before .before .before .before .before .before .pre) (c .before .before .before .wide .ensures .0), omega arith)
+edge-end-requires-2 c κs = (edge-inside (c .before .before .before .before .before .before .before .before .before .before .before .before .before .pre) (c .before .before .before .wide .ensures .0), omega arith)
 
 wide-requires-4 : tie.Need-wide-requires-4
 wide-requires-4 c κs = search needs
 
 walk-trees-requires : tie.Need-walk-trees-requires
-walk-trees-requires c κs = lengthen-walks (c .before .before .before .before .before .before .before .before .before .before .before .before .before .before .before .before .before .before .pre) (c .before .before .before .before .before .before .before .path-at .ensures) (c .before .before .before .before .before .wide2 .ensures .0) (c .wide4 .ensures .0) (c .before .before .before .before .wide3 .ensures .0)
+walk-trees-requires c κs = lengthen-walks (c .before .before .before .before .before .before .before .before .before .before .before .before .before .before .before .before .pre) (c .before .before .before .before .before .before .before .path-at .ensures) (c .before .before .before .before .before .wide2 .ensures .0) (c .wide4 .ensures .0) (c .before .before .before .before .wide3 .ensures .0)
 
 decisions-since-requires : tie.Need-decisions-since-requires
-decisions-since-requires c κs = few-since (c .before .before .before .before .before .before .before .before .before .before .before .before .before .before .before .before .before .before .before .before .before .pre) (c .before .before .before .before .before .before .before .before .before .before .path-at .ensures)
+decisions-since-requires c κs = few-since (c .before .before .before .before .before .before .before .before .before .before .before .before .before .before .before .before .before .before .before .pre) (c .before .before .before .before .before .before .before .before .before .before .path-at .ensures)
 
-cast-t32 : tie.Need-cast-t32
-cast-t32 c = search needs
+cast-t30 : tie.Need-cast-t30
+cast-t30 c = search needs
 
 extend-path-requires : tie.Need-extend-path-requires
-extend-path-requires c κs = extend-asks (c .before .before .before .before .before .before .before .before .before .before .before .before .before .before .before .before .before .before .before .before .before .before .before .before .pre) (c .before .before .before .before .before .before .before .before .before .before .before .before .before .path-at .ensures) (c .before .before .before .before .before .before .before .before .before .before .before .wide2 .ensures .0) (c .before .before .before .before .before .before .wide4 .ensures .0) (c .before .before .before .before .before .before .before .before .before .before .wide3 .ensures .0) (c .before .before .before .before .before .before .before .before .before .before .before .before .wide .ensures .0) (c .before .before .before .before .before .before .before .before .before .edge-end .ensures) (c .before .before .before .before .before .before .before .before .edge-end2 .ensures) (c .before .before .before .before .before .walk-trees .ensures)
+extend-path-requires c κs = extend-asks (c .before .before .before .before .before .before .before .before .before .before .before .before .before .before .before .before .before .before .before .before .before .before .pre) (c .before .before .before .before .before .before .before .before .before .before .before .before .before .path-at .ensures) (c .before .before .before .before .before .before .before .before .before .before .before .wide2 .ensures .0) (c .before .before .before .before .before .before .wide4 .ensures .0) (c .before .before .before .before .before .before .before .before .before .before .wide3 .ensures .0) (c .before .before .before .before .before .before .before .before .before .before .before .before .wide .ensures .0) (c .before .before .before .before .before .before .before .before .before .edge-end .ensures) (c .before .before .before .before .before .before .before .before .edge-end2 .ensures) (c .before .before .before .before .before .walk-trees .ensures)
 
 enum-known-made : tie.Need-enum-known-made
 enum-known-made c = search needs
@@ -61,10 +61,10 @@ same-length-3 : tie.Need-same-length-3
 same-length-3 c = search needs
 
 returns : tie.Need-returns
-returns c = lengthen-refused (c .before .before .before .before .before .before .before .before .before .before .before .before .before .before .before .before .before .before .before .before .before .before .before .before .before .before .before .before .before .before .before .pre) (c .before .before .before .before .before .before .before .before .before .before .before .before .before .before .before .before .before .before .before .before .path-at .ensures) (c .before .before .before .before .before .before .before .before .before .before .before .before .before .before .before .before .before .before .wide2 .ensures .0) (c .before .before .before .before .before .before .before .before .before .before .before .before .before .wide4 .ensures .0) (c .before .before .before .before .before .before .before .before .before .before .before .before .before .before .before .before .before .wide3 .ensures .0) (c .before .before .before .before .before .before .before .before .before .before .before .before .before .before .before .before .before .before .before .wide .ensures .0) (c .before .before .before .before .before .before .before .before .before .before .before .before .before .before .before .before .edge-end .ensures) (c .before .before .before .before .before .before .before .before .before .before .before .before .before .before .before .edge-end2 .ensures) (c .before .before .before .before .before .before .before .before .before .before .before .before .walk-trees .ensures) (c .before .before .before .before .before .before .before .before .before .before .before .before .walk-trees .kept .1 .1 .1 .0) (c .before .before .before .before .before .before .before .before .before .decisions-since .ensures) (c .before .before .before .before .before .before .extend-path .ensures) (c .enum-told .given .1)
+returns c = lengthen-refused (c .before .before .before .before .before .before .before .before .before .before .before .before .before .before .before .before .before .before .before .before .before .before .before .before .before .before .before .before .before .pre) (c .before .before .before .before .before .before .before .before .before .before .before .before .before .before .before .before .before .before .before .before .path-at .ensures) (c .before .before .before .before .before .before .before .before .before .before .before .before .before .before .before .before .before .before .wide2 .ensures .0) (c .before .before .before .before .before .before .before .before .before .before .before .before .before .wide4 .ensures .0) (c .before .before .before .before .before .before .before .before .before .before .before .before .before .before .before .before .before .wide3 .ensures .0) (c .before .before .before .before .before .before .before .before .before .before .before .before .before .before .before .before .before .before .before .wide .ensures .0) (c .before .before .before .before .before .before .before .before .before .before .before .before .before .before .before .before .edge-end .ensures) (c .before .before .before .before .before .before .before .before .before .before .before .before .before .before .before .edge-end2 .ensures) (c .before .before .before .before .before .before .before .before .before .before .before .before .walk-trees .ensures) (c .before .before .before .before .before .before .before .before .before .before .before .before .walk-trees .kept .1 .1 .1 .0) (c .before .before .before .before .before .before .before .before .before .decisions-since .ensures) (c .before .before .before .before .before .before .extend-path .ensures) (c .enum-told .given .1)
 
-add-t31 : tie.Need-add-t31
-add-t31 c = let h = made-low (c .before .before .before .before .before .before .before .before .before .before .before .before .before .before .before .before .before .before .before .before .before .before .before .before .before .before .before .before .before .before .before .before .pre) (c .before .before .before .before .before .before .before .before .before .before .before .before .before .before .before .before .before .before .before .before .before .path-at .ensures) (c .before .before .before .before .before .before .before .before .before .before .before .before .before .before .before .before .before .before .before .wide2 .ensures .0) (c .before .before .before .before .before .before .before .before .before .before .before .before .before .before .wide4 .ensures .0) (c .before .before .before .before .before .before .before .before .before .before .before .before .before .before .before .before .before .before .wide3 .ensures .0) (c .before .before .before .before .before .before .before .before .before .before .before .before .before .before .before .before .before .before .before .before .wide .ensures .0) (c .before .before .before .before .before .before .before .before .before .before .before .before .before .before .before .before .before .edge-end .ensures) (c .before .before .before .before .before .before .before .before .before .before .before .before .before .before .before .before .edge-end2 .ensures) (c .before .before .before .before .before .before .before .before .before .before .before .before .before .walk-trees .ensures) (c .before .before .before .before .before .before .before .before .before .before .before .before .before .walk-trees .kept .1 .1 .1 .0) (c .before .before .before .before .before .before .before .before .before .before .decisions-since .ensures) (c .before .before .before .before .before .before .before .extend-path .ensures) (c .before .made .given .1) in omega arith
+add-t29 : tie.Need-add-t29
+add-t29 c = let h = made-low (c .before .before .before .before .before .before .before .before .before .before .before .before .before .before .before .before .before .before .before .before .before .before .before .before .before .before .before .before .before .before .pre) (c .before .before .before .before .before .before .before .before .before .before .before .before .before .before .before .before .before .before .before .before .before .path-at .ensures) (c .before .before .before .before .before .before .before .before .before .before .before .before .before .before .before .before .before .before .before .wide2 .ensures .0) (c .before .before .before .before .before .before .before .before .before .before .before .before .before .before .wide4 .ensures .0) (c .before .before .before .before .before .before .before .before .before .before .before .before .before .before .before .before .before .before .wide3 .ensures .0) (c .before .before .before .before .before .before .before .before .before .before .before .before .before .before .before .before .before .before .before .before .wide .ensures .0) (c .before .before .before .before .before .before .before .before .before .before .before .before .before .before .before .before .before .edge-end .ensures) (c .before .before .before .before .before .before .before .before .before .before .before .before .before .before .before .before .edge-end2 .ensures) (c .before .before .before .before .before .before .before .before .before .before .before .before .before .walk-trees .ensures) (c .before .before .before .before .before .before .before .before .before .before .before .before .before .walk-trees .kept .1 .1 .1 .0) (c .before .before .before .before .before .before .before .before .before .before .decisions-since .ensures) (c .before .before .before .before .before .before .before .extend-path .ensures) (c .before .made .given .1) in omega arith
 
 same-length-4 : tie.Need-same-length-4
 same-length-4 c = search needs
@@ -76,7 +76,7 @@ same-length-6 : tie.Need-same-length-6
 same-length-6 c = search needs
 
 returns-2 : tie.Need-returns-2
-returns-2 c = lengthen-made (c .before .before .before .before .before .before .before .before .before .before .before .before .before .before .before .before .before .before .before .before .before .before .before .before .before .before .before .before .before .before .before .before .pre) (c .before .before .before .before .before .before .before .before .before .before .before .before .before .before .before .before .before .before .before .before .before .path-at .ensures) (c .before .before .before .before .before .before .before .before .before .before .before .before .before .before .before .before .before .before .before .wide2 .ensures .0) (c .before .before .before .before .before .before .before .before .before .before .before .before .before .before .wide4 .ensures .0) (c .before .before .before .before .before .before .before .before .before .before .before .before .before .before .before .before .before .before .wide3 .ensures .0) (c .before .before .before .before .before .before .before .before .before .before .before .before .before .before .before .before .before .before .before .before .wide .ensures .0) (c .before .before .before .before .before .before .before .before .before .before .before .before .before .before .before .before .before .edge-end .ensures) (c .before .before .before .before .before .before .before .before .before .before .before .before .before .before .before .before .edge-end2 .ensures) (c .before .before .before .before .before .before .before .before .before .before .before .before .before .walk-trees .ensures) (c .before .before .before .before .before .before .before .before .before .before .before .before .before .walk-trees .kept .1 .1 .1 .0) (c .before .before .before .before .before .before .before .before .before .before .decisions-since .ensures) (c .before .before .before .before .before .before .before .extend-path .ensures) (c .before .made .given .1)
+returns-2 c = lengthen-made (c .before .before .before .before .before .before .before .before .before .before .before .before .before .before .before .before .before .before .before .before .before .before .before .before .before .before .before .before .before .before .pre) (c .before .before .before .before .before .before .before .before .before .before .before .before .before .before .before .before .before .before .before .before .before .path-at .ensures) (c .before .before .before .before .before .before .before .before .before .before .before .before .before .before .before .before .before .before .before .wide2 .ensures .0) (c .before .before .before .before .before .before .before .before .before .before .before .before .before .before .wide4 .ensures .0) (c .before .before .before .before .before .before .before .before .before .before .before .before .before .before .before .before .before .before .wide3 .ensures .0) (c .before .before .before .before .before .before .before .before .before .before .before .before .before .before .before .before .before .before .before .before .wide .ensures .0) (c .before .before .before .before .before .before .before .before .before .before .before .before .before .before .before .before .before .edge-end .ensures) (c .before .before .before .before .before .before .before .before .before .before .before .before .before .before .before .before .edge-end2 .ensures) (c .before .before .before .before .before .before .before .before .before .before .before .before .before .walk-trees .ensures) (c .before .before .before .before .before .before .before .before .before .before .before .before .before .walk-trees .kept .1 .1 .1 .0) (c .before .before .before .before .before .before .before .before .before .before .decisions-since .ensures) (c .before .before .before .before .before .before .before .extend-path .ensures) (c .before .made .given .1)
 
 pub extend-with-edges-spec : {M : Type 1} → statement M
 extend-with-edges-spec =
@@ -93,7 +93,7 @@ extend-with-edges-spec =
     wide-requires-4
     walk-trees-requires
     decisions-since-requires
-    cast-t32
+    cast-t30
     extend-path-requires
     enum-known-made
     enum-told
@@ -101,7 +101,7 @@ extend-with-edges-spec =
     same-length-2
     same-length-3
     returns
-    add-t31
+    add-t29
     same-length-4
     same-length-5
     same-length-6
