@@ -380,7 +380,7 @@ module _ {es only to t : List ℕ} {sc : List Float} {shut order marks walk : Li
 
   module _ {place : ℕ} (N : NextIs order marks (p .pivotal) (p .next) place) where
     pub step-ended : p .pivotal ≤ place → Tried es only to t sc shut order marks g p t sc recovery.Ended
-    step-ended h A s R = no-edge R N h
+    step-ended h = (refl, refl, λ A s R. no-edge R N h)
 
     module _ (h : place < p .pivotal) where
       pub step-tries : TriesEdge es only to t sc shut walk g (nextAt p place) (getD order place 0)
