@@ -136,9 +136,47 @@ join-since f v p q h e = go (treeAt (f .trees) v) refl
             let w : ok (record { edges = p .edges; score = p .score; active = p .active ++ b ∷ []; visited = v ∷ p .visited; since = 0 }) ≡ ok q = sym (rw (k, y, z, joinTree)) ∙ e in
             let u : _≡_ {A = ℕ} 0 (q .since) = ap (λ (r : Path Float). r .since) (same-ok w) in
             omega arith
-        branchy true y false z = no-refused (sym (rw (k, y, z, joinTree)) ∙ e)
+        branchy true y false z = no-refused {k = 11} (sym (rw (k, y, z, joinTree)) ∙ e)
 
 -- ---- the steps, one after the other
+
+-- how much further a closing has brought the search
+record Closer (p p₁ : Progress) : Type 0 where
+  records : p₁ .records ≡ firstNew p p₁
+  records-high : p₁ .records ≤ p .records + 1
+  closed-low : p .closed ≤ p₁ .closed
+  closed-high : p₁ .closed ≤ p .closed + 1
+  waiting : p₁ .waiting ≡ p .waiting
+  next : p₁ .next ≡ p .next
+  pivotal : p₁ .pivotal ≡ p .pivotal
+  pushes : p₁ .pushes ≡ p .pushes
+  mark : p₁ .mark ≡ p .mark
+
+closer-of : (p p₁ : Progress) → (p₁ ≡ p) ⊎ (p₁ ≡ withClosed p) → Closer p p₁
+closer-of p p₁ (inl e) =
+    subst (Closer p) (sym e) (record {
+      records = omega arith;
+      records-high = omega arith;
+      closed-low = omega arith;
+      closed-high = omega arith;
+      waiting = refl;
+      next = refl;
+      pivotal = refl;
+      pushes = refl;
+      mark = refl;
+    })
+closer-of p p₁ (inr e) =
+    subst (Closer p) (sym e) (record {
+      records = omega arith;
+      records-high = omega arith;
+      closed-low = omega arith;
+      closed-high = omega arith;
+      waiting = refl;
+      next = refl;
+      pivotal = refl;
+      pushes = refl;
+      mark = refl;
+    })
 
 -- what is kept of all records is kept of those but one
 kept-but : (f : SearchInput) (es only to : List ℕ) (bs : ℕ → List Branches) (t : List ℕ) (sc : List Float) (bs′ : ℕ → List Branches) (t′ : List ℕ) (sc′ : List Float) (n r : ℕ)
@@ -220,46 +258,8 @@ module _ (f : SearchInput) (g : Setting) (vs es x only to : List ℕ) (column : 
       pub takes : Taking g vs es x only to t₂ sc₂ ac₁ (p₁ .records) taken f (C .branches)
       takes = record { ground = E .ground; records = C .holds .records; known = C .known; follows = C .following }
 
-      -- how much further the closing has brought the search
-      pub record Closer : Type 0 where
-        pub records : p₁ .records ≡ firstNew p p₁
-        pub records-high : p₁ .records ≤ p .records + 1
-        pub closed-low : p .closed ≤ p₁ .closed
-        pub closed-high : p₁ .closed ≤ p .closed + 1
-        pub waiting : p₁ .waiting ≡ p .waiting
-        pub next : p₁ .next ≡ p .next
-        pub pivotal : p₁ .pivotal ≡ p .pivotal
-        pub pushes : p₁ .pushes ≡ p .pushes
-        pub mark : p₁ .mark ≡ p .mark
-
-      closer : Closer
-      closer = go (C .progress)
-        where
-          go : (p₁ ≡ p) ⊎ (p₁ ≡ withClosed p) → Closer
-          go (inl e) =
-              rw e (record {
-                records = omega arith;
-                records-high = omega arith;
-                closed-low = omega arith;
-                closed-high = omega arith;
-                waiting = refl;
-                next = refl;
-                pivotal = refl;
-                pushes = refl;
-                mark = refl;
-              })
-          go (inr e) =
-              rw e (record {
-                records = omega arith;
-                records-high = omega arith;
-                closed-low = omega arith;
-                closed-high = omega arith;
-                waiting = refl;
-                next = refl;
-                pivotal = refl;
-                pushes = refl;
-                mark = refl;
-              })
+      closer : Closer p p₁
+      closer = closer-of p p₁ (C .progress)
 
       pub extends : (out : List ℕ) → 32 ≤ length out → Extends g vs es x only to column t₂ sc₂ ac₁ out (p₁ .records) taken
       extends out rows =
