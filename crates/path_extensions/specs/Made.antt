@@ -1,16 +1,14 @@
 -- What stands when a path is taken, and records made after it: the earlier ones stay, and the new ones are the definition's paths.
-use mathlib.Core.Path.{_≡_, refl, sym, ap, subst, _∙_}
-use mathlib.Core.Logic.{_⊎_, inl, inr, _≢_}
+use mathlib.Core.Path.{_≡_, refl, sym, ap, _∙_}
 use mathlib.Core.List.{List, [], _∷_, _++_, map, map-append}
-use Prim.Native.Nat.{ℕ, zero, suc, _+_, _-_, _*_, _<_, _≤_}
+use Prim.Native.Nat.{ℕ, zero, suc, _+_, _-_, _<_, _≤_}
 use native.Mathlib.Decide.{decLt}
 use native.Mathlib.Omega.{arith}
-use lib.ListN.{length}
 use lib.Ieee.{Float}
 use Rattle.definition.specs.Evidence.{Branches}
 use Rattle.definition.specs.Search.{SearchInput, Path}
 use Rattle.path_store.specs.declared.growth.Taken.{Taken}
-use Rattle.path_store.specs.Cells.{scoreOf, endOf, treesOf, sinceOf}
+use Rattle.path_store.specs.Cells.{scoreOf, endOf}
 use Rattle.path_store.specs.Path.{Same, table-front}
 use Rattle.path_store.specs.Grow.{Following}
 use Rattle.path_store.specs.Held.{Held}

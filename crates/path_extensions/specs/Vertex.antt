@@ -1,8 +1,8 @@
 -- The extensions of a taken path at the vertex that its chain leads to (Rust: process_vertex).
 use mathlib.Core.Path.{_≡_, refl, sym, ap, subst, _∙_}
-use mathlib.Core.Bool.{Bool, true, false}
+use mathlib.Core.Bool.{true}
 use mathlib.Core.List.{List, [], _∷_}
-use Prim.Native.Nat.{ℕ, zero, suc, _+_, _-_, _*_, _^_, _<_, _≤_}
+use Prim.Native.Nat.{ℕ, _+_, _-_, _*_, _^_, _<_, _≤_}
 use native.Mathlib.Nat.{mul-le-mul-right}
 use native.Mathlib.Omega.{arith}
 use lib.ListN.{length}
@@ -21,7 +21,7 @@ use Rattle.assembly.specs.Outs.{Slots, Names, Nexts, outFrom}
 use Rattle.threading_tree.specs.Ends.{ends}
 use Rattle.pivotal_edges.specs.Walk.{leaving-from, next-asks, next-is, next-none, next-some, next-in, next-row, next-fits, next-again}
 use Rattle.pivotal_edges.specs.Walk as outs
-use Rattle.fork_offers.specs.Actives.{Actives, Active}
+use Rattle.fork_offers.specs.Actives.{Actives}
 use Rattle.fork_offers.specs.Rows.{offerAt, offersOf, Few}
 use Rattle.fork_offers.specs.Offers.{Forks, Offers, smalls-of}
 use Rattle.path_store.specs.declared.growth.Taken.{Taken}
@@ -35,8 +35,8 @@ use Rattle.search_state.specs.Ground.{Ground}
 use Rattle.search_state.specs.State.{pathOf, Records}
 use Rattle.search_ground.specs.Offers.{actives-few}
 use Rattle.path_extensions.specs.declared.Extended.{Extended}
-use Rattle.path_extensions.specs.declared.Extended.the-variants.{Made, Refused}
-use Rattle.path_extensions.specs.Made.{Here, MadeTo, made-none}
+use Rattle.path_extensions.specs.declared.Extended.the-variants.{Made}
+use Rattle.path_extensions.specs.Made.{Here, made-none}
 use Rattle.path_extensions.specs.One.{Run, Answers, Wanted, chainOf, Gives, Place, Stands}
 use Rattle.path_extensions.specs.Each.{Rooms, rooms-place, OffersStand, allTried}
 use Rattle.path_extensions.specs.Alone.{AloneStands, alone, alone-is}

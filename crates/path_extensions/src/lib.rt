@@ -36,7 +36,7 @@ pub enum Extended {
 
 // A way on from a taken path beyond its chain: the edge, the score of the extension, whether a tree offers the edge, and whether it is the only way on,
 // which costs no decision.
-pub struct Way {
+struct Way {
     pub edge: u32,
     pub score: f64,
     pub guided: bool,
