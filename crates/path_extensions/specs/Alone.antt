@@ -2,12 +2,12 @@
 use mathlib.Core.Path.{_≡_, refl, sym, ap, subst, _∙_}
 use mathlib.Core.Bool.{Bool, true, false, not, _||_}
 use mathlib.Core.List.{List, [], _∷_, map}
-use Prim.Native.Nat.{ℕ, zero, suc, _+_, _*_, _<_, _≤_}
+use Prim.Native.Nat.{ℕ, _+_, _*_, _<_, _≤_}
 use native.Mathlib.Omega.{arith}
 use borrow.Author.Tests.{eq-eqb, ne-eqb}
 use lib.Dec.{eqb, leb}
 use lib.ListN.{length}
-use lib.Ieee.{Float, isNan}
+use lib.Ieee.{Float}
 use Rattle.laws.specs.Lists.{isEmpty}
 use Rattle.definition.specs.Refusal.{Result, ok, refused, andThen}
 use Rattle.definition.specs.Score.{Scoring}
@@ -29,7 +29,7 @@ use Rattle.search_state.specs.State.{pathOf}
 use Rattle.path_extensions.specs.declared.Extended.{Extended}
 use Rattle.path_extensions.specs.declared.Extended.the-variants.{Made, Refused}
 use Rattle.path_extensions.specs.declared.Way.{Way}
-use Rattle.path_extensions.specs.Made.{Here, MadeTo, made-none}
+use Rattle.path_extensions.specs.Made.{Here, made-none}
 use Rattle.path_extensions.specs.One.{Run, Answers, Wanted, chainOf, Gives, Place, Stands, Lengthens, lengthened, empty-is}
 
 -- ---- whether the path goes on: it has an active tree, or the vertex stands in it at most once

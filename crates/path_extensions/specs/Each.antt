@@ -1,5 +1,5 @@
 -- All offers of a fork in turn: what the loop over the rows keeps.
-use mathlib.Core.Path.{_≡_, refl, sym, ap, subst, _∙_}
+use mathlib.Core.Path.{_≡_, refl, sym, ap, _∙_}
 use mathlib.Core.Bool.{Bool, true, false, cond}
 use mathlib.Core.List.{List, [], _∷_, _++_, map, map-append, append-assoc}
 use Prim.Native.Nat.{ℕ, zero, suc, _+_, _-_, _*_, _<_, _≤_}
@@ -9,7 +9,6 @@ use native.Mathlib.Omega.{arith}
 use lib.ListN.{length}
 use lib.Ieee.{Float}
 use Rattle.laws.specs.Lists.{keep}
-use Rattle.laws.specs.Records.{field}
 use Rattle.laws.specs.Rows.{rows, rows-more, length-rows}
 use Rattle.definition.specs.Refusal.{Result, ok, refused, andThen, each}
 use Rattle.definition.specs.Limits.{columnFits}
@@ -24,8 +23,8 @@ use Rattle.search_state.specs.State.{pathOf, upFrom}
 use Rattle.path_extensions.specs.declared.Extended.{Extended}
 use Rattle.path_extensions.specs.declared.Extended.the-variants.{Made, Refused}
 use Rattle.path_extensions.specs.Made.{Here, MadeTo, made-none, made-both, here-after, up-append}
-use Rattle.path_extensions.specs.One.{Run, Answers, Wanted, chainOf, Gives, Place, Stands}
-use Rattle.path_extensions.specs.Offer.{OfferStands, extended, tried}
+use Rattle.path_extensions.specs.One.{Run, Wanted, chainOf, Gives, Place, Stands}
+use Rattle.path_extensions.specs.Offer.{OfferStands, tried}
 
 -- there is room for eight records from n on
 pub record Rooms (g : Setting) (t : List ℕ) (sc : List Float) (ac : List ℕ) (n : ℕ) : Type 0 where

@@ -1,23 +1,22 @@
 -- What stands when a path is taken, and records made after it: the earlier ones stay, and the new ones are the definition's paths.
-use mathlib.Core.Path.{_≡_, refl, sym, ap, subst, _∙_}
-use mathlib.Core.Logic.{_⊎_, inl, inr, _≢_}
+use mathlib.Core.Path.{_≡_, refl, sym, ap, _∙_}
+use mathlib.Core.Logic.{_≢_}
 use mathlib.Core.List.{List, [], _∷_, _++_, map, map-append}
-use Prim.Native.Nat.{ℕ, zero, suc, _+_, _-_, _*_, _<_, _≤_}
+use Prim.Native.Nat.{ℕ, zero, suc, _+_, _-_, _<_, _≤_}
 use native.Mathlib.Decide.{decLt}
 use native.Mathlib.Omega.{arith}
-use lib.ListN.{length}
 use lib.Ieee.{Float}
 use Rattle.definition.specs.Evidence.{Branches}
 use Rattle.definition.specs.Search.{SearchInput, Path}
 use Rattle.path_store.specs.declared.growth.Taken.{Taken}
-use Rattle.path_store.specs.Cells.{scoreOf, endOf, treesOf, sinceOf}
+use Rattle.path_store.specs.Cells.{parentOf, scoreOf, endOf}
 use Rattle.path_store.specs.Path.{Same, table-front}
 use Rattle.path_store.specs.Grow.{Following}
 use Rattle.path_store.specs.Held.{Held}
 use Rattle.path_store.specs.View.{viewOf, view-kept, closed-kept}
 use Rattle.search_state.specs.declared.Setting.{Setting}
 use Rattle.search_state.specs.Ground.{Ground, nameOf}
-use Rattle.search_state.specs.State.{pathOf, Records, Kept, New, upFrom}
+use Rattle.search_state.specs.State.{pathOf, Records, Kept, New, Idle, upFrom}
 
 -- the search's tables, of which n records are made, and a taken one of them with the chain after it
 pub record Here (g : Setting) (es x only to t : List ℕ) (sc : List Float) (ac : List ℕ) (n : ℕ) (taken : Taken) (f : SearchInput) (bs : ℕ → List Branches) : Type 0 where
@@ -190,3 +189,20 @@ here-after g es x only to t sc ac n taken f bs H t′ sc′ ac′ n′ ps M =
       known = omega arith;
       follows = record { path = refl; chain = rw e (H .follows .chain); vertex = rw e (H .follows .vertex) };
     }
+
+-- ---- for callers
+
+-- all records stay, so all but any one do
+pub kept-but : {f : SearchInput} {es only to : List ℕ} {bs : ℕ → List Branches} {t : List ℕ} {sc : List Float} {bs′ : ℕ → List Branches} {t′ : List ℕ} {sc′ : List Float} {n : ℕ} (r : ℕ)
+    → Kept f es only to bs t sc bs′ t′ sc′ n n → Kept f es only to bs t sc bs′ t′ sc′ n r
+kept-but r K =
+    record { path = λ q l m. K .path q l (omega arith); closed = K .closed; joined = λ q l m. K .joined q l (omega arith); parent = K .parent; score = K .score }
+
+-- a new record may wait
+pub made-idle : {f : SearchInput} {g : Setting} {es x only to : List ℕ} {bs : ℕ → List Branches} {t : List ℕ} {sc : List Float} {n path : ℕ} {t′ : List ℕ} {sc′ : List Float} {ac′ : List ℕ} {n′ : ℕ}
+    {ps : List (Path Float)} → MadeTo f g es x only to bs t sc n path t′ sc′ ac′ n′ ps → path < n → (q : ℕ) → n ≤ q → q < n′ → Idle t′ n′ q
+made-idle {n} {path} {t′} {n′} M k q l m = record { known = m; unjoined = M .new .unjoined q l m; childless = λ i h. apart i h (decLt i n) }
+  where
+    apart : (i : ℕ) → i < n′ → Dec (i < n) → parentOf t′ i ≢ suc q
+    apart i h (yes d) e = let a = M .records .held .table .rows i h .rises in omega arith
+    apart i h (no d) e = let a = M .new .parent i (omega arith) h in omega arith

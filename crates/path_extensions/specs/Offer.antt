@@ -1,7 +1,6 @@
 -- One offer of a fork becomes an extension, which the repeat rule keeps or gives up.
 use mathlib.Core.Path.{_≡_, refl, sym, ap, subst, _∙_}
-use mathlib.Core.Logic.{_⊎_, inl, inr}
-use mathlib.Core.Bool.{Bool, true, false, not, cond}
+use mathlib.Core.Bool.{Bool, true, false, not}
 use mathlib.Core.List.{List, [], _∷_, map}
 use mathlib.Core.Option.{Option, none, some}
 use Prim.Native.Nat.{ℕ, zero, suc, _+_, _-_, _*_, _<_, _≤_}
@@ -15,7 +14,7 @@ use Rattle.definition.specs.Refusal.{Result, ok, refused, andThen}
 use Rattle.definition.specs.Limits.{columnFits}
 use Rattle.definition.specs.Score.{columnPenalty, columnScoring}
 use Rattle.definition.specs.Evidence.{Branches}
-use Rattle.definition.specs.Search.{SearchInput, Path, Offer, extend, repeatRule}
+use Rattle.definition.specs.Search.{SearchInput, Path, extend, repeatRule}
 use Rattle.definition.proofs.Column.{column-keeps}
 use Rattle.kbest_haplotype.specs.declared.Penalty.{Penalty}
 use Rattle.kbest_haplotype.specs.Penalties.{penaltyOf}
@@ -24,14 +23,14 @@ use Rattle.path_store.specs.declared.growth.Taken.{Taken}
 use Rattle.path_store.specs.Cells.{scoreOf}
 use Rattle.path_store.specs.Path.{Table, table-front}
 use Rattle.path_store.specs.Visit.{keeps}
-use Rattle.path_store.specs.View.{viewOf, keeps-view}
+use Rattle.path_store.specs.View.{keeps-view}
 use Rattle.search_state.specs.declared.Setting.{Setting}
 use Rattle.search_state.specs.Ground.{nameOf}
 use Rattle.search_state.specs.State.{pathOf, upFrom}
 use Rattle.path_extensions.specs.declared.Extended.{Extended}
 use Rattle.path_extensions.specs.declared.Extended.the-variants.{Made, Refused}
 use Rattle.path_extensions.specs.declared.Way.{Way}
-use Rattle.path_extensions.specs.Made.{Here, MadeTo, given-up, up-one}
+use Rattle.path_extensions.specs.Made.{Here, given-up, up-one}
 use Rattle.path_extensions.specs.One.{Run, Answers, Wanted, chainOf, Gives, Place, Stands, Lengthens, lengthened}
 
 -- ---- the score

@@ -1,16 +1,16 @@
 -- One extension of the taken path (Rust: extend_with_edges).
-use mathlib.Core.Path.{_≡_, refl, sym, ap, subst, _∙_}
-use mathlib.Core.Logic.{_⊎_, inl, inr, _≢_}
+use mathlib.Core.Path.{_≡_, refl, sym, ap, _∙_}
+use mathlib.Core.Logic.{inr, _≢_}
 use mathlib.Core.Bool.{Bool, true, false, not, _||_, cond}
 use mathlib.Core.List.{List, [], _∷_, map}
-use Prim.Native.Nat.{ℕ, zero, suc, _+_, _-_, _*_, _/_, _^_, _<_, _≤_}
+use Prim.Native.Nat.{ℕ, suc, _+_, _-_, _*_, _/_, _<_, _≤_}
 use native.Mathlib.Decide.{ℕ-discrete}
 use native.Mathlib.Nat.{mul-le-mul-right}
 use native.Mathlib.Numerals.{add-one}
 use native.Mathlib.Omega.{arith}
 use borrow.Author.Tests.{eq-eqb, ne-eqb}
 use lib.Dec.{eqb}
-use lib.ListN.{length, getD, set}
+use lib.ListN.{length, set}
 use lib.Seq.{getD-set-same, getD-set-other}
 use lib.Ieee.{Float, nan, isNan}
 use Rattle.laws.specs.Lists.{isEmpty}
@@ -30,7 +30,7 @@ use Rattle.path_store.specs.declared.growth.PathAnswer.the-variants as answers
 use Rattle.path_store.specs.declared.growth.Taken.{Taken}
 use Rattle.path_store.specs.declared.growth.Extension.{Extension}
 use Rattle.path_store.specs.declared.records.PathRecord.{PathRecord}
-use Rattle.path_store.specs.Cells.{parentOf, countOf, joinedOf, sinceOf, treesOf, scoreOf, Inside, pathAt, putCells, put-at, put-other, put-trees}
+use Rattle.path_store.specs.Cells.{countOf, sinceOf, treesOf, scoreOf, Inside, pathAt, putCells, put-at, put-trees}
 use Rattle.path_store.specs.Path.{Same}
 use Rattle.path_store.specs.Path as paths
 use Rattle.path_store.specs.Push.{put-same}
@@ -54,6 +54,12 @@ pub record Run (f : SearchInput) (g : Setting) (es x only to : List ℕ) (bs : �
   pub is : want ≡ ok paths
   pub made : MadeTo f g es x only to bs t sc n path t′ sc′ ac′ n′ paths
   pub most : n′ ≤ n + few
+
+-- the paths that the definition wants are the new records, in their order
+pub run-is : {f : SearchInput} {g : Setting} {es x only to : List ℕ} {bs : ℕ → List Branches} {t : List ℕ} {sc : List Float} {n path : ℕ} {t′ : List ℕ} {sc′ : List Float} {ac′ : List ℕ}
+    {few : ℕ} {want : Result (List (Path Float))} {n′ : ℕ} (R : Run f g es x only to bs t sc n path t′ sc′ ac′ few want n′)
+    → want ≡ ok (map (pathOf f es only to (R .made .bs′) t′ sc′) (upFrom n (n′ - n)))
+run-is R = R .is ∙ ap ok (R .made .is)
 
 -- by the answer: the records, or the definition's refusal
 abbrev pub Answers : (ℕ → Type 0) → (ℕ → Type 0) → Extended → Type 0

@@ -1,8 +1,8 @@
 -- The extensions of a taken path at the vertex that its chain leads to (Rust: process_vertex).
 use mathlib.Core.Path.{_≡_, refl, sym, ap, subst, _∙_}
-use mathlib.Core.Bool.{Bool, true, false}
+use mathlib.Core.Bool.{true}
 use mathlib.Core.List.{List, [], _∷_}
-use Prim.Native.Nat.{ℕ, zero, suc, _+_, _-_, _*_, _^_, _<_, _≤_}
+use Prim.Native.Nat.{ℕ, _+_, _-_, _*_, _^_, _<_, _≤_}
 use native.Mathlib.Nat.{mul-le-mul-right}
 use native.Mathlib.Omega.{arith}
 use lib.ListN.{length}
@@ -21,7 +21,7 @@ use Rattle.assembly.specs.Outs.{Slots, Names, Nexts, outFrom}
 use Rattle.threading_tree.specs.Ends.{ends}
 use Rattle.pivotal_edges.specs.Walk.{leaving-from, next-asks, next-is, next-none, next-some, next-in, next-row, next-fits, next-again}
 use Rattle.pivotal_edges.specs.Walk as outs
-use Rattle.fork_offers.specs.Actives.{Actives, Active}
+use Rattle.fork_offers.specs.Actives.{Actives}
 use Rattle.fork_offers.specs.Rows.{offerAt, offersOf, Few}
 use Rattle.fork_offers.specs.Offers.{Forks, Offers, smalls-of}
 use Rattle.path_store.specs.declared.growth.Taken.{Taken}
@@ -35,8 +35,8 @@ use Rattle.search_state.specs.Ground.{Ground}
 use Rattle.search_state.specs.State.{pathOf, Records}
 use Rattle.search_ground.specs.Offers.{actives-few}
 use Rattle.path_extensions.specs.declared.Extended.{Extended}
-use Rattle.path_extensions.specs.declared.Extended.the-variants.{Made, Refused}
-use Rattle.path_extensions.specs.Made.{Here, MadeTo, made-none}
+use Rattle.path_extensions.specs.declared.Extended.the-variants.{Made}
+use Rattle.path_extensions.specs.Made.{Here, made-none}
 use Rattle.path_extensions.specs.One.{Run, Answers, Wanted, chainOf, Gives, Place, Stands}
 use Rattle.path_extensions.specs.Each.{Rooms, rooms-place, OffersStand, allTried}
 use Rattle.path_extensions.specs.Alone.{AloneStands, alone, alone-is}
@@ -181,109 +181,109 @@ unfolding extensions
 extensions-none 𝓢 f p c v l h = rw h
 
 module _ {g : Setting} {vs es x only to : List ℕ} {column : List Float} {t : List ℕ} {sc : List Float} {ac out : List ℕ} {n : ℕ} {taken : Taken} (E : Extends g vs es x only to column t sc ac out n taken)
-    where
-  stands-of : Stands g es x only to t sc ac n taken
-  stands-of = record { input = E .input; trees = E .trees; here = here-of (E .taking); guided = E .guided }
+  where
+    stands-of : Stands g es x only to t sc ac n taken
+    stands-of = record { input = E .input; trees = E .trees; here = here-of (E .taking); guided = E .guided }
 
-  place-of : Place g t sc ac n
-  place-of = rooms-place g t sc ac n (E .rooms) t sc ac n refl refl refl (omega arith)
+    place-of : Place g t sc ac n
+    place-of = rooms-place g t sc ac n (E .rooms) t sc ac n refl refl refl (omega arith)
 
-  -- what another way to say it gives
-  gives-as : (want : Wanted) (r : Extended) (t′ : List ℕ) (sc′ : List Float) (ac′ : List ℕ) → Gives g es x only to t sc ac n taken 6 want r t′ sc′ ac′
-      → ((f : SearchInput) (bs : ℕ → List Branches) → Taking g vs es x only to t sc ac n taken f bs
-          → want f (pathOf f es only to bs t sc (taken .path)) ≡ extensionsAt column (taken .vertex) f (pathOf f es only to bs t sc (taken .path)))
-      → Extensions g vs es x only to column t sc ac n taken r t′ sc′ ac′
-  gives-as want r t′ sc′ ac′ G e =
-      record {
-        is = λ f bs H.
-            subst (λ (w : Result (List (Path Float))). Answers (Run f g es x only to bs t sc n (taken .path) t′ sc′ ac′ 6 w) (λ k. w ≡ refused k) r) (e f bs H) (G .is f bs (here-of H));
-      }
+    -- what another way to say it gives
+    gives-as : (want : Wanted) (r : Extended) (t′ : List ℕ) (sc′ : List Float) (ac′ : List ℕ) → Gives g es x only to t sc ac n taken 6 want r t′ sc′ ac′
+        → ((f : SearchInput) (bs : ℕ → List Branches) → Taking g vs es x only to t sc ac n taken f bs
+        → want f (pathOf f es only to bs t sc (taken .path)) ≡ extensionsAt column (taken .vertex) f (pathOf f es only to bs t sc (taken .path)))
+        → Extensions g vs es x only to column t sc ac n taken r t′ sc′ ac′
+    gives-as want r t′ sc′ ac′ G e =
+        record {
+          is = λ f bs H.
+              subst (λ (w : Result (List (Path Float))). Answers (Run f g es x only to bs t sc n (taken .path) t′ sc′ ac′ 6 w) (λ k. w ≡ refused k) r) (e f bs H) (G .is f bs (here-of H));
+        }
 
-  module _ {v : ℕ} (hv : v ≡ taken .vertex) where
-    pub outs-here : outs.Here vs es (g .edges) v
-    outs-here = vertex-here (E .taking) hv
+    module _ {v : ℕ} (hv : v ≡ taken .vertex) where
+      pub outs-here : outs.Here vs es (g .edges) v
+      outs-here = vertex-here (E .taking) hv
 
-    pub first-asks : (v * 12 + 12 ≤ length vs) × ((c : ℕ) → c < 8 → Names es (field vs 12 v c))
-    first-asks = next-asks outs-here
+      pub first-asks : (v * 12 + 12 ≤ length vs) × ((c : ℕ) → c < 8 → Names es (field vs 12 v c))
+      first-asks = next-asks outs-here
 
-    module _ {first : ℕ} (all : (m : ℕ) → Slots vs es m v → Nexts es m v 0 first) where
-      nexts : Nexts es (g .edges) v 0 first
-      nexts = next-is outs-here all
+      module _ {first : ℕ} (all : (m : ℕ) → Slots vs es m v → Nexts es m v 0 first) where
+        nexts : Nexts es (g .edges) v 0 first
+        nexts = next-is outs-here all
 
-      pub vertex-none : first ≡ 0 → Extensions g vs es x only to column t sc ac n taken (Made n) t sc ac
-      vertex-none h =
-          record {
-            is = λ f bs H.
-                let e : leaving (f .edges) (taken .vertex) ≡ [] = sym (leaving-is H hv) ∙ sym (leaving-from (edgesOf es (g .edges)) v) ∙ next-none outs-here nexts (omega arith) in
-                let p = pathOf f es only to bs t sc (taken .path) in
-                record {
-                  paths = [];
-                  is = extensions-none (columnScoring column) f p (chainOf f p) (taken .vertex) (leaving (f .edges) (taken .vertex)) e;
-                  made = made-none f g es x only to bs t sc n ac (taken .path) (H .records);
-                  most = omega arith;
-                };
-          }
+        pub vertex-none : first ≡ 0 → Extensions g vs es x only to column t sc ac n taken (Made n) t sc ac
+        vertex-none h =
+            record {
+              is = λ f bs H.
+                  let e : leaving (f .edges) (taken .vertex) ≡ [] = sym (leaving-is H hv) ∙ sym (leaving-from (edgesOf es (g .edges)) v) ∙ next-none outs-here nexts (omega arith) in
+                  let p = pathOf f es only to bs t sc (taken .path) in
+                  record {
+                    paths = [];
+                    is = extensions-none (columnScoring column) f p (chainOf f p) (taken .vertex) (leaving (f .edges) (taken .vertex)) e;
+                    made = made-none f g es x only to bs t sc n ac (taken .path) (H .records);
+                    most = omega arith;
+                  };
+            }
 
-      module _ (ne : first ≡ 0 → ⊥) where
-        some-first : 0 < first
-        some-first = omega arith
+        module _ (ne : first ≡ 0 → ⊥) where
+          some-first : 0 < first
+          some-first = omega arith
 
-        pub first-row : (first - 1) * 6 + 6 ≤ length es
-        first-row = next-row outs-here nexts some-first
+          pub first-row : (first - 1) * 6 + 6 ≤ length es
+          first-row = next-row outs-here nexts some-first
 
-        pub first-low : first - 1 < 8192
-        first-low = let a = next-in outs-here nexts some-first in let b = E .taking .ground .linked .few in omega arith
+          pub first-low : first - 1 < 8192
+          first-low = let a = next-in outs-here nexts some-first in let b = E .taking .ground .linked .few in omega arith
 
-        begins : leaving (edgesOf es (g .edges)) v ≡ edgeAt es (first - 1) ∷ outFrom (edgesOf es (g .edges)) v (field es 6 (first - 1) 1 + 1)
-        begins = sym (leaving-from (edgesOf es (g .edges)) v) ∙ next-some outs-here nexts some-first
+          begins : leaving (edgesOf es (g .edges)) v ≡ edgeAt es (first - 1) ∷ outFrom (edgesOf es (g .edges)) v (field es 6 (first - 1) 1 + 1)
+          begins = sym (leaving-from (edgesOf es (g .edges)) v) ∙ next-some outs-here nexts some-first
 
-        module _ {w : ℕ} (hw : w ≡ field es 6 (first - 1) 1) where
-          pub target-fits : w + 1 ≤ length vs
-          target-fits = next-fits outs-here nexts some-first hw
+          module _ {w : ℕ} (hw : w ≡ field es 6 (first - 1) 1) where
+            pub target-fits : w + 1 ≤ length vs
+            target-fits = next-fits outs-here nexts some-first hw
 
-          module _ {second : ℕ} (again : (m : ℕ) → Slots vs es m v → Nexts es m v (w + 1) second) where
-            later : Nexts es (g .edges) v (field es 6 (first - 1) 1 + 1) second
-            later = next-again outs-here nexts some-first hw again
+            module _ {second : ℕ} (again : (m : ℕ) → Slots vs es m v → Nexts es m v (w + 1) second) where
+              later : Nexts es (g .edges) v (field es 6 (first - 1) 1 + 1) second
+              later = next-again outs-here nexts some-first hw again
 
-            module _ (h : second ≡ 0) where
-              one-edge : {f : SearchInput} {bs : ℕ → List Branches} → Taking g vs es x only to t sc ac n taken f bs → leaving (f .edges) (taken .vertex) ≡ edgeAt es (first - 1) ∷ []
-              one-edge H = sym (leaving-is H hv) ∙ begins ∙ ap (λ (l : List Edge). edgeAt es (first - 1) ∷ l) (next-none outs-here later (omega arith))
+              module _ (h : second ≡ 0) where
+                one-edge : {f : SearchInput} {bs : ℕ → List Branches} → Taking g vs es x only to t sc ac n taken f bs → leaving (f .edges) (taken .vertex) ≡ edgeAt es (first - 1) ∷ []
+                one-edge H = sym (leaving-is H hv) ∙ begins ∙ ap (λ (l : List Edge). edgeAt es (first - 1) ∷ l) (next-none outs-here later (omega arith))
 
-              pub alone-stands : AloneStands g es x only to t sc ac n taken (first - 1)
-              alone-stands = record { stands = stands-of; place = place-of; edge-in = next-in outs-here nexts some-first }
+                pub alone-stands : AloneStands g es x only to t sc ac n taken (first - 1)
+                alone-stands = record { stands = stands-of; place = place-of; edge-in = next-in outs-here nexts some-first }
 
-              pub vertex-alone : {r : Extended} {t′ : List ℕ} {sc′ : List Float} {ac′ : List ℕ} → Gives g es x only to t sc ac n taken 6 (alone es (taken .vertex) (first - 1)) r t′ sc′ ac′
-                  → Extensions g vs es x only to column t sc ac n taken r t′ sc′ ac′
-              vertex-alone {r} {t′} {sc′} {ac′} G =
-                  gives-as (alone es (taken .vertex) (first - 1)) r t′ sc′ ac′ G
-                  (λ f bs H.
-                      let p = pathOf f es only to bs t sc (taken .path) in
-                      sym
-                      (ap (extensions (columnScoring column) f p (chainOf f p) (taken .vertex)) (one-edge H) ∙ alone-is (columnScoring column) es (taken .vertex) (first - 1) f p))
-
-            module _ (h : second ≡ 0 → ⊥) where
-              two-edges : {f : SearchInput} {bs : ℕ → List Branches} → Taking g vs es x only to t sc ac n taken f bs
-                  → leaving (f .edges) (taken .vertex) ≡ edgeAt es (first - 1) ∷ edgeAt es (second - 1) ∷ outFrom (edgesOf es (g .edges)) v (field es 6 (second - 1) 1 + 1)
-              two-edges H = sym (leaving-is H hv) ∙ begins ∙ ap (λ (l : List Edge). edgeAt es (first - 1) ∷ l) (next-some outs-here later (omega arith))
-
-              module _ {k : ℕ} {out′ : List ℕ} (L : Listed g vs es x t sc ac taken out′ k) where
-                pub vertex-fork : {r : Extended} {t′ : List ℕ} {sc′ : List Float} {ac′ : List ℕ} → Gives g es x only to t sc ac n taken 6 (allTried column es out′ k) r t′ sc′ ac′
+                pub vertex-alone : {r : Extended} {t′ : List ℕ} {sc′ : List Float} {ac′ : List ℕ} → Gives g es x only to t sc ac n taken 6 (alone es (taken .vertex) (first - 1)) r t′ sc′ ac′
                     → Extensions g vs es x only to column t sc ac n taken r t′ sc′ ac′
-                vertex-fork {r} {t′} {sc′} {ac′} G =
-                    gives-as (allTried column es out′ k) r t′ sc′ ac′ G
+                vertex-alone {r} {t′} {sc′} {ac′} G =
+                    gives-as (alone es (taken .vertex) (first - 1)) r t′ sc′ ac′ G
                     (λ f bs H.
-                        let p = pathOf f es only to bs t sc (taken .path) in
-                        ap (λ (os : List Offer). andThen (each (extend (columnScoring column) f p (chainOf f p)) os) (λ qs. ok (keep (repeatRule f) qs))) (L .is only to n f bs H)
-                        ∙ sym
-                        (extensions-fork (columnScoring column) f p (chainOf f p) (taken .vertex) (leaving (f .edges) (taken .vertex)) (edgeAt es (first - 1)) (edgeAt es (second - 1))
-                        (outFrom (edgesOf es (g .edges)) v (field es 6 (second - 1) 1 + 1)) (two-edges H)))
+                    let p = pathOf f es only to bs t sc (taken .path) in
+                    sym
+                    (ap (extensions (columnScoring column) f p (chainOf f p) (taken .vertex)) (one-edge H) ∙ alone-is (columnScoring column) es (taken .vertex) (first - 1) f p))
 
-  pub lists-of : Lists g vs es x t sc ac out taken
-  lists-of = record { only = only; to = to; records = n; input = E .input; trees = E .trees; taking = E .taking; rows = E .rows }
+              module _ (h : second ≡ 0 → ⊥) where
+                two-edges : {f : SearchInput} {bs : ℕ → List Branches} → Taking g vs es x only to t sc ac n taken f bs
+                    → leaving (f .edges) (taken .vertex) ≡ edgeAt es (first - 1) ∷ edgeAt es (second - 1) ∷ outFrom (edgesOf es (g .edges)) v (field es 6 (second - 1) 1 + 1)
+                two-edges H = sym (leaving-is H hv) ∙ begins ∙ ap (λ (l : List Edge). edgeAt es (first - 1) ∷ l) (next-some outs-here later (omega arith))
 
-  module _ {k : ℕ} {out′ : List ℕ} (L : Listed g vs es x t sc ac taken out′ k) (long : length out′ ≡ length out) where
-    pub offers-stand : OffersStand g es x only to column t sc ac out′ n taken k
-    offers-stand =
-        let a = E .rows in
-        let b = L .few in
-        record { stands = stands-of; rooms = E .rooms; fits = E .fits; few = L .few; inside = omega arith; edges = L .edges }
+                module _ {k : ℕ} {out′ : List ℕ} (L : Listed g vs es x t sc ac taken out′ k) where
+                  pub vertex-fork : {r : Extended} {t′ : List ℕ} {sc′ : List Float} {ac′ : List ℕ} → Gives g es x only to t sc ac n taken 6 (allTried column es out′ k) r t′ sc′ ac′
+                      → Extensions g vs es x only to column t sc ac n taken r t′ sc′ ac′
+                  vertex-fork {r} {t′} {sc′} {ac′} G =
+                      gives-as (allTried column es out′ k) r t′ sc′ ac′ G
+                      (λ f bs H.
+                      let p = pathOf f es only to bs t sc (taken .path) in
+                      ap (λ (os : List Offer). andThen (each (extend (columnScoring column) f p (chainOf f p)) os) (λ qs. ok (keep (repeatRule f) qs))) (L .is only to n f bs H)
+                      ∙ sym
+                      (extensions-fork (columnScoring column) f p (chainOf f p) (taken .vertex) (leaving (f .edges) (taken .vertex)) (edgeAt es (first - 1)) (edgeAt es (second - 1))
+                      (outFrom (edgesOf es (g .edges)) v (field es 6 (second - 1) 1 + 1)) (two-edges H)))
+
+    pub lists-of : Lists g vs es x t sc ac out taken
+    lists-of = record { only = only; to = to; records = n; input = E .input; trees = E .trees; taking = E .taking; rows = E .rows }
+
+    module _ {k : ℕ} {out′ : List ℕ} (L : Listed g vs es x t sc ac taken out′ k) (long : length out′ ≡ length out) where
+      pub offers-stand : OffersStand g es x only to column t sc ac out′ n taken k
+      offers-stand =
+          let a = E .rows in
+          let b = L .few in
+          record { stands = stands-of; rooms = E .rooms; fits = E .fits; few = L .few; inside = omega arith; edges = L .edges }

@@ -17,16 +17,16 @@ use search_state::Setting;
 ghost use mathlib.Core.Path.{_≡_};
 ghost use mathlib.Core.List.{List};
 ghost use Prim.Native.Nat.{ℕ, _+_, _*_, _<_, _≤_};
-ghost use lib.ListN.{length, getD};
+ghost use lib.ListN.{length};
 ghost use Rattle.laws.specs.Records.{field};
 ghost use Rattle.kbest_haplotype.specs.Penalties.{penaltyOf};
 ghost use Rattle.path_store.specs.Cells.{scoreOf};
+ghost use Rattle.path_store.specs.Path.{Table};
+ghost use Rattle.path_extensions.specs.One.{decisions, Lengthens, lengthened, Gives};
 ghost use Rattle.path_extensions.specs.Offer.{offerScore, Offering, OfferStands, offered, tried};
 ghost use Rattle.path_extensions.specs.Each.{OffersStand, allTried};
-ghost use Rattle.path_store.specs.Path.{Table};
 ghost use Rattle.path_extensions.specs.Alone.{goesOn, AloneStands, alone};
 ghost use Rattle.path_extensions.specs.Vertex.{Lists, Listed, Extends, Extensions};
-ghost use Rattle.path_extensions.specs.One.{decisions, Lengthens, lengthened, Gives};
 
 // The number of the next free record once the extensions are made, or a refusal.
 pub enum Extended {
@@ -36,7 +36,7 @@ pub enum Extended {
 
 // A way on from a taken path beyond its chain: the edge, the score of the extension, whether a tree offers the edge, and whether it is the only way on,
 // which costs no decision.
-pub struct Way {
+struct Way {
     pub edge: u32,
     pub score: f64,
     pub guided: bool,
@@ -155,18 +155,7 @@ fn extend_by_offer(
         guided: offers[row * 4 + 3] != 0,
         free: false,
     };
-    extend_with_edges(
-        edges,
-        nodes,
-        to,
-        paths,
-        scores,
-        active,
-        g,
-        taken,
-        n,
-        way,
-    )
+    extend_with_edges(edges, nodes, to, paths, scores, active, g, taken, n, way)
 }
 
 // The same, but an extension that the repeat rule does not keep is given up: the next one takes its number.
@@ -234,7 +223,7 @@ fn extend_by_offers(
     let mut row: usize = 0;
     while row < rows {
         let step = try_offer(
-                edges,
+            edges,
             nodes,
             only,
             to,
@@ -379,7 +368,17 @@ pub fn process_vertex(
             edge as u32,
         );
     }
-    let rows = list_offers(vertices, edges, nodes, paths, scores, active, offers, g, taken);
+    let rows = list_offers(
+        vertices,
+        edges,
+        nodes,
+        paths,
+        scores,
+        active,
+        offers,
+        g,
+        taken,
+    );
     extend_by_offers(
         edges,
         nodes,

@@ -3,7 +3,6 @@ use borrow.Author.Needs.{needs}
 use Rattle.path_extensions.proofs.decisions_since.Statement.{statement}
 use Rattle.path_extensions.proofs.decisions_since.Tie as tie
 use Rattle.path_extensions.specs.One.{with-trees, with-guide, at-no-cost, one-decision}
-use native.Mathlib.Omega.{arith}
 
 returns : tie.Need-returns
 returns c = with-trees _ (c .before .args .free) (c .before .args .since) (c .before .args .guided) (c .if1 .taken)

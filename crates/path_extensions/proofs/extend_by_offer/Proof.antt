@@ -4,7 +4,6 @@ use Rattle.path_extensions.proofs.extend_by_offer.Statement.{statement}
 use Rattle.path_extensions.proofs.extend_by_offer.Tie as tie
 use mathlib.Core.Path.{refl}
 use Rattle.path_extensions.specs.Offer.{parent-scored, offer-refused, offer-asks, offer-made}
-use native.Mathlib.Omega.{arith}
 
 offer-score-requires : tie.Need-offer-score-requires
 offer-score-requires c κs = (parent-scored (c .before .before .before .before .before .before .before .before .before .pre), c .before .before .before .before .before .before .before .before .before .pre .it .room)

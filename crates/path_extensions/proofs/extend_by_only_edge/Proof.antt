@@ -5,7 +5,6 @@ use Rattle.path_extensions.proofs.extend_by_only_edge.Tie as tie
 use mathlib.Core.Path.{refl}
 use borrow.Author.Tests.{not-true, not-false}
 use Rattle.path_extensions.specs.Alone.{alone-table, alone-inside, alone-ends, alone-asks, alone-made}
-use native.Mathlib.Omega.{arith}
 
 goes-on-requires : tie.Need-goes-on-requires
 goes-on-requires c κs = alone-table (c .before .before .before .before .before .before .before .before .before .pre)

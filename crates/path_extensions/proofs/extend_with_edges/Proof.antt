@@ -2,8 +2,7 @@
 use borrow.Author.Needs.{needs}
 use Rattle.path_extensions.proofs.extend_with_edges.Statement.{statement}
 use Rattle.path_extensions.proofs.extend_with_edges.Tie as tie
-use mathlib.Core.Path.{_∙_}
-use Rattle.path_extensions.specs.One.{parent-inside, taken-product, new-product, edge-inside, few-since, few-trees, lengthen-walks, extend-asks, lengthen-refused, made-low, lengthen-made}
+use Rattle.path_extensions.specs.One.{parent-inside, taken-product, new-product, edge-inside, few-since, lengthen-walks, extend-asks, lengthen-refused, made-low, lengthen-made}
 use native.Mathlib.Omega.{arith}
 
 path-at-requires : tie.Need-path-at-requires

@@ -3,7 +3,6 @@ use borrow.Author.Needs.{needs}
 use Rattle.path_extensions.proofs.goes_on.Statement.{statement}
 use Rattle.path_extensions.proofs.goes_on.Tie as tie
 use Rattle.path_extensions.specs.Alone.{goes-by-trees, goes-by-count}
-use native.Mathlib.Omega.{arith}
 
 path-at-requires : tie.Need-path-at-requires
 path-at-requires c κs = search needs

@@ -3,7 +3,6 @@ use borrow.Author.Needs.{needs}
 use Rattle.path_extensions.proofs.list_offers.Statement.{statement}
 use Rattle.path_extensions.proofs.list_offers.Tie as tie
 use Rattle.path_extensions.specs.Vertex.{lists-inside, lists-product, lists-asks, lists-listed}
-use native.Mathlib.Omega.{arith}
 
 path-at-requires : tie.Need-path-at-requires
 path-at-requires c κs = lists-inside (c .before .before .before .before .before .before .before .pre)

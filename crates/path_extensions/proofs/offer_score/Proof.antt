@@ -7,7 +7,6 @@ use Prim.Native.Nat.{ℕ}
 use lib.ListN.{getD}
 use lib.Ieee.{nan}
 use Rattle.path_extensions.specs.Offer.{no-score, some-score}
-use native.Mathlib.Omega.{arith}
 
 mul-log-penalty : tie.Need-mul-log-penalty
 mul-log-penalty c = search needs

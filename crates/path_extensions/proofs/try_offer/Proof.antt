@@ -3,7 +3,6 @@ use borrow.Author.Needs.{needs}
 use Rattle.path_extensions.proofs.try_offer.Statement.{statement}
 use Rattle.path_extensions.proofs.try_offer.Tie as tie
 use Rattle.path_extensions.specs.Offer.{tried-refused, rule-table, tried-kept, tried-lost}
-use native.Mathlib.Omega.{arith}
 
 extend-by-offer-requires : tie.Need-extend-by-offer-requires
 extend-by-offer-requires c κs = record { only = c .before .before .before .before .before .before .before .before .before .before .before .before .args .only .now; it = c .before .before .before .before .before .before .before .before .before .before .before .before .pre }
