@@ -31,7 +31,7 @@ use Rattle.path_closing.specs.Joins.{Joining, Joined}
 use Rattle.path_closing.specs.Closes.{Closing, ClosedOn, chainAfter, closing, joined-holds, joined-apart, joined-chain, joined-closing}
 use Rattle.path_closing.specs.Shuts.{withClosed}
 use Rattle.path_extensions.specs.Each.{Rooms}
-use Rattle.path_extensions.specs.Made.{MadeTo}
+use Rattle.path_extensions.specs.Made.{MadeTo, kept-but, made-idle}
 use Rattle.path_extensions.specs.One.{Run}
 use Rattle.path_extensions.specs.Vertex.{Taking, Extends, extensionsAt}
 use Rattle.junction_kbest.specs.Turn.{join-fails, close-fails, extend-fails, extend-makes}
@@ -178,18 +178,6 @@ closer-of p p₁ (inr e) =
       mark = refl;
     })
 
--- what is kept of all records is kept of those but one
-kept-but : (f : SearchInput) (es only to : List ℕ) (bs : ℕ → List Branches) (t : List ℕ) (sc : List Float) (bs′ : ℕ → List Branches) (t′ : List ℕ) (sc′ : List Float) (n r : ℕ)
-    → Kept f es only to bs t sc bs′ t′ sc′ n n → Kept f es only to bs t sc bs′ t′ sc′ n r
-kept-but f es only to bs t sc bs′ t′ sc′ n r K =
-    record {
-      path = λ q l d. K .path q l (λ e. omega arith);
-      closed = K .closed;
-      joined = λ q l d. K .joined q l (λ e. omega arith);
-      parent = K .parent;
-      score = K .score;
-    }
-
 module _ (f : SearchInput) (g : Setting) (vs es x only to : List ℕ) (column : List Float) (bs : ℕ → List Branches) (cl : ℕ → ℕ) (t : List ℕ) (sc : List Float) (ac queue shut order marks : List ℕ) (p : Progress)
     (s : State Float) (taken : Taken) (E : Extending f g vs es x only to column bs cl t sc ac queue shut order marks p s taken) where
   abbrev r : ℕ
@@ -302,30 +290,6 @@ module _ (f : SearchInput) (g : Setting) (vs es x only to : List ℕ) (column : 
         from-is : firstNew p p₂ ≡ p₁ .records
         from-is = sym (closer .records)
 
-        idle : (q : ℕ) → p₁ .records ≤ q → q < n′ → Idle t₃ n′ q
-        idle q a b =
-            record {
-              known = b;
-              unjoined = M .new .unjoined q a b;
-              childless = λ u l e. go u l e (ltb-split u (p₁ .records));
-            }
-          where
-            ltb-split : (a b : ℕ) → (a < b) ⊎ (b ≤ a)
-            ltb-split zero zero = inr (omega arith)
-            ltb-split zero (suc b) = inl (omega arith)
-            ltb-split (suc a) zero = inr (omega arith)
-            ltb-split (suc a) (suc b) = elim (ltb-split a b) [ inl h ↦ inl (omega arith) | inr h ↦ inr (omega arith) ]
-
-            go : (u : ℕ) → u < n′ → parentOf t₃ u ≡ suc q → (u < p₁ .records) ⊎ (p₁ .records ≤ u) → ⊥
-            go u l e (inl h) =
-                let k = C .holds .records .held .table .rows u h .rises in
-                let z = M .kept .parent u h in
-                omega arith
-            go u l e (inr h) =
-                let z = M .new .parent u h l in
-                let k = C .known in
-                omega arith
-
         pub all-made : Makes f g es x only to queue order p p₂ want t₃ sc₃ ac₃ shut₂ marks₂
         all-made =
             let up = M .up in
@@ -340,8 +304,8 @@ module _ (f : SearchInput) (g : Setting) (vs es x only to : List ℕ) (column : 
                   ∙ ap (λ (n : ℕ). made (C .state) (map (pathOf f es only to (M .bs′) t₃ sc₃) (upFrom n (n′ - n)))) (sym from-is);
               holds =
                   holds-kept f g es x only to (C .branches) (C .closings) t₂ sc₂ ac₁ queue shut₂ order marks₂ p₁ (C .state) (C .holds) (M .bs′) t₃ sc₃ ac₃ n′ r (M .records) up
-                  (kept-but f es only to (C .branches) t₂ sc₂ (M .bs′) t₃ sc₃ (p₁ .records) r (M .kept)) (C .apart) (M .new .parent);
-              new = λ q a b. idle q (let z = from-is in omega arith) b;
+                  (kept-but r (M .kept)) (C .apart) (M .new .parent);
+              new = λ q a b. made-idle M (C .known) q (let z = from-is in omega arith) b;
               further =
                   record {
                     low = (let z = from-is in omega arith);

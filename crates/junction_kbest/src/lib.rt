@@ -5,11 +5,14 @@ use path_extensions::Extended;
 use path_extensions::process_vertex;
 use path_store::growth::PathAnswer;
 use path_store::growth::Taken;
+use path_store::growth::follow_chain;
+use path_store::records::path_at;
 use search_state::Progress;
 use search_state::Setting;
 use search_state::Step;
 ghost use mathlib.Core.Path.{_≡_};
 ghost use Rattle.junction_kbest.specs.Extend.{ExtendsTaken, TakenExtended};
+ghost use Rattle.junction_kbest.specs.Take.{TakesPath, PathTaken};
 ghost use Rattle.junction_kbest.specs.Answers.{joinRefusal, extendRefusal};
 
 fn join_refusal(a: PathAnswer) -> u32
@@ -79,4 +82,36 @@ fn extend_taken(
         pushes: q.pushes,
         mark: q.mark,
     })
+}
+
+// A taken path with more than 5 decisions since guidance is dropped; another goes along its chain and is extended.
+fn take_path(
+    vertices: &[u32],
+    edges: &[u32],
+    nodes: &[u32],
+    only: &[u32],
+    to: &[u32],
+    column: &[f64],
+    paths: &mut [u32],
+    scores: &mut [f64],
+    active: &mut [u32],
+    shut: &mut [u32],
+    marks: &mut [u32],
+    offers: &mut [u32],
+    g: Setting,
+    p: Progress,
+    path: u32,
+) -> Step
+    requires { ⌜ TakesPath g (now vertices) (now edges) (now nodes) (now only) (now to) (now column) (now paths) (now scores) (now active) (now shut) (now marks) (now offers) p path ⌝ }
+    ensures { λ r. ⌜ PathTaken g (now (vertices .entry)) (now (edges .entry)) (now (nodes .entry)) (now (only .entry)) (now (to .entry)) (now (column .entry)) (now (paths .entry)) (now (scores .entry)) (now (active .entry)) (now (shut .entry)) (now (marks .entry)) p path r (now (paths .exit)) (now (scores .exit)) (now (active .exit)) (now (shut .exit)) (now (marks .exit)) ⌝ }
+{
+    let row = path_at(paths, scores, path);
+    if row.since > 5 {
+        return Step::On(p);
+    }
+    let taken = follow_chain(paths, scores, only, to, path);
+    extend_taken(
+        vertices, edges, nodes, only, to, column, paths, scores, active, shut, marks, offers, g, taken,
+        p,
+    )
 }

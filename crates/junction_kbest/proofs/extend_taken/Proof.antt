@@ -1,3 +1,6 @@
+-- `extend_taken` meets its contract: the steps of Steps, by what the callees answer. Assumes nothing.
+use mathlib.Core.Path.{_∙_}
+use Rattle.junction_kbest.specs.Steps.{step-joins, step-join-refused, step-closes, step-close-refused, step-extends, step-extend-refused, step-made}
 use borrow.Author.Needs.{needs}
 use Rattle.junction_kbest.proofs.extend_taken.Statement.{statement}
 use Rattle.junction_kbest.proofs.extend_taken.Tie as tie
@@ -11,7 +14,7 @@ use Rattle.path_extensions.proofs.process_vertex.Reads as process-vertex-reads
 
 -- src/lib.rt:54:9
 add-junction-tree-requires : tie.Need-add-junction-tree-requires
-add-junction-tree-requires c κs = ?
+add-junction-tree-requires c κs = step-joins _ _ _ _ _ _ _ _ _ _ _ _ (c .before .before .before .before .before .before .before .before .before .before .before .before .before .before .before .args .offers .now) _ _ (c .before .before .before .before .before .before .before .before .before .before .before .before .before .before .before .pre)
 
 enum-told : tie.Need-enum-told
 enum-told c = search needs
@@ -38,11 +41,11 @@ same-length-3 c = search needs
 
 -- src/lib.rt:58:9
 returns : tie.Need-returns
-returns c = ?
+returns c = step-join-refused _ _ _ _ _ _ _ _ _ _ _ _ (c .before .before .before .before .before .before .before .before .before .before .before .before .before .before .before .before .before .before .before .before .before .before .before .before .before .args .offers .now) _ _ _ _ _ _ (c .before .before .before .before .before .before .before .before .before .add-junction-tree .ensures) _ (c .before .enum-told2 .given .1) _ (c .join-refusal .ensures)
 
 -- src/lib.rt:60:9
 close-at-sink-requires : tie.Need-close-at-sink-requires
-close-at-sink-requires c κs = ?
+close-at-sink-requires c κs = step-closes _ _ _ _ _ _ _ _ _ _ _ _ (c .before .before .before .before .before .before .before .before .before .before .before .before .before .before .before .before .before .before .before .before .before .before .before .before .before .before .before .before .before .args .offers .now) _ _ _ _ _ _ (c .before .before .before .before .before .before .before .before .before .before .before .before .before .add-junction-tree .ensures) _ (c .before .before .before .before .before .enum-told .given .1) (c .before .before .before .before .before .before .before .before .before .before .before .before .before .add-junction-tree .kept .1 .1 .1 .1 .0) (c .before .before .before .before .before .before .before .before .before .before .before .before .before .add-junction-tree .kept .1 .1 .1 .1 .1 .0) (c .before .before .before .before .before .before .before .before .before .before .before .before .before .add-junction-tree .kept .1 .1 .1 .1 .1 .1 .0) (c .before .before .before .before .before .before .before .before .before .before .before .before .before .before .before .before .before .before .before .before .before .before .before .before .before .before .before .before .before .pre)
 
 -- src/lib.rt:63:18
 enum-known-c : tie.Need-enum-known-c
@@ -74,11 +77,11 @@ same-length-8 c = search needs
 
 -- src/lib.rt:64:9
 returns-2 : tie.Need-returns-2
-returns-2 c = ?
+returns-2 c = step-close-refused _ _ _ _ _ _ _ _ _ _ _ _ (c .before .before .before .before .before .before .before .before .before .before .before .before .before .before .before .before .before .before .before .before .before .before .before .before .before .before .before .before .before .before .before .before .before .before .before .before .before .before .before .before .args .offers .now) _ _ _ _ _ _ (c .before .before .before .before .before .before .before .before .before .before .before .before .before .before .before .before .before .before .before .before .before .before .before .before .add-junction-tree .ensures) _ (c .before .before .before .before .before .before .before .before .before .before .before .before .before .before .before .before .enum-told .given .1) (c .before .before .before .before .before .before .before .before .before .before .before .before .before .before .before .before .before .before .before .before .before .before .before .before .add-junction-tree .kept .1 .1 .1 .1 .0) (c .before .before .before .before .before .before .before .before .before .before .before .before .before .before .before .before .before .before .before .before .before .before .before .before .add-junction-tree .kept .1 .1 .1 .1 .1 .0) (c .before .before .before .before .before .before .before .before .before .before .before .before .before .before .before .before .before .before .before .before .before .before .before .before .add-junction-tree .kept .1 .1 .1 .1 .1 .1 .0) _ _ _ _ _ (c .before .before .before .before .before .before .before .before .before .before .close-at-sink .ensures) _ (c .enum-told3 .given .1)
 
 -- src/lib.rt:66:9
 process-vertex-requires : tie.Need-process-vertex-requires
-process-vertex-requires c κs = ?
+process-vertex-requires c κs = step-extends _ _ _ _ _ _ _ _ _ _ _ _ (c .before .before .before .before .before .before .before .before .before .before .before .before .before .before .before .before .before .before .before .before .before .before .before .before .before .before .before .before .before .before .before .before .before .before .before .before .before .before .before .before .before .before .before .before .before .args .offers .now) _ _ _ _ _ _ (c .before .before .before .before .before .before .before .before .before .before .before .before .before .before .before .before .before .before .before .before .before .before .before .before .before .before .before .before .before .add-junction-tree .ensures) _ (c .before .before .before .before .before .before .before .before .before .before .before .before .before .before .before .before .before .before .before .before .before .enum-told .given .1) (c .before .before .before .before .before .before .before .before .before .before .before .before .before .before .before .before .before .before .before .before .before .before .before .before .before .before .before .before .before .add-junction-tree .kept .1 .1 .1 .1 .0) (c .before .before .before .before .before .before .before .before .before .before .before .before .before .before .before .before .before .before .before .before .before .before .before .before .before .before .before .before .before .add-junction-tree .kept .1 .1 .1 .1 .1 .0) (c .before .before .before .before .before .before .before .before .before .before .before .before .before .before .before .before .before .before .before .before .before .before .before .before .before .before .before .before .before .add-junction-tree .kept .1 .1 .1 .1 .1 .1 .0) _ _ _ _ _ (c .before .before .before .before .before .before .before .before .before .before .before .before .before .before .before .close-at-sink .ensures) _ (c .before .before .before .before .before .c .given .1) (c .before .before .before .before .before .before .before .before .before .before .before .before .before .before .before .close-at-sink .kept .1 .1 .1 .0) (c .before .before .before .before .before .before .before .before .before .before .before .before .before .before .before .close-at-sink .kept .1 .1 .1 .1 .0) (c .before .before .before .before .before .before .before .before .before .before .before .before .before .before .before .before .before .before .before .before .before .before .before .before .before .before .before .before .before .before .before .before .before .before .before .before .before .before .before .before .before .before .before .before .before .pre)
 
 -- src/lib.rt:70:24
 enum-known-e : tie.Need-enum-known-e
@@ -94,15 +97,15 @@ extend-refusal-requires c κs = search needs
 
 -- src/lib.rt:71:9
 same-length-9 : tie.Need-same-length-9
-same-length-9 c = ?
+same-length-9 c = c .before .before .before .before .before .before .before .before .before .before .before .process-vertex .kept .1 .1 .1 .1 .1 .1 .0 ∙ c .before .before .before .before .before .before .before .before .before .before .before .before .before .before .before .before .before .before .before .before .before .before .before .before .before .before .before .close-at-sink .kept .1 .1 .1 .0 ∙ c .before .before .before .before .before .before .before .before .before .before .before .before .before .before .before .before .before .before .before .before .before .before .before .before .before .before .before .before .before .before .before .before .before .before .before .before .before .before .before .before .before .add-junction-tree .kept .1 .1 .1 .1 .0
 
 -- src/lib.rt:71:9
 same-length-10 : tie.Need-same-length-10
-same-length-10 c = ?
+same-length-10 c = c .before .before .before .before .before .before .before .before .before .before .before .process-vertex .kept .1 .1 .1 .1 .1 .1 .1 .0 ∙ c .before .before .before .before .before .before .before .before .before .before .before .before .before .before .before .before .before .before .before .before .before .before .before .before .before .before .before .close-at-sink .kept .1 .1 .1 .1 .0 ∙ c .before .before .before .before .before .before .before .before .before .before .before .before .before .before .before .before .before .before .before .before .before .before .before .before .before .before .before .before .before .before .before .before .before .before .before .before .before .before .before .before .before .add-junction-tree .kept .1 .1 .1 .1 .1 .0
 
 -- src/lib.rt:71:9
 same-length-11 : tie.Need-same-length-11
-same-length-11 c = ?
+same-length-11 c = c .before .before .before .before .before .before .before .before .before .before .before .process-vertex .kept .1 .1 .1 .1 .1 .1 .1 .1 .0 ∙ c .before .before .before .before .before .before .before .before .before .before .before .before .before .before .before .before .before .before .before .before .before .before .before .before .before .before .before .before .before .before .before .before .before .before .before .before .before .before .before .before .before .add-junction-tree .kept .1 .1 .1 .1 .1 .1 .0
 
 -- src/lib.rt:71:9
 same-length-12 : tie.Need-same-length-12
@@ -118,19 +121,19 @@ same-length-14 c = search needs
 
 -- src/lib.rt:71:9
 returns-3 : tie.Need-returns-3
-returns-3 c = ?
+returns-3 c = step-extend-refused _ _ _ _ _ _ _ _ _ _ _ _ (c .before .before .before .before .before .before .before .before .before .before .before .before .before .before .before .before .before .before .before .before .before .before .before .before .before .before .before .before .before .before .before .before .before .before .before .before .before .before .before .before .before .before .before .before .before .before .before .before .before .before .before .before .before .before .before .before .before .args .offers .now) _ _ _ _ _ _ (c .before .before .before .before .before .before .before .before .before .before .before .before .before .before .before .before .before .before .before .before .before .before .before .before .before .before .before .before .before .before .before .before .before .before .before .before .before .before .before .before .before .add-junction-tree .ensures) _ (c .before .before .before .before .before .before .before .before .before .before .before .before .before .before .before .before .before .before .before .before .before .before .before .before .before .before .before .before .before .before .before .before .before .enum-told .given .1) (c .before .before .before .before .before .before .before .before .before .before .before .before .before .before .before .before .before .before .before .before .before .before .before .before .before .before .before .before .before .before .before .before .before .before .before .before .before .before .before .before .before .add-junction-tree .kept .1 .1 .1 .1 .0) (c .before .before .before .before .before .before .before .before .before .before .before .before .before .before .before .before .before .before .before .before .before .before .before .before .before .before .before .before .before .before .before .before .before .before .before .before .before .before .before .before .before .add-junction-tree .kept .1 .1 .1 .1 .1 .0) (c .before .before .before .before .before .before .before .before .before .before .before .before .before .before .before .before .before .before .before .before .before .before .before .before .before .before .before .before .before .before .before .before .before .before .before .before .before .before .before .before .before .add-junction-tree .kept .1 .1 .1 .1 .1 .1 .0) _ _ _ _ _ (c .before .before .before .before .before .before .before .before .before .before .before .before .before .before .before .before .before .before .before .before .before .before .before .before .before .before .before .close-at-sink .ensures) _ (c .before .before .before .before .before .before .before .before .before .before .before .before .before .before .before .before .before .c .given .1) (c .before .before .before .before .before .before .before .before .before .before .before .before .before .before .before .before .before .before .before .before .before .before .before .before .before .before .before .close-at-sink .kept .1 .1 .1 .0) (c .before .before .before .before .before .before .before .before .before .before .before .before .before .before .before .before .before .before .before .before .before .before .before .before .before .before .before .close-at-sink .kept .1 .1 .1 .1 .0) _ _ _ _ (c .before .before .before .before .before .before .before .before .before .before .before .process-vertex .ensures) _ (c .before .enum-told4 .given .1) _ (c .extend-refusal .ensures)
 
 -- src/lib.rt:34:1
 same-length-15 : tie.Need-same-length-15
-same-length-15 c = ?
+same-length-15 c = c .before .before .before .before .before .before .before .before .before .before .before .process-vertex .kept .1 .1 .1 .1 .1 .1 .0 ∙ c .before .before .before .before .before .before .before .before .before .before .before .before .before .before .before .before .before .before .before .before .before .before .before .before .before .before .before .close-at-sink .kept .1 .1 .1 .0 ∙ c .before .before .before .before .before .before .before .before .before .before .before .before .before .before .before .before .before .before .before .before .before .before .before .before .before .before .before .before .before .before .before .before .before .before .before .before .before .before .before .before .before .add-junction-tree .kept .1 .1 .1 .1 .0
 
 -- src/lib.rt:34:1
 same-length-16 : tie.Need-same-length-16
-same-length-16 c = ?
+same-length-16 c = c .before .before .before .before .before .before .before .before .before .before .before .process-vertex .kept .1 .1 .1 .1 .1 .1 .1 .0 ∙ c .before .before .before .before .before .before .before .before .before .before .before .before .before .before .before .before .before .before .before .before .before .before .before .before .before .before .before .close-at-sink .kept .1 .1 .1 .1 .0 ∙ c .before .before .before .before .before .before .before .before .before .before .before .before .before .before .before .before .before .before .before .before .before .before .before .before .before .before .before .before .before .before .before .before .before .before .before .before .before .before .before .before .before .add-junction-tree .kept .1 .1 .1 .1 .1 .0
 
 -- src/lib.rt:34:1
 same-length-17 : tie.Need-same-length-17
-same-length-17 c = ?
+same-length-17 c = c .before .before .before .before .before .before .before .before .before .before .before .process-vertex .kept .1 .1 .1 .1 .1 .1 .1 .1 .0 ∙ c .before .before .before .before .before .before .before .before .before .before .before .before .before .before .before .before .before .before .before .before .before .before .before .before .before .before .before .before .before .before .before .before .before .before .before .before .before .before .before .before .before .add-junction-tree .kept .1 .1 .1 .1 .1 .1 .0
 
 -- src/lib.rt:34:1
 same-length-18 : tie.Need-same-length-18
@@ -146,7 +149,7 @@ same-length-20 c = search needs
 
 -- src/lib.rt:34:1
 returns-4 : tie.Need-returns-4
-returns-4 c = ?
+returns-4 c = step-made _ _ _ _ _ _ _ _ _ _ _ _ (c .before .before .before .before .before .before .before .before .before .before .before .before .before .before .before .before .before .before .before .before .before .before .before .before .before .before .before .before .before .before .before .before .before .before .before .before .before .before .before .before .before .before .before .before .before .before .before .before .before .before .before .before .before .before .before .before .before .args .offers .now) _ _ _ _ _ _ (c .before .before .before .before .before .before .before .before .before .before .before .before .before .before .before .before .before .before .before .before .before .before .before .before .before .before .before .before .before .before .before .before .before .before .before .before .before .before .before .before .before .add-junction-tree .ensures) _ (c .before .before .before .before .before .before .before .before .before .before .before .before .before .before .before .before .before .before .before .before .before .before .before .before .before .before .before .before .before .before .before .before .before .enum-told .given .1) (c .before .before .before .before .before .before .before .before .before .before .before .before .before .before .before .before .before .before .before .before .before .before .before .before .before .before .before .before .before .before .before .before .before .before .before .before .before .before .before .before .before .add-junction-tree .kept .1 .1 .1 .1 .0) (c .before .before .before .before .before .before .before .before .before .before .before .before .before .before .before .before .before .before .before .before .before .before .before .before .before .before .before .before .before .before .before .before .before .before .before .before .before .before .before .before .before .add-junction-tree .kept .1 .1 .1 .1 .1 .0) (c .before .before .before .before .before .before .before .before .before .before .before .before .before .before .before .before .before .before .before .before .before .before .before .before .before .before .before .before .before .before .before .before .before .before .before .before .before .before .before .before .before .add-junction-tree .kept .1 .1 .1 .1 .1 .1 .0) _ _ _ _ _ (c .before .before .before .before .before .before .before .before .before .before .before .before .before .before .before .before .before .before .before .before .before .before .before .before .before .before .before .close-at-sink .ensures) _ (c .before .before .before .before .before .before .before .before .before .before .before .before .before .before .before .before .before .c .given .1) (c .before .before .before .before .before .before .before .before .before .before .before .before .before .before .before .before .before .before .before .before .before .before .before .before .before .before .before .close-at-sink .kept .1 .1 .1 .0) (c .before .before .before .before .before .before .before .before .before .before .before .before .before .before .before .before .before .before .before .before .before .before .before .before .before .before .before .close-at-sink .kept .1 .1 .1 .1 .0) _ _ _ _ (c .before .before .before .before .before .before .before .before .before .before .before .process-vertex .ensures) _ (c .before .e .given .1)
 
 pub extend-taken-spec : {M : Type 1} → statement M
 extend-taken-spec =
