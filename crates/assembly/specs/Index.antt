@@ -263,6 +263,9 @@ module _ (k : ℕ) (ks : List (List ℕ)) (idx : List ℕ) (x : List ℕ) (i : I
       apart' v w a l (yes z) = rw (z, here, old v (omega arith)) (not-in v (omega arith))
       apart' v w a l (no z) = rw (old v (omega arith), old w (omega arith)) (i .apart v w a (omega arith))
 
-  pub entered-indexed : Indexed k (ks ++ (x ∷ [])) (entered idx (length ks) (bucketOf k (sizeOf idx) x))
+  entered-indexed : Indexed k (ks ++ (x ∷ [])) (entered idx (length ks) (bucketOf k (sizeOf idx) x))
   unfolding entered
   entered-indexed = rw (length-set first (bucketOf k (sizeOf idx) x) (length ks + 1), length-set idx (sizeOf idx + length ks) (getD idx (bucketOf k (sizeOf idx) x) 0)) both-indexed
+
+  pub entered-at : (n b : ℕ) → n ≡ length ks → b ≡ bucketOf k (sizeOf idx) x → Indexed k (ks ++ (x ∷ [])) (entered idx n b)
+  entered-at n b e d = rw (e, d) entered-indexed
