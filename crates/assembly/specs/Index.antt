@@ -160,6 +160,15 @@ pub record Finds (k : ℕ) (text vs idx : List ℕ) (n q : ℕ) : Type 0 where
   pub buckets : 0 < sizeOf idx
   pub indexed : Indexed k (kmersOf k text vs n) idx
 
+-- the index has the kmers of the first n vertices of a table
+pub record Finding (k : ℕ) (text vs idx : List ℕ) (n : ℕ) : Type 0 where
+  pub buckets : 0 < sizeOf idx
+  pub indexed : Indexed k (kmersOf k text vs n) idx
+
+pub finding-finds : {k : ℕ} {text vs idx : List ℕ} {n : ℕ} (q : ℕ) → Finding k text vs idx n → (q + k ≤ length text) × (n * 12 ≤ length vs) × ((v : ℕ) → v < n → field vs 12 v 8 + k ≤ length text)
+    → Finds k text vs idx n q
+finding-finds q f a = record { inside = a .0; rows = a .1; fits = a .2; buckets = f .buckets; indexed = f .indexed }
+
 -- ---- a kmer more
 -- a kmer that a vertex has is numbered
 number-first : (ks : List (List ℕ)) (x : List ℕ) (v : ℕ) → v < length ks → getD ks v [] ≡ x → numberOf ks x ≤ v

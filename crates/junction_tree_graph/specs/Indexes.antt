@@ -13,7 +13,7 @@ use Rattle.laws.specs.Records.{field}
 use Rattle.assembly.specs.Store.{kmersOf, code, code-lt}
 use Rattle.assembly.specs.Moves.{addedV, kmers-added}
 use Rattle.assembly.specs.Kmers.{part, born, kmers-born, length-of, rows-0}
-use Rattle.assembly.specs.Index.{sizeOf, Indexed, Finds, bucketOf, bucket-lt, entered, length-entered, entered-at, index-empty}
+use Rattle.assembly.specs.Index.{sizeOf, Indexed, Finds, Finding, bucketOf, bucket-lt, entered, length-entered, entered-at, index-empty}
 use Rattle.junction_tree_graph.specs.Steps.{Gets, new-room}
 
 pub record Indexes (k : ℕ) (text vs idx : List ℕ) (most : Most) (n : ℕ) : Type 0 where
@@ -83,5 +83,5 @@ index-start k text vs idx most f =
 pub fresh-one : (v : ℕ) (idx : List ℕ) → 1 ≤ v → Fresh v idx → Fresh (v - 1 + 1) idx
 fresh-one v idx h f = let z : v - 1 + 1 ≡ v = omega arith in rw z f
 
-pub index-sink : (k : ℕ) (text vs idx : List ℕ) (most : Most) (n q : ℕ) → Indexes k text vs idx most n → (q + k ≤ length text) × (n * 12 ≤ length vs) × ((u : ℕ) → u < n → field vs 12 u 8 + k ≤ length text) → Finds k text vs idx n q
-index-sink k text vs idx most n q y a = record { inside = a .0; rows = a .1; fits = a .2; buckets = (let z = y .room in omega arith); indexed = y .indexed }
+pub index-finding : (k : ℕ) (text vs idx : List ℕ) (most : Most) (r : Step) (t : At) → Keeps k text vs idx most r → r ≡ Next t → Finding k text vs idx (t .vertices)
+index-finding k text vs idx most r t h e = let y = keeps-next k text vs idx most r t h e in record { buckets = (let z = y .room in omega arith); indexed = y .indexed }

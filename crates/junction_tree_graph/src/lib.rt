@@ -33,7 +33,7 @@ ghost use Rattle.junction_tree_graph.specs.Stretches.{Threads, Threaded,
 ghost use Rattle.junction_tree_graph.specs.Runs.{RunEnd, threadRun};
 ghost use Rattle.junction_tree_graph.specs.Reads.{RunThreads, ReadThreads, ReadsThread, readOf, readsOf};
 ghost use Rattle.junction_tree_graph.specs.Built.{sampleOf, Begins, Builds};
-ghost use Rattle.junction_tree_graph.specs.Answers.{refusalOf, BuiltOf};
+ghost use Rattle.junction_tree_graph.specs.Answers.{refusalOf, BuiltOf, FoundOf};
 
 // The most vertices and edges: of the caller's maxima the symbolic vertex and edge count, of those that threading keeps to they do not.
 pub struct Most {
@@ -501,7 +501,7 @@ pub fn build_graph(
     maxima: Most,
 ) -> Answer
     requires { ⌜ Builds (sampleOf k quality (now reference) (now ends) (now bases) (now qualities)) (maxima .vertices) (maxima .edges) (now vertices) (now edges) × Fresh (maxima .vertices) (now index) ⌝ }
-    ensures { λ r. ⌜ BuiltOf (sampleOf k quality (now (reference .entry)) (now (ends .entry)) (now (bases .entry)) (now (qualities .entry))) (maxima .vertices) (maxima .edges) (now (vertices .exit)) (now (edges .exit)) r ⌝ }
+    ensures { λ r. ⌜ BuiltOf (sampleOf k quality (now (reference .entry)) (now (ends .entry)) (now (bases .entry)) (now (qualities .entry))) (maxima .vertices) (maxima .edges) (now (vertices .exit)) (now (edges .exit)) r × FoundOf k (now (reference .entry) ++ now (bases .entry)) (now (vertices .exit)) (now (index .exit)) r ⌝ }
 {
     let most = Most {
         vertices: maxima.vertices - 1,

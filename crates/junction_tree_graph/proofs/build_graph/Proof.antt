@@ -1,4 +1,5 @@
-use Rattle.junction_tree_graph.specs.Indexes.{fresh-one, index-sink, keeps-next}
+use Rattle.assembly.specs.Index.{finding-finds}
+use Rattle.junction_tree_graph.specs.Indexes.{fresh-one, index-finding}
 use mathlib.Core.Path.{_≡_, refl, sym, _∙_}
 use native.Mathlib.Omega.{arith}
 use Rattle.junction_tree_graph.specs.Built.{low-v, low-e, fits-s, build-begins}
@@ -51,7 +52,7 @@ same-length-3 c = c .before .before .before .before .before .before .before .bef
 
 -- src/lib.rt:523:9
 returns : tie.Need-returns
-returns c = answer-stop (c .before .before .before .before .before .before .before .before .before .before .before .before .before .before .before .before .before .before .before .before .before .before .pre .0) (c .before .before .before .before .before .before .before .before .before .build .last .1 .1 .1 .1 .1 .1 .0) (c .before .before .before .before .before .before .before .before .before .build .last .1 .1 .1 .1 .1 .1 .1 .0) _ (c .before .before .before .before .before .before .before .before .before .build .ensures .0) _ (c .before .enum-told .given .1) _ (c .refusal .ensures)
+returns c = ((answer-stop (c .before .before .before .before .before .before .before .before .before .before .before .before .before .before .before .before .before .before .before .before .before .before .pre .0) (c .before .before .before .before .before .before .before .before .before .build .last .1 .1 .1 .1 .1 .1 .0) (c .before .before .before .before .before .before .before .before .before .build .last .1 .1 .1 .1 .1 .1 .1 .0) _ (c .before .before .before .before .before .before .before .before .before .build .ensures .0) _ (c .before .enum-told .given .1) _ (c .refusal .ensures)), tt)
 
 -- src/lib.rt:527:17
 sub-place-2 : tie.Need-sub-place-2
@@ -59,7 +60,7 @@ sub-place-2 c = fits-s (c .before .before .before .before .before .before .befor
 
 -- src/lib.rt:528:9
 find-kmer-requires : tie.Need-find-kmer-requires
-find-kmer-requires c κs = index-sink _ _ _ _ _ _ _ (keeps-next _ _ _ _ _ _ _ (c .before .before .before .before .before .before .before .before .before .before .before .build .ensures .1) (c .before .before .before .r .given .1)) (answer-asks (c .before .before .before .before .before .before .before .before .before .before .before .before .before .before .before .before .before .before .before .before .before .before .before .before .pre .0) (c .before .before .before .before .before .before .before .before .before .before .before .build .last .1 .1 .1 .1 .1 .1 .0) (c .before .before .before .before .before .before .before .before .before .before .before .build .last .1 .1 .1 .1 .1 .1 .1 .0) _ (c .before .before .before .before .before .before .before .before .before .before .before .build .ensures .0) _ (c .before .before .before .r .given .1))
+find-kmer-requires c κs = finding-finds _ (index-finding _ _ _ _ _ _ _ (c .before .before .before .before .before .before .before .before .before .before .before .build .ensures .1) (c .before .before .before .r .given .1)) (answer-asks (c .before .before .before .before .before .before .before .before .before .before .before .before .before .before .before .before .before .before .before .before .before .before .before .before .pre .0) (c .before .before .before .before .before .before .before .before .before .before .before .build .last .1 .1 .1 .1 .1 .1 .0) (c .before .before .before .before .before .before .before .before .before .before .before .build .last .1 .1 .1 .1 .1 .1 .1 .0) _ (c .before .before .before .before .before .before .before .before .before .before .before .build .ensures .0) _ (c .before .before .before .r .given .1))
 
 -- src/lib.rt:529:5
 add-symbolic-edge-requires : tie.Need-add-symbolic-edge-requires
@@ -79,7 +80,7 @@ same-length-6 c = c .before .before .before .before .before .before .before .bef
 
 -- src/lib.rt:491:1
 returns-2 : tie.Need-returns-2
-returns-2 c = answer-done (c .before .before .before .before .before .before .before .before .before .before .before .before .before .before .before .before .before .before .before .before .before .before .before .before .before .before .before .before .before .pre .0) (c .before .before .before .before .before .before .before .before .before .before .before .before .before .before .before .before .build .last .1 .1 .1 .1 .1 .1 .0) (c .before .before .before .before .before .before .before .before .before .before .before .before .before .before .before .before .build .last .1 .1 .1 .1 .1 .1 .1 .0) _ (c .before .before .before .before .before .before .before .before .before .before .before .before .before .before .before .before .build .ensures .0) _ (c .before .before .before .before .before .before .before .before .r .given .1) (c .before .before .before .before .before .before .before .before .before .before .before .before .before .before .before .before .build .kept .1 .1 .1 .1 .1 .1 .1 .0) _ (c .before .before .before .before .find-kmer .ensures) _ (c .before .before .add-symbolic-edge .ensures)
+returns-2 c = ((answer-done (c .before .before .before .before .before .before .before .before .before .before .before .before .before .before .before .before .before .before .before .before .before .before .before .before .before .before .before .before .before .pre .0) (c .before .before .before .before .before .before .before .before .before .before .before .before .before .before .before .before .build .last .1 .1 .1 .1 .1 .1 .0) (c .before .before .before .before .before .before .before .before .before .before .before .before .before .before .before .before .build .last .1 .1 .1 .1 .1 .1 .1 .0) _ (c .before .before .before .before .before .before .before .before .before .before .before .before .before .before .before .before .build .ensures .0) _ (c .before .before .before .before .before .before .before .before .r .given .1) (c .before .before .before .before .before .before .before .before .before .before .before .before .before .before .before .before .build .kept .1 .1 .1 .1 .1 .1 .1 .0) _ (c .before .before .before .before .find-kmer .ensures) _ (c .before .before .add-symbolic-edge .ensures)), index-finding _ _ _ _ _ _ _ (c .before .before .before .before .before .before .before .before .before .before .before .before .before .before .before .before .build .ensures .1) (c .before .before .before .before .before .before .before .before .r .given .1))
 
 pub build-graph-spec : {M : Type 1} → statement M
 build-graph-spec =
