@@ -1,3 +1,4 @@
+-- `enter_kmer` meets its contract. Assumes nothing.
 use mathlib.Core.Path.{_≡_, refl, sym, ap, _∙_}
 use native.Mathlib.Omega.{arith}
 use lib.ListN.{length-set}
@@ -5,50 +6,37 @@ use Rattle.assembly.specs.Index.{entered}
 use borrow.Author.Needs.{needs}
 use Rattle.assembly.proofs.enter_kmer.Statement.{statement}
 use Rattle.assembly.proofs.enter_kmer.Tie as tie
-use Rattle.assembly.proofs.enter_kmer.Reads as reads
-use Rattle.assembly.proofs.enter_kmer.Lts as lts
 
--- src/lib.rt:250:23
 mul-index : tie.Need-mul-index
 mul-index c = search needs
 
--- src/lib.rt:250:23
 slice-read-index : tie.Need-slice-read-index
 slice-read-index c = search needs
 
--- src/lib.rt:250:11
 add-index : tie.Need-add-index
 add-index c = search needs
 
--- src/lib.rt:250:5
 mul-index-2 : tie.Need-mul-index-2
 mul-index-2 c = search needs
 
--- src/lib.rt:250:5
 slice-write-index : tie.Need-slice-write-index
 slice-write-index c = search needs
 
--- src/lib.rt:251:17
 add-index-2 : tie.Need-add-index-2
 add-index-2 c = search needs
 
--- src/lib.rt:251:16
 cast-index : tie.Need-cast-index
 cast-index c = search needs
 
--- src/lib.rt:251:5
 mul-index-3 : tie.Need-mul-index-3
 mul-index-3 c = search needs
 
--- src/lib.rt:251:5
 slice-write-index-2 : tie.Need-slice-write-index-2
 slice-write-index-2 c = simp length-set (omega arith)
 
--- src/lib.rt:245:1
 same-length : tie.Need-same-length
 same-length c = search needs
 
--- src/lib.rt:245:1
 returns : tie.Need-returns
 unfolding entered
 returns c = refl

@@ -1,3 +1,4 @@
+-- `find_in_bucket` meets its contract: a turn leaves only the vertices of the bucket below c. Assumes nothing.
 use Rattle.assembly.specs.Index.{walk-place}
 use mathlib.Core.Path.{_≡_, refl, sym, ap, _∙_}
 use mathlib.Core.List.{_++_}
@@ -10,11 +11,6 @@ use Rattle.assembly.specs.Store.{kmersOf}
 use Rattle.assembly.specs.Kmers.{part}
 use Rattle.assembly.proofs.find_in_bucket.Statement.{statement}
 use Rattle.assembly.proofs.find_in_bucket.Tie as tie
-use Rattle.assembly.proofs.find_in_bucket.Reads as reads
-use Rattle.assembly.proofs.find_in_bucket.Lts as lts
-use Rattle.assembly.proofs.kmer_place.Reads as kmer-place-reads
-use Rattle.assembly.proofs.same_kmer.Reads as same-kmer-reads
-use Rattle.assembly.proofs.wide.Reads as wide-reads
 
 abbrev Inv-loop : tie.InvT-loop
 Inv-loop reference bases vertices index n k q h size c₀ c = Walks k (sizeOf index) (kmersOf k (reference ++ bases) vertices n) (part k (reference ++ bases) q) c
@@ -22,63 +18,48 @@ Inv-loop reference bases vertices index n k q h size c₀ c = Walks k (sizeOf in
 abbrev μ-loop : tie.MeasureT-loop
 μ-loop reference bases vertices index n k q h size c₀ c = c
 
--- src/lib.rt:215:22
 mul-wide : tie.Need-mul-wide Inv-loop μ-loop
 mul-wide c = let h = c .before .before .before .before .pre .1 in let b = bucket-lt (c .before .before .before .before .args .k) (sizeOf (c .before .before .before .before .args .index .now)) (part (c .before .before .before .before .args .k) (c .before .before .before .before .args .reference .now ++ c .before .before .before .before .args .bases .now) (c .before .before .before .before .args .q)) (c .before .before .before .before .pre .0 .buckets) in omega arith
 
--- src/lib.rt:215:22
 shared-slice-read-wide : tie.Need-shared-slice-read-wide Inv-loop μ-loop
 shared-slice-read-wide c = let h = c .before .before .before .before .before .pre .1 in let b = bucket-lt (c .before .before .before .before .before .args .k) (sizeOf (c .before .before .before .before .before .args .index .now)) (part (c .before .before .before .before .before .args .k) (c .before .before .before .before .before .args .reference .now ++ c .before .before .before .before .before .args .bases .now) (c .before .before .before .before .before .args .q)) (c .before .before .before .before .before .pre .0 .buckets) in omega arith
 
--- src/lib.rt:215:9
 wide-requires : tie.Need-wide-requires Inv-loop μ-loop
 wide-requires c κs = search needs
 
--- src/lib.rt:216:5
 loop-holds : tie.Need-loop-holds Inv-loop μ-loop
 loop-holds c = let a = c .before .before .before .before .before .before .args in rw (c .wide .ensures, c .before .before .before .before .before .before .pre .1) (walk-start (c .before .before .before .before .before .before .pre .0 .indexed) (part (a .k) (a .reference .now ++ a .bases .now) (a .q)) (c .before .before .before .before .before .before .pre .0 .buckets))
 
--- src/lib.rt:217:17
 sub-v : tie.Need-sub-v Inv-loop μ-loop
 sub-v c = let l = c .loop-test .taken in omega arith
 
--- src/lib.rt:218:13
 kmer-place-requires : tie.Need-kmer-place-requires Inv-loop μ-loop
 kmer-place-requires c κs = let a = c .before .before .before .before .before .before .before .before .args in let z = walk-in (a .reference .now ++ a .bases .now) (a .vertices .now) (a .n) (c .before .before .before .before .before .before .before .before .pre .0 .indexed) (a .q) (c .before .loop .inv) (c .loop-test .taken) in let r = c .before .before .before .before .before .before .before .before .pre .0 .rows in omega arith
 
--- src/lib.rt:219:12
 same-kmer-requires : tie.Need-same-kmer-requires Inv-loop μ-loop
 same-kmer-requires c κs = let a = c .before .before .before .before .before .before .before .before .before .args in (rw (c .kmer-place .ensures) (c .before .before .before .before .before .before .before .before .before .pre .0 .fits (c .before .before .loop .c - 1) (walk-in (a .reference .now ++ a .bases .now) (a .vertices .now) (a .n) (c .before .before .before .before .before .before .before .before .before .pre .0 .indexed) (a .q) (c .before .before .loop .inv) (c .before .loop-test .taken))), c .before .before .before .before .before .before .before .before .before .pre .0 .inside)
 
--- src/lib.rt:220:13
 returns : tie.Need-returns Inv-loop μ-loop
 returns c = let a = c .before .before .before .before .before .before .before .before .before .before .before .args in walk-found (a .reference .now ++ a .bases .now) (a .vertices .now) (a .n) (c .before .before .before .before .before .before .before .before .before .before .before .pre .0 .indexed) (a .q) (c .before .before .before .before .loop .inv) (c .before .before .before .loop-test .taken) (rw (← c .before .before .kmer-place .ensures) (sym (c .before .same-kmer .ensures) ∙ c .if1 .taken))
 
--- src/lib.rt:222:24
 add-wide : tie.Need-add-wide Inv-loop μ-loop
 add-wide c = let p = walk-place (c .before .before .before .before .before .before .before .before .before .before .before .pre .0 .indexed) _ (c .before .before .before .before .loop .inv) (c .before .before .before .loop-test .taken) (omega arith) in omega arith
 
--- src/lib.rt:222:18
 mul-wide-2 : tie.Need-mul-wide-2 Inv-loop μ-loop
 mul-wide-2 c = let p = walk-place (c .before .before .before .before .before .before .before .before .before .before .before .pre .0 .indexed) _ (c .before .before .before .before .loop .inv) (c .before .before .before .loop-test .taken) (omega arith) in omega arith
 
--- src/lib.rt:222:18
 shared-slice-read-wide-2 : tie.Need-shared-slice-read-wide-2 Inv-loop μ-loop
 shared-slice-read-wide-2 c = walk-place (c .before .before .before .before .before .before .before .before .before .before .before .before .pre .0 .indexed) _ (c .before .before .before .before .before .loop .inv) (c .before .before .before .before .loop-test .taken) (omega arith)
 
--- src/lib.rt:222:9
 wide-requires-2 : tie.Need-wide-requires-2 Inv-loop μ-loop
 wide-requires-2 c κs = search needs
 
--- src/lib.rt:216:5
 loop-less : tie.Need-loop-less Inv-loop μ-loop
 loop-less c = let l = c .before .before .before .before .before .loop-test .taken in rw (c .wide2 .ensures) (walk-less (c .before .before .before .before .before .before .before .before .before .before .before .before .before .pre .0 .indexed) _ (c .before .before .before .before .before .before .loop .inv) l)
 
--- src/lib.rt:216:5
 loop-again : tie.Need-loop-again Inv-loop μ-loop
 loop-again c = let a = c .before .before .before .before .before .before .before .before .before .before .before .before .before .args in rw (c .wide2 .ensures) (walk-on (a .reference .now ++ a .bases .now) (a .vertices .now) (a .n) (c .before .before .before .before .before .before .before .before .before .before .before .before .before .pre .0 .indexed) (a .q) (c .before .before .before .before .before .before .loop .inv) (c .before .before .before .before .before .loop-test .taken) (rw (← c .before .before .before .before .kmer-place .ensures) (sym (c .before .before .before .same-kmer .ensures) ∙ c .before .before .if1 .left)))
 
--- src/lib.rt:201:1
 returns-2 : tie.Need-returns-2 Inv-loop μ-loop
 returns-2 c = let a = c .before .before .before .before .before .before .before .before .args in walk-none (a .reference .now ++ a .bases .now) (a .vertices .now) (a .n) (c .before .before .before .before .before .before .before .before .pre .0 .indexed) (a .q) (c .before .loop .inv) (c .loop-test .left)
 
