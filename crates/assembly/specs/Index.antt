@@ -18,7 +18,7 @@ use Rattle.laws.specs.Records.{field}
 use Rattle.laws.specs.Rows.{getD-rows}
 use Rattle.definition.specs.Threading.{numberOf}
 use Rattle.assembly.specs.Store.{kmersOf, kmerAt}
-use Rattle.assembly.specs.Kmers.{part, getD-part, length-of, Unseen, number-here, number-none}
+use Rattle.assembly.specs.Kmers.{part, getD-part, length-of, number-here, number-none}
 
 -- ---- the bucket of a kmer
 -- what the first j bytes are hashed to

@@ -1,6 +1,6 @@
 -- The index through the threading: it has the kmers of the vertices made so far, and room for as many as may come. Assumes nothing.
-use mathlib.Core.Path.{_≡_, refl, sym, ap, _∙_}
-use mathlib.Core.List.{List, [], _∷_, _++_}
+use mathlib.Core.Path.{_≡_, sym, _∙_}
+use mathlib.Core.List.{List}
 use Prim.Native.Nat.{ℕ, _+_, _-_, _*_, _^_, _<_, _≤_}
 use native.Mathlib.Omega.{arith}
 use lib.ListN.{length, getD}
@@ -9,12 +9,11 @@ use Rattle.junction_tree_graph.specs.declared.Most.{Most}
 use Rattle.junction_tree_graph.specs.declared.At.{At}
 use Rattle.junction_tree_graph.specs.declared.Step.{Step}
 use Rattle.junction_tree_graph.specs.declared.Step.the-variants.{Next, Refused}
-use Rattle.laws.specs.Records.{field}
 use Rattle.assembly.specs.Store.{kmersOf, code, code-lt}
 use Rattle.assembly.specs.Moves.{addedV, kmers-added}
 use Rattle.assembly.specs.Kmers.{part, born, kmers-born, length-of, rows-0}
 use Rattle.assembly.specs.Index.{sizeOf, Indexed, Finds, Finding, bucketOf, bucket-lt, entered, length-entered, entered-at, index-empty}
-use Rattle.junction_tree_graph.specs.Steps.{Gets, new-room}
+use Rattle.junction_tree_graph.specs.Steps.{Gets}
 
 pub record Indexes (k : ℕ) (text vs idx : List ℕ) (most : Most) (n : ℕ) : Type 0 where
   pub room : most .vertices < sizeOf idx
