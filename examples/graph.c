@@ -10,9 +10,9 @@ int main(void) {
     LengthsTold told = punelavoh_lengths(3, 0, maxima, (SearchMaxima){1, 1, 1});
     uint32_t *edges = calloc(told.edges, 4), *nodes = calloc(told.nodes, 4);
     Workspace w = told.workspace;
-    uint32_t *wv = calloc(w.vertices, 4), *we = calloc(w.edges, 4), *wn = calloc(w.nodes, 4), *wo = calloc(w.open, 4);
+    uint32_t *wv = calloc(w.vertices, 4), *we = calloc(w.edges, 4), *wi = calloc(w.index, 4), *wn = calloc(w.nodes, 4), *wo = calloc(w.open, 4);
     GraphAnswer a = punelavoh_graph(3, 10, reference, 7, ends, 1, bases, 7, qualities, 7, maxima, edges, told.edges, nodes, told.nodes,
-        wv, w.vertices, we, w.edges, wn, w.nodes, wo, w.open);
+        wv, w.vertices, we, w.edges, wi, w.index, wn, w.nodes, wo, w.open);
     printf("refusal %u edges %u nodes %u\n", a.refusal, a.edges, a.nodes);
     for (uint32_t i = 0; i < a.edges; i++) {
         uint32_t *e = edges + 6 * i;

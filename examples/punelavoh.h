@@ -22,7 +22,8 @@ LengthsTold punelavoh_lengths(uint32_t k, uint32_t paths, GraphMaxima g, SearchM
 GraphAnswer punelavoh_graph(uint32_t k, uint8_t quality, const uint8_t *reference, size_t reference_length, const uint32_t *ends, size_t reads,
     const uint8_t *bases, size_t bases_length, const uint8_t *qualities, size_t qualities_length, GraphMaxima maxima, uint32_t *edges,
     size_t edges_length, uint32_t *nodes, size_t nodes_length, uint32_t *w_vertices, size_t w_vertices_length, uint32_t *w_edges,
-    size_t w_edges_length, uint32_t *w_nodes, size_t w_nodes_length, uint32_t *w_open, size_t w_open_length);
+    size_t w_edges_length, uint32_t *w_index, size_t w_index_length, uint32_t *w_nodes, size_t w_nodes_length, uint32_t *w_open,
+    size_t w_open_length);
 
 /* The part of the reference (in_reads 0) or of the read bases (in_reads 1) that an origin names. */
 OriginAnswer punelavoh_origin(uint32_t k, const uint8_t *reference, size_t reference_length, const uint32_t *ends, size_t reads,

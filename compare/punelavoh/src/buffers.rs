@@ -50,22 +50,22 @@ impl SampleBuffers {
 }
 
 /// The number slices of the workspace that the call for edges and trees is lent, in its order.
-pub const GRAPH_WORKSPACE: [&str; 4] = ["vertices", "edges", "nodes", "open"];
+pub const GRAPH_WORKSPACE: [&str; 5] = ["vertices", "edges", "index", "nodes", "open"];
 
 /// The lengths told of those.
-pub fn graph_workspace(w: &Workspace) -> [usize; 4] {
-    [w.vertices, w.edges, w.nodes, w.open]
+pub fn graph_workspace(w: &Workspace) -> [usize; 5] {
+    [w.vertices, w.edges, w.index, w.nodes, w.open]
 }
 
 /// The slices of the call for edges and trees.
 pub struct GraphBuffers {
     pub edges: Lent<u32>,
     pub nodes: Lent<u32>,
-    pub workspace: [Lent<u32>; 4],
+    pub workspace: [Lent<u32>; 5],
 }
 
 impl GraphBuffers {
-    pub fn new(edges: usize, nodes: usize, workspace: [usize; 4], seed: u32) -> Self {
+    pub fn new(edges: usize, nodes: usize, workspace: [usize; 5], seed: u32) -> Self {
         Self { edges: Lent::new(edges, seed), nodes: Lent::new(nodes, seed), workspace: workspace.map(|n| Lent::new(n, seed)) }
     }
 
@@ -75,12 +75,13 @@ impl GraphBuffers {
     }
 
     pub fn call(&mut self, sample: Sample, maxima: GraphMaxima) -> GraphAnswer {
-        let [w_vertices, w_edges, w_nodes, w_open] = &mut self.workspace;
+        let [w_vertices, w_edges, w_index, w_nodes, w_open] = &mut self.workspace;
         let slices = GraphSlices {
             edges: self.edges.slice_mut(),
             nodes: self.nodes.slice_mut(),
             w_vertices: w_vertices.slice_mut(),
             w_edges: w_edges.slice_mut(),
+            w_index: w_index.slice_mut(),
             w_nodes: w_nodes.slice_mut(),
             w_open: w_open.slice_mut(),
         };

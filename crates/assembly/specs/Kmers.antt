@@ -1,4 +1,4 @@
--- Kmers as parts of the text: their last base, equality byte by byte, and the number of one by a plain scan; a vertex more. Assumes nothing.
+-- Kmers as parts of the text: their last base, equality byte by byte, and the number of one; a vertex more. Assumes nothing.
 use mathlib.Core.Path.{_≡_, refl, sym, ap, _∙_}
 use mathlib.Core.Logic.{_≢_, _⊎_, inl, inr}
 use mathlib.Core.Bool.{Bool, true, false, not, _&&_, _||_, cond}
@@ -64,7 +64,7 @@ eqList-no a b j h = go (eqList a b) refl
     go true e = absurd (h (rw (eqList-true a b e)))
     go false e = refl
 
--- ---- the scan
+-- ---- the first place
 no-rows : {A : Type 0} (l : List A) → length l ≡ 0 → l ≡ []
 no-rows [] h = refl
 no-rows (x ∷ l) h = absurd (omega arith)
@@ -117,19 +117,9 @@ module _ {A : Type 0} (p : A → Bool) where
           let y = ih k in
           rw (rows-suc f n) (position-hit (rows f n) (f n) (omega (arith, length-rows f n)) ∙ y)
 
--- what a turn of the scan knows: no kmer before v is the one sought
+-- no kmer before v is the one sought
 pub record Unseen (k : ℕ) (text vs : List ℕ) (q v : ℕ) : Type 0 where
   pub none : (j : ℕ) → j < v → eqList (kmerAt k text vs j) (part k text q) ≡ false
-
-pub unseen-start : (k : ℕ) (text vs : List ℕ) (q : ℕ) → Unseen k text vs q 0
-unseen-start k text vs q = record { none = λ j h. absurd (omega arith) }
-
-pub unseen-next : (k : ℕ) (text vs : List ℕ) (q v : ℕ) → Unseen k text vs q v → eqList (kmerAt k text vs v) (part k text q) ≡ false → Unseen k text vs q (v + 1)
-unseen-next k text vs q v u e = record { none = λ j h. go j h (ℕ-discrete j v) }
-  where
-    go : (j : ℕ) → j < v + 1 → Dec (j ≡ v) → eqList (kmerAt k text vs j) (part k text q) ≡ false
-    go j h (yes z) = rw z e
-    go j h (no z) = u .none j (omega arith)
 
 pub number-here : (k : ℕ) (text vs : List ℕ) (n q v : ℕ) → Unseen k text vs q v → v < n → eqList (kmerAt k text vs v) (part k text q) ≡ true → v ≡ numberOf (kmersOf k text vs n) (part k text q)
 unfolding numberOf kmersOf
@@ -297,9 +287,6 @@ alike-end text k p q j a h l m =
 pub alike-not : (text : List ℕ) (k p q j : ℕ) → j < k → (getD text (p + j) 0 ≡ getD text (q + j) 0 → ⊥) → false ≡ eqList (part k text p) (part k text q)
 alike-not text k p q j h e =
     sym (eqList-no (part k text p) (part k text q) j (λ z. e (sym (getD-part k text p j h) ∙ z ∙ getD-part k text q j h)))
-
-pub number-end : (k : ℕ) (text vs : List ℕ) (n q v : ℕ) → Unseen k text vs q v → v ≤ n → n ≤ v → n ≡ numberOf (kmersOf k text vs n) (part k text q)
-number-end k text vs n q v u h l = number-none k text vs n q (let z : v ≡ n = omega arith in rw z at u)
 
 pub with-length : (k : ℕ) (text vs : List ℕ) (n q w : ℕ) → w ≡ numberOf (kmersOf k text vs n) (part k text q) → w ≡ n → length (withKmer (kmersOf k text vs n) (part k text q)) ≡ n + 1
 with-length k text vs n q w e z =

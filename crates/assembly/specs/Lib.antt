@@ -4,6 +4,7 @@ pub mod Table
 pub mod Store
 pub mod Moves
 pub mod Kmers
+pub mod Index
 pub mod Outs
 pub mod Sorted
 pub mod Symbolic

@@ -2,6 +2,7 @@
 // vertices, 12 numbers each: 0 to 7 the out-edges, by the code b / 2 % 8 of the base b that the target ends in (A 0, C 1, T 2, G 3, N 7), each an
 // edge's number plus 1, or 0; 8 the kmer's place; 9 how many edges enter; 10 one of those, plus 1; 11 for the slot of its tree's root, written by the evidence walk. Slot 4, which no base has, is for the symbolic edge.
 // edges, in the order of birth, 6 numbers each: from, to, support, mark, the origin's sequence and place.
+// index, by which a kmer is found: its first half holds for each bucket the last vertex of it, its second half for each vertex the last before it of its bucket; each a vertex's number plus 1, or 0.
 ghost use mathlib.Core.Path.{_≡_};
 ghost use mathlib.Core.List.{_++_};
 ghost use Prim.Native.Nat.{ℕ, _+_, _-_, _*_, _^_, _<_, _≤_};
@@ -13,6 +14,7 @@ ghost use Rattle.laws.specs.Records.{field};
 ghost use Rattle.definition.specs.Threading.{numberOf};
 ghost use Rattle.assembly.specs.Store.{edgeAt, kmersOf};
 ghost use Rattle.assembly.specs.Kmers.{part, born};
+ghost use Rattle.assembly.specs.Index.{bucketOf, sizeOf, Finds, entered};
 ghost use Rattle.assembly.specs.Moves.{gained, addedE, addedV, newEdge};
 ghost use Rattle.assembly.specs.Symbolic.{symbolic, linked};
 ghost use Rattle.assembly.specs.Outs.{Names, Lesser, Slots, Nexts};
@@ -181,27 +183,73 @@ fn same_kmer(reference: &[u8], bases: &[u8], k: usize, p: usize, q: usize) -> bo
     true
 }
 
-// The number of the kmer at q, or n where it has none: a plain scan.
+// The bucket, of `size`, of the kmer at q.
+pub fn kmer_bucket(reference: &[u8], bases: &[u8], k: usize, q: usize, size: usize) -> usize
+    requires { ⌜ (q + k ≤ length (now reference ++ now bases)) × (0 < size) ⌝ }
+    ensures { λ r. ⌜ r ≡ bucketOf k size (part k (now (reference .entry) ++ now (bases .entry)) q) ⌝ }
+{
+    let mut h: usize = 0;
+    let mut j: usize = 0;
+    while j < k {
+        let b = byte_at(reference, bases, q + j) as usize;
+        h = (h * 31 + b) % 4294967296;
+        j += 1;
+    }
+    h % size
+}
+
+// The number of the kmer at q, of bucket h, or n where it has none: only vertices of that bucket are compared, the last first.
+pub fn find_in_bucket(
+    reference: &[u8],
+    bases: &[u8],
+    vertices: &[u32],
+    index: &[u32],
+    n: usize,
+    k: usize,
+    q: usize,
+    h: usize,
+) -> usize
+    requires { ⌜ Finds k (now reference ++ now bases) (now vertices) (now index) n q × (h ≡ bucketOf k (sizeOf (now index)) (part k (now reference ++ now bases) q)) ⌝ }
+    ensures { λ r. ⌜ r ≡ numberOf (kmersOf k (now (reference .entry) ++ now (bases .entry)) (now (vertices .entry)) n) (part k (now (reference .entry) ++ now (bases .entry)) q) ⌝ }
+{
+    let size = index.len() / 2;
+    let mut c = wide(index[h]);
+    while c > 0 {
+        let v = c - 1;
+        let p = kmer_place(vertices, v);
+        if same_kmer(reference, bases, k, p, q) {
+            return v;
+        }
+        c = wide(index[size + v]);
+    }
+    n
+}
+
+// The number of the kmer at q, or n where it has none.
 pub fn find_kmer(
     reference: &[u8],
     bases: &[u8],
     vertices: &[u32],
+    index: &[u32],
     n: usize,
     k: usize,
     q: usize,
 ) -> usize
-    requires { ⌜ (q + k ≤ length (now reference ++ now bases)) × (n * 12 ≤ length (now vertices)) × ((v : ℕ) → v < n → field (now vertices) 12 v 8 + k ≤ length (now reference ++ now bases)) ⌝ }
+    requires { ⌜ Finds k (now reference ++ now bases) (now vertices) (now index) n q ⌝ }
     ensures { λ r. ⌜ r ≡ numberOf (kmersOf k (now (reference .entry) ++ now (bases .entry)) (now (vertices .entry)) n) (part k (now (reference .entry) ++ now (bases .entry)) q) ⌝ }
 {
-    let mut v: usize = 0;
-    while v < n {
-        let p = vertices[v * VERTEX + AT] as usize;
-        if same_kmer(reference, bases, k, p, q) {
-            return v;
-        }
-        v += 1;
-    }
-    n
+    let h = kmer_bucket(reference, bases, k, q, index.len() / 2);
+    find_in_bucket(reference, bases, vertices, index, n, k, q, h)
+}
+
+// Vertex n enters the bucket h: it is its head, and the head so far comes next.
+pub fn enter_kmer(index: &mut [u32], n: usize, h: usize)
+    requires { ⌜ (n < sizeOf (now index)) × (h < sizeOf (now index)) × (n + 1 < 2 ^ 32) ⌝ }
+    ensures { λ _. ⌜ now (index .exit) ≡ entered (now (index .entry)) n h ⌝ }
+{
+    let size = index.len() / 2;
+    index[size + n] = index[h];
+    index[h] = (n + 1) as u32;
 }
 
 // Vertex n, with the kmer at place q of the text.

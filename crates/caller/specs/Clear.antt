@@ -32,8 +32,9 @@ cleared w w' e = e ∙ written-zeros (length w) w ∙ ap (λ (l : List ℕ). zer
 pub cleared-part : (n : ℕ) (w p : List ℕ) → n ≤ length w → p ≡ zeros (length (take n w)) → p ++ drop n w ≡ writtenAt 0 (zeros n) w
 cleared-part n w p h e = ap (λ (l : List ℕ). l ++ drop n w) (e ∙ ap zeros (length-take-le n w h)) ∙ sym (written-zeros n w)
 
-pub record Zeroed (wv wv' we we' wx wx' wo wo' : List ℕ) : Type 0 where
+pub record Zeroed (wv wv' we we' wi wi' wx wx' wo wo' : List ℕ) : Type 0 where
   pub w-vertices : wv' ≡ zeros (length wv)
   pub w-edges : we' ≡ zeros (length we)
+  pub w-index : wi' ≡ zeros (length wi)
   pub w-nodes : wx' ≡ zeros (length wx)
   pub w-open : wo' ≡ zeros (length wo)

@@ -17,14 +17,16 @@ use Rattle.definition.specs.Building.{Built, built}
 use Rattle.definition.specs.Calls.{GraphOutcome, graphOf, writtenAt, flat, edgeRow, nodeRow}
 use Rattle.assembly.specs.Table.{length-table}
 use Rattle.assembly.specs.Store.{edgeAt, edgesOf}
+use Rattle.assembly.specs.Index.{Finding}
 use Rattle.assembly.specs.Sorted.{Orders}
 use Rattle.assembly.specs.Symbolic.{linked, linked-distinct, linked-orders}
 use Rattle.threading_tree.specs.Write.{Writable, Written, held-writable, held-written}
 use Rattle.junction_tree_graph.specs.declared.Built as tables
 use Rattle.junction_tree_graph.specs.declared.Answer.{Answer}
 use Rattle.junction_tree_graph.specs.declared.Answer.the-variants as answer
+use Rattle.junction_tree_graph.specs.Indexes.{Fresh}
 use Rattle.junction_tree_graph.specs.Built.{Builds, BuiltAt, NotBuilt}
-use Rattle.junction_tree_graph.specs.Answers.{BuiltOf, maxima-in, not-built}
+use Rattle.junction_tree_graph.specs.Answers.{BuiltOf, FoundOf, maxima-in, not-built}
 use Rattle.junction_trees.specs.declared.Evidence.{Evidence}
 use Rattle.junction_trees.specs.declared.Evidence.the-variants as trees
 use Rattle.junction_trees.specs.Roots.{rootOf}
@@ -34,9 +36,10 @@ use Rattle.caller.specs.declared.GraphAnswer.{GraphAnswer}
 use Rattle.caller.specs.Lent.{Lent}
 use Rattle.caller.specs.Outcome.{outcome, refusedAnswer, graphRefusal, treesRefusal}
 
-pub record Fills (s : Sample) (m : GraphMaxima) (es ns wv we wx wo : List ℕ) : Type 0 where
-  pub lent : Lent s m es ns wv we wx wo
+pub record Fills (s : Sample) (m : GraphMaxima) (es ns wv we wi wx wo : List ℕ) : Type 0 where
+  pub lent : Lent s m es ns wv we wi wx wo
   pub zero-v : (i : ℕ) → getD wv i 0 ≡ 0
+  pub zero-i : (i : ℕ) → getD wi i 0 ≡ 0
   pub zero-x : (i : ℕ) → getD wx i 0 ≡ 0
 
 -- ---- the rows
@@ -67,7 +70,7 @@ same-outcome : (a a' b b' : ℕ) (x x' y y' : List ℕ) → a ≡ a' → b ≡ b
     → _≡_ {A = GraphOutcome} (record { refusal = 0; edges = a; nodes = b; edgeSlice = x; nodeSlice = y }) (record { refusal = 0; edges = a'; nodes = b'; edgeSlice = x'; nodeSlice = y' })
 same-outcome a a' b b' x x' y y' p q r s = λ i. record { refusal = 0; edges = p i; nodes = q i; edgeSlice = r i; nodeSlice = s i }
 
-module _ {s : Sample} {m : GraphMaxima} {es ns wv we wx wo : List ℕ} (x : Fills s m es ns wv we wx wo) where
+module _ {s : Sample} {m : GraphMaxima} {es ns wv we wi wx wo : List ℕ} (x : Fills s m es ns wv we wi wx wo) where
   pub fill-builds : Builds s (m .vertices) (m .edges) wv we
   fill-builds =
       let a = maxima-in m (x .lent .maxima) in
@@ -79,6 +82,9 @@ module _ {s : Sample} {m : GraphMaxima} {es ns wv we wx wo : List ℕ} (x : Fill
         length-e = x .lent .w-edges;
         zero-v = x .zero-v;
       }
+
+  pub fill-fresh : Fresh (m .vertices) wi
+  fill-fresh = record { size = x .lent .w-index; zero = x .zero-i }
 
   nodes-few : m .nodes ≤ 16384
   unfolding graphMaximaFit
@@ -96,6 +102,9 @@ module _ {s : Sample} {m : GraphMaxima} {es ns wv we wx wo : List ℕ} (x : Fill
         let o : NotBuilt s (m .vertices) (m .edges) n = rw d at h in
         let z : a ≡ refusedAnswer n = f ∙ ap refusedAnswer (e ∙ ap graphRefusal d) in
         ap (λ (q : GraphAnswer). outcome q es ns) z ∙ sym (ap (λ (q : Result Built). graphOf q es ns) (not-built s m n o))
+
+    pub fill-found : (k : ℕ) (text idx : List ℕ) (b : tables.Built) → FoundOf k text vs₁ idx r → r ≡ answer.Done b → Finding k text vs₁ idx (b .vertices)
+    fill-found k text idx b f d = rw d at f
 
     module _ (b : tables.Built) (d : r ≡ answer.Done b) (lv : length vs₁ ≡ length wv) (le : length es₁ ≡ length we) where
       at : BuiltAt s (m .vertices) (m .edges) vs₁ es₁ (b .vertices) (b .edges) (b .sink)

@@ -17,7 +17,7 @@ use Rattle.definition.specs.Evidence.{nodes, evidence}
 use Rattle.definition.specs.Building.{built, builtOf}
 use Rattle.definition.specs.Calls.{GraphOutcome, graphOf, graphCall, afterGraphChecks, workspaceAfter}
 use Rattle.limits.specs.Rules.{rule, Numbered, none-broken, first-broken, first-hold, sample-numbered, graph-rules}
-use Rattle.limits.specs.Workspaces.{vertexTable, edgeTable, nodeTable, openTrees}
+use Rattle.limits.specs.Workspaces.{vertexTable, edgeTable, kmerIndex, nodeTable, openTrees}
 use Rattle.caller.specs.declared.GraphAnswer.{GraphAnswer}
 use Rattle.caller.specs.Lent.{workspaceTold, Long, long-of, Lent}
 use Rattle.caller.specs.Outcome.{outcome, refusedAnswer, Graphed}
@@ -48,9 +48,9 @@ first-part xs ys d e = go (decLt 0 (firstBroken xs))
     go (yes h) = absurd (let z = first-broken xs ys (firstBroken xs) refl h in omega arith)
     go (no h) = (omega arith, first-hold xs ys (firstBroken xs) d refl (omega arith) ∙ e)
 
-module _ (s : Sample) (m : GraphMaxima) (es ns wv we wx wo : List ℕ) where
+module _ (s : Sample) (m : GraphMaxima) (es ns wv we wi wx wo : List ℕ) where
   abbrev lent : List ℕ
-  lent = length es ∷ length ns ∷ length wv ∷ length we ∷ length wx ∷ length wo ∷ []
+  lent = length es ∷ length ns ∷ length wv ∷ length we ∷ length wi ∷ length wx ∷ length wo ∷ []
 
   abbrev rules : List Rule
   rules = graphRules s m (graphTold m (workspaceTold m)) lent
@@ -62,13 +62,13 @@ module _ (s : Sample) (m : GraphMaxima) (es ns wv we wx wo : List ℕ) where
   pub record Held : Type 0 where
     pub sample : firstBroken (sampleRules s) ≡ 0
     pub maxima : graphMaximaFit m ≡ true
-    pub long : Long m (length es) (length ns) (length wv) (length we) (length wx) (length wo)
+    pub long : Long m (length es) (length ns) (length wv) (length we) (length wi) (length wx) (length wo)
 
   held : firstBroken rules ≡ 0 → Held
   held e =
       let a = first-part (sampleRules s) (rule 5 (graphMaximaFit m) ∷ rule 7 (longEnough (graphTold m (workspaceTold m)) lent) ∷ []) (sample-numbered s) (graph-rules s m (graphTold m (workspaceTold m)) lent ∙ e) in
       let b = none-broken (rule 5 (graphMaximaFit m) ∷ rule 7 (longEnough (graphTold m (workspaceTold m)) lent) ∷ []) (omega arith, (omega arith, tt)) (a .1) in
-      record { sample = a .0; maxima = b .0; long = long-of m (length es) (length ns) (length wv) (length we) (length wx) (length wo) (b .1 .0) }
+      record { sample = a .0; maxima = b .0; long = long-of m (length es) (length ns) (length wv) (length we) (length wi) (length wx) (length wo) (b .1 .0) }
 
   module _ (n : ℕ) (e : n ≡ firstBroken rules) where
     -- ---- refused: 1 to 7
@@ -81,7 +81,7 @@ module _ (s : Sample) (m : GraphMaxima) (es ns wv we wx wo : List ℕ) where
         let y : within 1 7 n ≡ true = (λ i. l i && u i) in
         rw (y, workspaceAfter)
 
-    refused-is : 0 < n → outcome (refusedAnswer n) es ns ≡ graphCall s m (workspaceTold m) (length wv ∷ length we ∷ length wx ∷ length wo ∷ []) es ns
+    refused-is : 0 < n → outcome (refusedAnswer n) es ns ≡ graphCall s m (workspaceTold m) (length wv ∷ length we ∷ length wi ∷ length wx ∷ length wo ∷ []) es ns
     unfolding graphCall graphOf afterGraphChecks
     refused-is h = go n refl h ∙ ap (λ (k : ℕ). graphOf (afterGraphChecks s m k) es ns) e
       where
@@ -89,12 +89,13 @@ module _ (s : Sample) (m : GraphMaxima) (es ns wv we wx wo : List ℕ) where
         go zero f l = absurd (omega arith)
         go (suc k) f l = rw f
 
-    pub graph-refused : 0 < n → (a : GraphAnswer) → a ≡ refusedAnswer n → Graphed s m a es es ns ns wv wv we we wx wx wo wo
+    pub graph-refused : 0 < n → (a : GraphAnswer) → a ≡ refusedAnswer n → Graphed s m a es es ns ns wv wv we we wi wi wx wx wo wo
     graph-refused h a f =
         rw f (record {
           is = refused-is h;
           w-vertices = unchanged h (vertexTable m) wv;
           w-edges = unchanged h (edgeTable m) we;
+          w-index = unchanged h (kmerIndex m) wi;
           w-nodes = unchanged h (nodeTable m) wx;
           w-open = unchanged h (openTrees m) wo;
         })
@@ -104,10 +105,10 @@ module _ (s : Sample) (m : GraphMaxima) (es ns wv we wx wo : List ℕ) where
       zero-n : firstBroken rules ≡ 0
       zero-n = omega arith
 
-      pub graph-long : Long m (length es) (length ns) (length wv) (length we) (length wx) (length wo)
+      pub graph-long : Long m (length es) (length ns) (length wv) (length we) (length wi) (length wx) (length wo)
       graph-long = held zero-n .long
 
-      pub graph-lent : Lent s m es ns (take (vertexTable m) wv) (take (edgeTable m) we) (take (nodeTable m) wx) (take (openTrees m) wo)
+      pub graph-lent : Lent s m es ns (take (vertexTable m) wv) (take (edgeTable m) we) (take (kmerIndex m) wi) (take (nodeTable m) wx) (take (openTrees m) wo)
       graph-lent =
           let x = held zero-n in
           record {
@@ -117,11 +118,12 @@ module _ (s : Sample) (m : GraphMaxima) (es ns wv we wx wo : List ℕ) where
             nodes = x .long .nodes;
             w-vertices = length-take-le (vertexTable m) wv (x .long .w-vertices);
             w-edges = length-take-le (edgeTable m) we (x .long .w-edges);
+            w-index = length-take-le (kmerIndex m) wi (x .long .w-index);
             w-nodes = length-take-le (nodeTable m) wx (x .long .w-nodes);
             w-open = length-take-le (openTrees m) wo (x .long .w-open);
           }
 
-      work-is : graphOf (built s m) es ns ≡ graphCall s m (workspaceTold m) (length wv ∷ length we ∷ length wx ∷ length wo ∷ []) es ns
+      work-is : graphOf (built s m) es ns ≡ graphCall s m (workspaceTold m) (length wv ∷ length we ∷ length wi ∷ length wx ∷ length wo ∷ []) es ns
       unfolding graphCall afterGraphChecks
       work-is = ap (λ (k : ℕ). graphOf (afterGraphChecks s m k) es ns) (sym zero-n)
 
@@ -137,8 +139,8 @@ module _ (s : Sample) (m : GraphMaxima) (es ns wv we wx wo : List ℕ) where
           go true p false q = rw (p, q, builtOf)
           go true p true q = rw (p, q, builtOf)
 
-      module _ (r : GraphAnswer) (es' ns' pv pe px po : List ℕ)
-          (x : Made s m r es es' ns ns' (take (vertexTable m) wv) pv (take (edgeTable m) we) pe (take (nodeTable m) wx) px (take (openTrees m) wo) po) where
+      module _ (r : GraphAnswer) (es' ns' pv pe pi px po : List ℕ)
+          (x : Made s m r es es' ns ns' (take (vertexTable m) wv) pv (take (edgeTable m) we) pe (take (kmerIndex m) wi) pi (take (nodeTable m) wx) px (take (openTrees m) wo) po) where
         number : within 1 7 (r .refusal) ≡ false
         number = ap (λ (o : GraphOutcome). within 1 7 (o .refusal)) (x .is) ∙ late
 
@@ -146,13 +148,14 @@ module _ (s : Sample) (m : GraphMaxima) (es ns wv we wx wo : List ℕ) where
         unfolding workspaceAfter
         after told w p l q = cleared-part told w p l q ∙ (rw (number, workspaceAfter))
 
-        pub graph-made : Graphed s m r es es' ns ns' wv (pv ++ drop (vertexTable m) wv) we (pe ++ drop (edgeTable m) we) wx (px ++ drop (nodeTable m) wx) wo (po ++ drop (openTrees m) wo)
+        pub graph-made : Graphed s m r es es' ns ns' wv (pv ++ drop (vertexTable m) wv) we (pe ++ drop (edgeTable m) we) wi (pi ++ drop (kmerIndex m) wi) wx (px ++ drop (nodeTable m) wx) wo (po ++ drop (openTrees m) wo)
         graph-made =
             let y = held zero-n .long in
             record {
               is = x .is ∙ work-is;
               w-vertices = after (vertexTable m) wv pv (y .w-vertices) (x .w-vertices);
               w-edges = after (edgeTable m) we pe (y .w-edges) (x .w-edges);
+              w-index = after (kmerIndex m) wi pi (y .w-index) (x .w-index);
               w-nodes = after (nodeTable m) wx px (y .w-nodes) (x .w-nodes);
               w-open = after (openTrees m) wo po (y .w-open) (x .w-open);
             }

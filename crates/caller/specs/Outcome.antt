@@ -5,7 +5,7 @@ use Prim.Native.Nat.{ℕ}
 use lib.ListN.{length}
 use Rattle.definition.specs.Limits.{Sample, GraphMaxima}
 use Rattle.definition.specs.Calls.{GraphOutcome, graphCall, workspaceAfter}
-use Rattle.limits.specs.Workspaces.{vertexTable, edgeTable, nodeTable, openTrees}
+use Rattle.limits.specs.Workspaces.{vertexTable, edgeTable, kmerIndex, nodeTable, openTrees}
 use Rattle.junction_tree_graph.specs.declared.Answer.{Answer}
 use Rattle.junction_tree_graph.specs.declared.Answer.the-variants as answer
 use Rattle.junction_trees.specs.declared.Evidence.{Evidence}
@@ -28,9 +28,10 @@ treesRefusal (trees.Trees c) = 0
 treesRefusal (trees.Refused n) = n
 
 -- the answer and the output are those of the definition's call, and so is each workspace slice: unchanged after 1 to 7, else zero as far as told
-pub record Graphed (s : Sample) (m : GraphMaxima) (r : GraphAnswer) (es es' ns ns' wv wv' we we' wx wx' wo wo' : List ℕ) : Type 0 where
-  pub is : outcome r es' ns' ≡ graphCall s m (workspaceTold m) (length wv ∷ length we ∷ length wx ∷ length wo ∷ []) es ns
+pub record Graphed (s : Sample) (m : GraphMaxima) (r : GraphAnswer) (es es' ns ns' wv wv' we we' wi wi' wx wx' wo wo' : List ℕ) : Type 0 where
+  pub is : outcome r es' ns' ≡ graphCall s m (workspaceTold m) (length wv ∷ length we ∷ length wi ∷ length wx ∷ length wo ∷ []) es ns
   pub w-vertices : wv' ≡ workspaceAfter 0 (r .refusal) (vertexTable m) wv
   pub w-edges : we' ≡ workspaceAfter 0 (r .refusal) (edgeTable m) we
+  pub w-index : wi' ≡ workspaceAfter 0 (r .refusal) (kmerIndex m) wi
   pub w-nodes : wx' ≡ workspaceAfter 0 (r .refusal) (nodeTable m) wx
   pub w-open : wo' ≡ workspaceAfter 0 (r .refusal) (openTrees m) wo

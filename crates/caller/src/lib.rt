@@ -43,11 +43,12 @@ fn lent_fits(
     nodes: usize,
     vertex_table: usize,
     edge_table: usize,
+    kmer_index: usize,
     node_table: usize,
     open_trees: usize,
 ) -> bool
     ensures { λ r. ⌜ r ≡ longEnough (graphTold (graphMaximaOf g) (workspaceTold (graphMaximaOf g)))
-        (edges ∷ nodes ∷ «vertex_table» ∷ «edge_table» ∷ «node_table» ∷ «open_trees» ∷ []) ⌝ }
+        (edges ∷ nodes ∷ «vertex_table» ∷ «edge_table» ∷ «kmer_index» ∷ «node_table» ∷ «open_trees» ∷ []) ⌝ }
 {
     if edges < g.edges as usize * 6 {
         return false;
@@ -59,6 +60,9 @@ fn lent_fits(
         return false;
     }
     if edge_table < g.edges as usize * 6 {
+        return false;
+    }
+    if kmer_index < g.vertices as usize * 2 {
         return false;
     }
     if node_table < (g.nodes as usize + 1) * 5 {
@@ -99,14 +103,15 @@ fn trees_refusal(r: Evidence) -> u32
     }
 }
 
-// ---- the work; w_v, w_e and w_n are the workspace's tables of vertices, edges and nodes, and w_o its open trees
+// ---- the work; w_v, w_e and w_n are the workspace's tables of vertices, edges and nodes, w_i its index of kmers, and w_o its open trees
 
 // All of the workspace becomes 0.
-fn clear_all(w_v: &mut [u32], w_e: &mut [u32], w_n: &mut [u32], w_o: &mut [u32])
-    ensures { λ _. ⌜ Zeroed (now («w_v» .entry)) (now («w_v» .exit)) (now («w_e» .entry)) (now («w_e» .exit)) (now («w_n» .entry)) (now («w_n» .exit)) (now («w_o» .entry)) (now («w_o» .exit)) ⌝ }
+fn clear_all(w_v: &mut [u32], w_e: &mut [u32], w_i: &mut [u32], w_n: &mut [u32], w_o: &mut [u32])
+    ensures { λ _. ⌜ Zeroed (now («w_v» .entry)) (now («w_v» .exit)) (now («w_e» .entry)) (now («w_e» .exit)) (now («w_i» .entry)) (now («w_i» .exit)) (now («w_n» .entry)) (now («w_n» .exit)) (now («w_o» .entry)) (now («w_o» .exit)) ⌝ }
 {
     clear(w_v, w_v.len());
     clear(w_e, w_e.len());
+    clear(w_i, w_i.len());
     clear(w_n, w_n.len());
     clear(w_o, w_o.len());
 }
@@ -149,10 +154,11 @@ fn fill(
     nodes: &mut [u32],
     w_v: &mut [u32],
     w_e: &mut [u32],
+    w_i: &mut [u32],
     w_n: &mut [u32],
     w_o: &mut [u32],
 ) -> GraphAnswer
-    requires { ⌜ Fills (sampleOf k quality (now reference) (now ends) (now bases) (now qualities)) (graphMaximaOf maxima) (now edges) (now nodes) (now «w_v») (now «w_e») (now «w_n») (now «w_o») ⌝ }
+    requires { ⌜ Fills (sampleOf k quality (now reference) (now ends) (now bases) (now qualities)) (graphMaximaOf maxima) (now edges) (now nodes) (now «w_v») (now «w_e») (now «w_i») (now «w_n») (now «w_o») ⌝ }
     ensures { λ r. ⌜ outcome r (now (edges .exit)) (now (nodes .exit)) ≡ graphOf (built (sampleOf k quality (now (reference .entry)) (now (ends .entry)) (now (bases .entry)) (now (qualities .entry))) (graphMaximaOf maxima)) (now (edges .entry)) (now (nodes .entry)) ⌝ }
 {
     let size = k as usize;
@@ -170,6 +176,7 @@ fn fill(
         qualities,
         w_v,
         w_e,
+        w_i,
         most,
     );
     let Answer::Done(b) = r else {
@@ -184,6 +191,7 @@ fn fill(
         qualities,
         w_v,
         w_e,
+        w_i,
         w_n,
         w_o,
         b,
@@ -208,13 +216,14 @@ fn make_graph(
     nodes: &mut [u32],
     w_v: &mut [u32],
     w_e: &mut [u32],
+    w_i: &mut [u32],
     w_n: &mut [u32],
     w_o: &mut [u32],
 ) -> GraphAnswer
-    requires { ⌜ Lent (sampleOf k quality (now reference) (now ends) (now bases) (now qualities)) (graphMaximaOf maxima) (now edges) (now nodes) (now «w_v») (now «w_e») (now «w_n») (now «w_o») ⌝ }
-    ensures { λ r. ⌜ Made (sampleOf k quality (now (reference .entry)) (now (ends .entry)) (now (bases .entry)) (now (qualities .entry))) (graphMaximaOf maxima) r (now (edges .entry)) (now (edges .exit)) (now (nodes .entry)) (now (nodes .exit)) (now («w_v» .entry)) (now («w_v» .exit)) (now («w_e» .entry)) (now («w_e» .exit)) (now («w_n» .entry)) (now («w_n» .exit)) (now («w_o» .entry)) (now («w_o» .exit)) ⌝ }
+    requires { ⌜ Lent (sampleOf k quality (now reference) (now ends) (now bases) (now qualities)) (graphMaximaOf maxima) (now edges) (now nodes) (now «w_v») (now «w_e») (now «w_i») (now «w_n») (now «w_o») ⌝ }
+    ensures { λ r. ⌜ Made (sampleOf k quality (now (reference .entry)) (now (ends .entry)) (now (bases .entry)) (now (qualities .entry))) (graphMaximaOf maxima) r (now (edges .entry)) (now (edges .exit)) (now (nodes .entry)) (now (nodes .exit)) (now («w_v» .entry)) (now («w_v» .exit)) (now («w_e» .entry)) (now («w_e» .exit)) (now («w_i» .entry)) (now («w_i» .exit)) (now («w_n» .entry)) (now («w_n» .exit)) (now («w_o» .entry)) (now («w_o» .exit)) ⌝ }
 {
-    clear_all(w_v, w_e, w_n, w_o);
+    clear_all(w_v, w_e, w_i, w_n, w_o);
     let r = fill(
         k,
         quality,
@@ -227,10 +236,11 @@ fn make_graph(
         nodes,
         w_v,
         w_e,
+        w_i,
         w_n,
         w_o,
     );
-    clear_all(w_v, w_e, w_n, w_o);
+    clear_all(w_v, w_e, w_i, w_n, w_o);
     r
 }
 
@@ -249,10 +259,11 @@ pub fn graph(
     nodes: &mut [u32],
     w_vertices: &mut [u32],
     w_edges: &mut [u32],
+    w_index: &mut [u32],
     w_nodes: &mut [u32],
     w_open: &mut [u32],
 ) -> GraphAnswer
-    ensures { λ r. ⌜ Graphed (sampleOf k quality (now (reference .entry)) (now (ends .entry)) (now (bases .entry)) (now (qualities .entry))) (graphMaximaOf maxima) r (now (edges .entry)) (now (edges .exit)) (now (nodes .entry)) (now (nodes .exit)) (now («w_vertices» .entry)) (now («w_vertices» .exit)) (now («w_edges» .entry)) (now («w_edges» .exit)) (now («w_nodes» .entry)) (now («w_nodes» .exit)) (now («w_open» .entry)) (now («w_open» .exit)) ⌝ }
+    ensures { λ r. ⌜ Graphed (sampleOf k quality (now (reference .entry)) (now (ends .entry)) (now (bases .entry)) (now (qualities .entry))) (graphMaximaOf maxima) r (now (edges .entry)) (now (edges .exit)) (now (nodes .entry)) (now (nodes .exit)) (now («w_vertices» .entry)) (now («w_vertices» .exit)) (now («w_edges» .entry)) (now («w_edges» .exit)) (now («w_index» .entry)) (now («w_index» .exit)) (now («w_nodes» .entry)) (now («w_nodes» .exit)) (now («w_open» .entry)) (now («w_open» .exit)) ⌝ }
 {
     let fits = lent_fits(
         maxima,
@@ -260,6 +271,7 @@ pub fn graph(
         nodes.len(),
         w_vertices.len(),
         w_edges.len(),
+        w_index.len(),
         w_nodes.len(),
         w_open.len(),
     );
@@ -269,6 +281,7 @@ pub fn graph(
     }
     let a = maxima.vertices as usize * 12;
     let b = maxima.edges as usize * 6;
+    let i = maxima.vertices as usize * 2;
     let c = (maxima.nodes as usize + 1) * 5;
     let d = maxima.nodes as usize * 2;
     make_graph(
@@ -283,6 +296,7 @@ pub fn graph(
         nodes,
         &mut w_vertices[..a],
         &mut w_edges[..b],
+        &mut w_index[..i],
         &mut w_nodes[..c],
         &mut w_open[..d],
     )
@@ -303,10 +317,11 @@ pub extern "C" fn punelavoh_graph(
     nodes: &mut [u32],
     w_vertices: &mut [u32],
     w_edges: &mut [u32],
+    w_index: &mut [u32],
     w_nodes: &mut [u32],
     w_open: &mut [u32],
 ) -> GraphAnswer
-    ensures { λ r. ⌜ Graphed (sampleOf k quality (now (reference .entry)) (now (ends .entry)) (now (bases .entry)) (now (qualities .entry))) (graphMaximaOf maxima) r (now (edges .entry)) (now (edges .exit)) (now (nodes .entry)) (now (nodes .exit)) (now («w_vertices» .entry)) (now («w_vertices» .exit)) (now («w_edges» .entry)) (now («w_edges» .exit)) (now («w_nodes» .entry)) (now («w_nodes» .exit)) (now («w_open» .entry)) (now («w_open» .exit)) ⌝ }
+    ensures { λ r. ⌜ Graphed (sampleOf k quality (now (reference .entry)) (now (ends .entry)) (now (bases .entry)) (now (qualities .entry))) (graphMaximaOf maxima) r (now (edges .entry)) (now (edges .exit)) (now (nodes .entry)) (now (nodes .exit)) (now («w_vertices» .entry)) (now («w_vertices» .exit)) (now («w_edges» .entry)) (now («w_edges» .exit)) (now («w_index» .entry)) (now («w_index» .exit)) (now («w_nodes» .entry)) (now («w_nodes» .exit)) (now («w_open» .entry)) (now («w_open» .exit)) ⌝ }
 {
     graph(
         k,
@@ -320,6 +335,7 @@ pub extern "C" fn punelavoh_graph(
         nodes,
         w_vertices,
         w_edges,
+        w_index,
         w_nodes,
         w_open,
     )

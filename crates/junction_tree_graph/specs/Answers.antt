@@ -17,6 +17,7 @@ use Rattle.laws.specs.Records.{field}
 use Rattle.assembly.specs.Store.{kmersOf}
 use Rattle.assembly.specs.Moves.{addedE}
 use Rattle.assembly.specs.Kmers.{part}
+use Rattle.assembly.specs.Index.{Finding}
 use Rattle.assembly.specs.Symbolic.{symbolic}
 use Rattle.junction_tree_graph.specs.declared.At.{At}
 use Rattle.junction_tree_graph.specs.declared.Step.{Step}
@@ -33,6 +34,11 @@ refusalOf (Refused n) = n
 abbrev pub BuiltOf : Sample → ℕ → ℕ → List ℕ → List ℕ → Answer → Type 0
 BuiltOf s v e vs es (answer.Done b) = BuiltAt s v e vs es (b .vertices) (b .edges) (b .sink)
 BuiltOf s v e vs es (answer.Refused n) = NotBuilt s v e n
+
+-- the index has the kmers of the graph
+abbrev pub FoundOf : ℕ → List ℕ → List ℕ → List ℕ → Answer → Type 0
+FoundOf k text vs idx (answer.Done b) = Finding k text vs idx (b .vertices)
+FoundOf k text vs idx (answer.Refused n) = Unit {0}
 
 -- ---- the whole build in the code's words
 module _ {s : Sample} {v e : ℕ} {vs es : List ℕ} (x : Builds s v e vs es) (vs' es' : List ℕ) (r : Step)

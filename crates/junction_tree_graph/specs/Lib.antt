@@ -1,4 +1,5 @@
 pub mod Steps
+pub mod Indexes
 pub mod Backs
 pub mod Starts
 pub mod Stretches

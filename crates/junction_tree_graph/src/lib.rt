@@ -5,10 +5,13 @@ use assembly::byte_at;
 use assembly::create_vertex;
 use assembly::edge_from;
 use assembly::edge_to;
+use assembly::enter_kmer;
+use assembly::find_in_bucket;
 use assembly::find_kmer;
 use assembly::inc_edge;
 use assembly::incoming_count;
 use assembly::incoming_edge;
+use assembly::kmer_bucket;
 use assembly::out_edge;
 use assembly::wide;
 ghost use mathlib.Core.Path.{_≡_};
@@ -23,13 +26,14 @@ ghost use Rattle.definition.specs.Threading.{step, startAt, thread, threadAll, 
 ghost use Rattle.assembly.specs.Store.{graphOf};
 ghost use Rattle.assembly.specs.Kmers.{part};
 ghost use Rattle.junction_tree_graph.specs.Steps.{Gets, Got, Extends, Stepped, threadingOf, originOf};
+ghost use Rattle.junction_tree_graph.specs.Indexes.{Indexes, Keeps, Fresh};
 ghost use Rattle.junction_tree_graph.specs.Backs.{Backs, Backed};
 ghost use Rattle.junction_tree_graph.specs.Starts.{Starts};
 ghost use Rattle.junction_tree_graph.specs.Stretches.{Threads, Threaded, stretchAt};
 ghost use Rattle.junction_tree_graph.specs.Runs.{RunEnd, threadRun};
 ghost use Rattle.junction_tree_graph.specs.Reads.{RunThreads, ReadThreads, ReadsThread, readOf, readsOf};
 ghost use Rattle.junction_tree_graph.specs.Built.{sampleOf, Begins, Builds};
-ghost use Rattle.junction_tree_graph.specs.Answers.{refusalOf, BuiltOf};
+ghost use Rattle.junction_tree_graph.specs.Answers.{refusalOf, BuiltOf, FoundOf};
 
 // The most vertices and edges: of the caller's maxima the symbolic vertex and edge count, of those that threading keeps to they do not.
 pub struct Most {
@@ -73,16 +77,18 @@ fn get_or_create_kmer_vertex(
     reference: &[u8],
     bases: &[u8],
     vertices: &mut [u32],
+    index: &mut [u32],
     k: usize,
     most: Most,
     s: At,
     q: usize,
 ) -> Step
-    requires { ⌜ Gets k (now reference ++ now bases) (now vertices) most s q ⌝ }
-    ensures { λ r. ⌜ Got k (now (reference .entry) ++ now (bases .entry)) (now (vertices .entry)) (now (vertices .exit)) most s q r ⌝ }
+    requires { ⌜ Gets k (now reference ++ now bases) (now vertices) most s q × Indexes k (now reference ++ now bases) (now vertices) (now index) most (s .vertices) ⌝ }
+    ensures { λ r. ⌜ Got k (now (reference .entry) ++ now (bases .entry)) (now (vertices .entry)) (now (vertices .exit)) most s q r × Keeps k (now (reference .entry) ++ now (bases .entry)) (now (vertices .exit)) (now (index .exit)) most r ⌝ }
 {
     let n = s.vertices;
-    let w = find_kmer(reference, bases, vertices, n, k, q);
+    let h = kmer_bucket(reference, bases, k, q, index.len() / 2);
+    let w = find_in_bucket(reference, bases, vertices, index, n, k, q, h);
     if w != n {
         return Step::Next(At {
             vertices: n,
@@ -95,6 +101,7 @@ fn get_or_create_kmer_vertex(
         return Step::Refused(8);
     }
     create_vertex(vertices, n, q);
+    enter_kmer(index, n, h);
     Step::Next(At {
         vertices: n + 1,
         edges: s.edges,
@@ -109,6 +116,7 @@ fn extend_chain_by_one(
     bases: &[u8],
     vertices: &mut [u32],
     edges: &mut [u32],
+    index: &mut [u32],
     k: usize,
     most: Most,
     s: At,
@@ -117,8 +125,8 @@ fn extend_chain_by_one(
     sequence: u32,
     place: u32,
 ) -> Step
-    requires { ⌜ Extends k (now reference ++ now bases) (now vertices) (now edges) most s q ⌝ }
-    ensures { λ r. ⌜ Stepped k (now (reference .entry) ++ now (bases .entry)) (now (vertices .exit)) (now (edges .exit)) most (s .steps + 1) r (step (not (eqb mark 0)) (originOf sequence place) (part k (now (reference .entry) ++ now (bases .entry)) q) (threadingOf k (now (reference .entry) ++ now (bases .entry)) (now (vertices .entry)) (now (edges .entry)) s)) ⌝ }
+    requires { ⌜ Extends k (now reference ++ now bases) (now vertices) (now edges) most s q × Indexes k (now reference ++ now bases) (now vertices) (now index) most (s .vertices) ⌝ }
+    ensures { λ r. ⌜ Stepped k (now (reference .entry) ++ now (bases .entry)) (now (vertices .exit)) (now (edges .exit)) most (s .steps + 1) r (step (not (eqb mark 0)) (originOf sequence place) (part k (now (reference .entry) ++ now (bases .entry)) q) (threadingOf k (now (reference .entry) ++ now (bases .entry)) (now (vertices .entry)) (now (edges .entry)) s)) × Keeps k (now (reference .entry) ++ now (bases .entry)) (now (vertices .exit)) (now (index .exit)) most r ⌝ }
 {
     let here = s.here;
     let m = s.edges;
@@ -139,7 +147,7 @@ fn extend_chain_by_one(
     if m >= most.edges {
         return Step::Refused(8);
     }
-    let r = get_or_create_kmer_vertex(reference, bases, vertices, k, most, s, q);
+    let r = get_or_create_kmer_vertex(reference, bases, vertices, index, k, most, s, q);
     let Step::Next(t) = r else {
         return r;
     };
@@ -182,15 +190,16 @@ fn start_sequence(
     bases: &[u8],
     vertices: &mut [u32],
     edges: &mut [u32],
+    index: &mut [u32],
     k: usize,
     most: Most,
     s: At,
     q: usize,
 ) -> Step
-    requires { ⌜ Starts k (now reference ++ now bases) (now vertices) (now edges) most s q ⌝ }
-    ensures { λ r. ⌜ Stepped k (now (reference .entry) ++ now (bases .entry)) (now (vertices .exit)) (now (edges .exit)) most (s .steps + k) r (startAt k (part k (now (reference .entry) ++ now (bases .entry)) q) (graphOf k (now (reference .entry) ++ now (bases .entry)) (now (vertices .entry)) (s .vertices) (now (edges .entry)) (s .edges))) ⌝ }
+    requires { ⌜ Starts k (now reference ++ now bases) (now vertices) (now edges) most s q × Indexes k (now reference ++ now bases) (now vertices) (now index) most (s .vertices) ⌝ }
+    ensures { λ r. ⌜ Stepped k (now (reference .entry) ++ now (bases .entry)) (now (vertices .exit)) (now (edges .exit)) most (s .steps + k) r (startAt k (part k (now (reference .entry) ++ now (bases .entry)) q) (graphOf k (now (reference .entry) ++ now (bases .entry)) (now (vertices .entry)) (s .vertices) (now (edges .entry)) (s .edges))) × Keeps k (now (reference .entry) ++ now (bases .entry)) (now (vertices .exit)) (now (index .exit)) most r ⌝ }
 {
-    let r = get_or_create_kmer_vertex(reference, bases, vertices, k, most, s, q);
+    let r = get_or_create_kmer_vertex(reference, bases, vertices, index, k, most, s, q);
     let Step::Next(t) = r else {
         return r;
     };
@@ -209,6 +218,7 @@ fn thread_sequence(
     bases: &[u8],
     vertices: &mut [u32],
     edges: &mut [u32],
+    index: &mut [u32],
     k: usize,
     most: Most,
     s0: At,
@@ -218,11 +228,11 @@ fn thread_sequence(
     sequence: u32,
     place: usize,
 ) -> Step
-    requires { ⌜ Threads k (now reference ++ now bases) (now vertices) (now edges) most s0 a len place ⌝ }
-    ensures { λ r. ⌜ Threaded k (now (reference .entry) ++ now (bases .entry)) (now (vertices .exit)) (now (edges .exit)) most (s0 .steps + k + len) r (thread (not (eqb mark 0)) k (stretchAt (now (reference .entry) ++ now (bases .entry)) a len sequence place) (graphOf k (now (reference .entry) ++ now (bases .entry)) (now (vertices .entry)) (s0 .vertices) (now (edges .entry)) (s0 .edges))) ⌝ }
+    requires { ⌜ Threads k (now reference ++ now bases) (now vertices) (now edges) most s0 a len place × Indexes k (now reference ++ now bases) (now vertices) (now index) most (s0 .vertices) ⌝ }
+    ensures { λ r. ⌜ Threaded k (now (reference .entry) ++ now (bases .entry)) (now (vertices .exit)) (now (edges .exit)) most (s0 .steps + k + len) r (thread (not (eqb mark 0)) k (stretchAt (now (reference .entry) ++ now (bases .entry)) a len sequence place) (graphOf k (now (reference .entry) ++ now (bases .entry)) (now (vertices .entry)) (s0 .vertices) (now (edges .entry)) (s0 .edges))) × Keeps k (now (reference .entry) ++ now (bases .entry)) (now (vertices .exit)) (now (index .exit)) most r ⌝ }
 {
     let last = len - k;
-    let r0 = start_sequence(reference, bases, vertices, edges, k, most, s0, a);
+    let r0 = start_sequence(reference, bases, vertices, edges, index, k, most, s0, a);
     let Step::Next(s1) = r0 else {
         return r0;
     };
@@ -234,6 +244,7 @@ fn thread_sequence(
             bases,
             vertices,
             edges,
+            index,
             k,
             most,
             s,
@@ -285,6 +296,7 @@ fn thread_run(
     bases: &[u8],
     vertices: &mut [u32],
     edges: &mut [u32],
+    index: &mut [u32],
     k: usize,
     most: Most,
     s: At,
@@ -293,8 +305,8 @@ fn thread_run(
     sequence: u32,
     place: usize,
 ) -> Step
-    requires { ⌜ RunThreads k (now reference ++ now bases) (now vertices) (now edges) most s a len place ⌝ }
-    ensures { λ r. ⌜ Threaded k (now (reference .entry) ++ now (bases .entry)) (now (vertices .exit)) (now (edges .exit)) most (s .steps + 2 * len) r (threadRun k (stretchAt (now (reference .entry) ++ now (bases .entry)) a len sequence place) (graphOf k (now (reference .entry) ++ now (bases .entry)) (now (vertices .entry)) (s .vertices) (now (edges .entry)) (s .edges))) ⌝ }
+    requires { ⌜ RunThreads k (now reference ++ now bases) (now vertices) (now edges) most s a len place × Indexes k (now reference ++ now bases) (now vertices) (now index) most (s .vertices) ⌝ }
+    ensures { λ r. ⌜ Threaded k (now (reference .entry) ++ now (bases .entry)) (now (vertices .exit)) (now (edges .exit)) most (s .steps + 2 * len) r (threadRun k (stretchAt (now (reference .entry) ++ now (bases .entry)) a len sequence place) (graphOf k (now (reference .entry) ++ now (bases .entry)) (now (vertices .entry)) (s .vertices) (now (edges .entry)) (s .edges))) × Keeps k (now (reference .entry) ++ now (bases .entry)) (now (vertices .exit)) (now (index .exit)) most r ⌝ }
 {
     if len < k {
         return Step::Next(s);
@@ -304,6 +316,7 @@ fn thread_run(
         bases,
         vertices,
         edges,
+        index,
         k,
         most,
         s,
@@ -322,6 +335,7 @@ fn thread_read(
     qualities: &[u8],
     vertices: &mut [u32],
     edges: &mut [u32],
+    index: &mut [u32],
     k: usize,
     quality: u8,
     most: Most,
@@ -330,8 +344,8 @@ fn thread_read(
     end: usize,
     sequence: u32,
 ) -> Step
-    requires { ⌜ ReadThreads k (now reference) (now bases) (now qualities) (now vertices) (now edges) most s0 start end ⌝ }
-    ensures { λ r. ⌜ Threaded k (now (reference .entry) ++ now (bases .entry)) (now (vertices .exit)) (now (edges .exit)) most (2 * (length (now (reference .entry)) + end)) r (threadAll k (readOf k quality (now (bases .entry)) (now (qualities .entry)) sequence start end) (graphOf k (now (reference .entry) ++ now (bases .entry)) (now (vertices .entry)) (s0 .vertices) (now (edges .entry)) (s0 .edges))) ⌝ }
+    requires { ⌜ ReadThreads k (now reference) (now bases) (now qualities) (now vertices) (now edges) most s0 start end × Indexes k (now reference ++ now bases) (now vertices) (now index) most (s0 .vertices) ⌝ }
+    ensures { λ r. ⌜ Threaded k (now (reference .entry) ++ now (bases .entry)) (now (vertices .exit)) (now (edges .exit)) most (2 * (length (now (reference .entry)) + end)) r (threadAll k (readOf k quality (now (bases .entry)) (now (qualities .entry)) sequence start end) (graphOf k (now (reference .entry) ++ now (bases .entry)) (now (vertices .entry)) (s0 .vertices) (now (edges .entry)) (s0 .edges))) × Keeps k (now (reference .entry) ++ now (bases .entry)) (now (vertices .exit)) (now (index .exit)) most r ⌝ }
 {
     let n = reference.len();
     let mut s = s0;
@@ -343,6 +357,7 @@ fn thread_read(
             bases,
             vertices,
             edges,
+            index,
             k,
             most,
             s,
@@ -368,13 +383,14 @@ fn thread_reads(
     qualities: &[u8],
     vertices: &mut [u32],
     edges: &mut [u32],
+    index: &mut [u32],
     k: usize,
     quality: u8,
     most: Most,
     s0: At,
 ) -> Step
-    requires { ⌜ ReadsThread k (now reference) (now ends) (now bases) (now qualities) (now vertices) (now edges) most s0 ⌝ }
-    ensures { λ r. ⌜ Threaded k (now (reference .entry) ++ now (bases .entry)) (now (vertices .exit)) (now (edges .exit)) most (2 * length (now (reference .entry) ++ now (bases .entry))) r (threadAll k (readsOf k quality (now (ends .entry)) (now (bases .entry)) (now (qualities .entry))) (graphOf k (now (reference .entry) ++ now (bases .entry)) (now (vertices .entry)) (s0 .vertices) (now (edges .entry)) (s0 .edges))) ⌝ }
+    requires { ⌜ ReadsThread k (now reference) (now ends) (now bases) (now qualities) (now vertices) (now edges) most s0 × Indexes k (now reference ++ now bases) (now vertices) (now index) most (s0 .vertices) ⌝ }
+    ensures { λ r. ⌜ Threaded k (now (reference .entry) ++ now (bases .entry)) (now (vertices .exit)) (now (edges .exit)) most (2 * length (now (reference .entry) ++ now (bases .entry))) r (threadAll k (readsOf k quality (now (ends .entry)) (now (bases .entry)) (now (qualities .entry))) (graphOf k (now (reference .entry) ++ now (bases .entry)) (now (vertices .entry)) (s0 .vertices) (now (edges .entry)) (s0 .edges))) × Keeps k (now (reference .entry) ++ now (bases .entry)) (now (vertices .exit)) (now (index .exit)) most r ⌝ }
 {
     let mut s = s0;
     let mut start: usize = 0;
@@ -387,6 +403,7 @@ fn thread_reads(
             qualities,
             vertices,
             edges,
+            index,
             k,
             quality,
             most,
@@ -425,10 +442,11 @@ fn build(
     qualities: &[u8],
     vertices: &mut [u32],
     edges: &mut [u32],
+    index: &mut [u32],
     most: Most,
 ) -> Step
-    requires { ⌜ Begins (sampleOf k quality (now reference) (now ends) (now bases) (now qualities)) (now vertices) (now edges) most ⌝ }
-    ensures { λ r. ⌜ Threaded k (now (reference .entry) ++ now (bases .entry)) (now (vertices .exit)) (now (edges .exit)) most (2 * length (now (reference .entry) ++ now (bases .entry))) r (threaded (sampleOf k quality (now (reference .entry)) (now (ends .entry)) (now (bases .entry)) (now (qualities .entry)))) ⌝ }
+    requires { ⌜ Begins (sampleOf k quality (now reference) (now ends) (now bases) (now qualities)) (now vertices) (now edges) most × Fresh (most .vertices + 1) (now index) ⌝ }
+    ensures { λ r. ⌜ Threaded k (now (reference .entry) ++ now (bases .entry)) (now (vertices .exit)) (now (edges .exit)) most (2 * length (now (reference .entry) ++ now (bases .entry))) r (threaded (sampleOf k quality (now (reference .entry)) (now (ends .entry)) (now (bases .entry)) (now (qualities .entry)))) × Keeps k (now (reference .entry) ++ now (bases .entry)) (now (vertices .exit)) (now (index .exit)) most r ⌝ }
 {
     let s0 = At {
         vertices: 0,
@@ -441,6 +459,7 @@ fn build(
         bases,
         vertices,
         edges,
+        index,
         k,
         most,
         s0,
@@ -460,6 +479,7 @@ fn build(
         qualities,
         vertices,
         edges,
+        index,
         k,
         quality,
         most,
@@ -477,10 +497,11 @@ pub fn build_graph(
     qualities: &[u8],
     vertices: &mut [u32],
     edges: &mut [u32],
+    index: &mut [u32],
     maxima: Most,
 ) -> Answer
-    requires { ⌜ Builds (sampleOf k quality (now reference) (now ends) (now bases) (now qualities)) (maxima .vertices) (maxima .edges) (now vertices) (now edges) ⌝ }
-    ensures { λ r. ⌜ BuiltOf (sampleOf k quality (now (reference .entry)) (now (ends .entry)) (now (bases .entry)) (now (qualities .entry))) (maxima .vertices) (maxima .edges) (now (vertices .exit)) (now (edges .exit)) r ⌝ }
+    requires { ⌜ Builds (sampleOf k quality (now reference) (now ends) (now bases) (now qualities)) (maxima .vertices) (maxima .edges) (now vertices) (now edges) × Fresh (maxima .vertices) (now index) ⌝ }
+    ensures { λ r. ⌜ BuiltOf (sampleOf k quality (now (reference .entry)) (now (ends .entry)) (now (bases .entry)) (now (qualities .entry))) (maxima .vertices) (maxima .edges) (now (vertices .exit)) (now (edges .exit)) r × FoundOf k (now (reference .entry) ++ now (bases .entry)) (now (vertices .exit)) (now (index .exit)) r ⌝ }
 {
     let most = Most {
         vertices: maxima.vertices - 1,
@@ -495,6 +516,7 @@ pub fn build_graph(
         qualities,
         vertices,
         edges,
+        index,
         most,
     );
     let Step::Next(s) = r else {
@@ -503,7 +525,7 @@ pub fn build_graph(
     let n = s.vertices;
     let m = s.edges;
     let place = reference.len() - k;
-    let sink = find_kmer(reference, bases, vertices, n, k, place);
+    let sink = find_kmer(reference, bases, vertices, index, n, k, place);
     add_symbolic_edge(edges, m, sink, n, place);
     Answer::Done(Built {
         vertices: n,

@@ -6,6 +6,7 @@ use native.Mathlib.Omega.{arith}
 use native.Mathlib.Decide.{ℕ-discrete, decLt}
 use lib.ListN.{length, length-set}
 use Rattle.laws.specs.Records.{field, putField, field-same, field-other, row-other}
+use Rattle.assembly.specs.Index.{Finding}
 use Rattle.assembly.specs.Store.{graphOf, kmersOf, lastOf, code, code-lt, Good}
 use Rattle.assembly.specs.Moves.{kmers-same}
 
@@ -42,6 +43,9 @@ root-other vs v x u n = row-other vs 12 v 11 x u 11 (omega arith) (omega arith) 
 module _ {n : ℕ} {vs vs' : List ℕ} (p : Kept n vs vs') (k : ℕ) (text : List ℕ) where
   kmers-kept : kmersOf k text vs' n ≡ kmersOf k text vs n
   kmers-kept = kmers-same k text vs vs' n (λ u h. p .other u 8 (omega arith))
+
+  pub finding-kept : {idx : List ℕ} → Finding k text vs idx n → Finding k text vs' idx n
+  finding-kept f = record { buckets = f .buckets; indexed = rw kmers-kept (f .indexed) }
 
   pub graph-kept : (es : List ℕ) (m : ℕ) → graphOf k text vs' n es m ≡ graphOf k text vs n es m
   unfolding graphOf

@@ -23,6 +23,7 @@ ghost use Rattle.laws.specs.Records.{field, putField};
 ghost use Rattle.assembly.specs.Store.{code};
 ghost use Rattle.junction_tree_graph.specs.Reads.{readOf, readsOf};
 ghost use Rattle.junction_tree_graph.specs.Built.{sampleOf};
+ghost use Rattle.assembly.specs.Index.{Finding};
 ghost use Rattle.junction_trees.specs.Degrees.{OutDegree, Warrants};
 ghost use Rattle.junction_trees.specs.Roots.{Cleared};
 ghost use Rattle.junction_trees.specs.Steps.{Passing, Passed, Ending, Ended};
@@ -206,6 +207,7 @@ fn walk_stretch(
     bases: &[u8],
     vertices: &mut [u32],
     edges: &[u32],
+    index: &[u32],
     nodes: &mut [u32],
     active: &mut [u32],
     d: Ground,
@@ -213,11 +215,11 @@ fn walk_stretch(
     len: usize,
     count: usize,
 ) -> Evidence
-    requires { ⌜ Walks d (now reference ++ now bases) (now vertices) (now edges) (now nodes) (now active) a len count × (d .k < len) ⌝ }
+    requires { ⌜ Walks d (now reference ++ now bases) (now vertices) (now edges) (now nodes) (now active) a len count × (d .k < len) × Finding (d .k) (now reference ++ now bases) (now vertices) (now index) (d .vertices) ⌝ }
     ensures { λ r. ⌜ Walking (walkOf d (now (reference .entry) ++ now (bases .entry)) (now (vertices .entry)) (now (edges .entry)) a len) d a (a + len) count (now (vertices .entry)) (now (vertices .exit)) (now (nodes .entry)) (now (nodes .exit)) (now (active .entry)) (now (active .exit)) r ⌝ }
 {
     let last = len - d.k;
-    let first = find_kmer(reference, bases, vertices, d.vertices, d.k, a);
+    let first = find_kmer(reference, bases, vertices, index, d.vertices, d.k, a);
     let mut s = Way {
         here: first,
         nodes: count,
@@ -252,6 +254,7 @@ fn walk_run(
     bases: &[u8],
     vertices: &mut [u32],
     edges: &[u32],
+    index: &[u32],
     nodes: &mut [u32],
     active: &mut [u32],
     d: Ground,
@@ -259,7 +262,7 @@ fn walk_run(
     len: usize,
     count: usize,
 ) -> Evidence
-    requires { ⌜ Walks d (now reference ++ now bases) (now vertices) (now edges) (now nodes) (now active) a len count ⌝ }
+    requires { ⌜ Walks d (now reference ++ now bases) (now vertices) (now edges) (now nodes) (now active) a len count × Finding (d .k) (now reference ++ now bases) (now vertices) (now index) (d .vertices) ⌝ }
     ensures { λ r. ⌜ Walking (walkOf d (now (reference .entry) ++ now (bases .entry)) (now (vertices .entry)) (now (edges .entry)) a len) d a (a + len) count (now (vertices .entry)) (now (vertices .exit)) (now (nodes .entry)) (now (nodes .exit)) (now (active .entry)) (now (active .exit)) r ⌝ }
 {
     if len <= d.k {
@@ -270,6 +273,7 @@ fn walk_run(
         bases,
         vertices,
         edges,
+        index,
         nodes,
         active,
         d,
@@ -286,6 +290,7 @@ fn walk_read(
     qualities: &[u8],
     vertices: &mut [u32],
     edges: &[u32],
+    index: &[u32],
     nodes: &mut [u32],
     active: &mut [u32],
     quality: u8,
@@ -294,7 +299,7 @@ fn walk_read(
     end: usize,
     count: usize,
 ) -> Evidence
-    requires { ⌜ ReadWalks d (now reference) (now bases) (now qualities) (now vertices) (now edges) (now nodes) (now active) start end count ⌝ }
+    requires { ⌜ ReadWalks d (now reference) (now bases) (now qualities) (now vertices) (now edges) (now nodes) (now active) start end count × Finding (d .k) (now reference ++ now bases) (now vertices) (now index) (d .vertices) ⌝ }
     ensures { λ r. ⌜ ((q : ℕ) → Walking (walksOf d (now (reference .entry) ++ now (bases .entry)) (now (vertices .entry)) (now (edges .entry)) (readOf (d .k) quality (now (bases .entry)) (now (qualities .entry)) q start end)) d (length (now (reference .entry)) + start) (length (now (reference .entry)) + end) count (now (vertices .entry)) (now (vertices .exit)) (now (nodes .entry)) (now (nodes .exit)) (now (active .entry)) (now (active .exit)) r) ⌝ }
 {
     let n = reference.len();
@@ -307,6 +312,7 @@ fn walk_read(
             bases,
             vertices,
             edges,
+            index,
             nodes,
             active,
             d,
@@ -331,13 +337,14 @@ fn generate_junction_trees(
     qualities: &[u8],
     vertices: &mut [u32],
     edges: &[u32],
+    index: &[u32],
     nodes: &mut [u32],
     active: &mut [u32],
     quality: u8,
     d: Ground,
     count: usize,
 ) -> Evidence
-    requires { ⌜ ReadsWalk d (now reference) (now ends) (now bases) (now qualities) (now vertices) (now edges) (now nodes) (now active) count ⌝ }
+    requires { ⌜ ReadsWalk d (now reference) (now ends) (now bases) (now qualities) (now vertices) (now edges) (now nodes) (now active) count × Finding (d .k) (now reference ++ now bases) (now vertices) (now index) (d .vertices) ⌝ }
     ensures { λ r. ⌜ Walking (walksOf d (now (reference .entry) ++ now (bases .entry)) (now (vertices .entry)) (now (edges .entry)) (readsOf (d .k) quality (now (ends .entry)) (now (bases .entry)) (now (qualities .entry)))) d (length (now (reference .entry))) (length (now (reference .entry) ++ now (bases .entry))) count (now (vertices .entry)) (now (vertices .exit)) (now (nodes .entry)) (now (nodes .exit)) (now (active .entry)) (now (active .exit)) r ⌝ }
 {
     let mut c = count;
@@ -351,6 +358,7 @@ fn generate_junction_trees(
             qualities,
             vertices,
             edges,
+            index,
             nodes,
             active,
             quality,
@@ -379,12 +387,13 @@ pub fn build_trees(
     qualities: &[u8],
     vertices: &mut [u32],
     edges: &[u32],
+    index: &[u32],
     nodes: &mut [u32],
     active: &mut [u32],
     built: Built,
     most: usize,
 ) -> Evidence
-    requires { ⌜ Gathers (sampleOf k quality (now reference) (now ends) (now bases) (now qualities)) (now vertices) (now edges) (now nodes) (now active) built most ⌝ }
+    requires { ⌜ Gathers (sampleOf k quality (now reference) (now ends) (now bases) (now qualities)) (now vertices) (now edges) (now nodes) (now active) built most × Finding k (now reference ++ now bases) (now vertices) (now index) (built .vertices) ⌝ }
     ensures { λ r. ⌜ Gathered (sampleOf k quality (now (reference .entry)) (now (ends .entry)) (now (bases .entry)) (now (qualities .entry))) (now (vertices .entry)) (now (vertices .exit)) (now (nodes .entry)) (now (nodes .exit)) (now (active .entry)) (now (active .exit)) built most r ⌝ }
 {
     let d = Ground {
@@ -402,6 +411,7 @@ pub fn build_trees(
         qualities,
         vertices,
         edges,
+        index,
         nodes,
         active,
         quality,

@@ -77,7 +77,7 @@ pub fn graphs(sample: &Sample, full: &Outcome<GraphRows>, subject: &mut Tested, 
                 _ => made.push((GraphMaxima { vertices: least.vertices.max(3) - 1, edges: least.edges.max(2) - 1, nodes: 1 }, None, None)),
             }
             if random.once_in(4) {
-                let workspace = Slice::Workspace(random.below(4 /* the slices of its workspace */));
+                let workspace = Slice::Workspace(random.below(5 /* the slices of its workspace */));
                 let slice = random.pick(&[Slice::Edges, Slice::Nodes, workspace, workspace]);
                 made.push((roomy_graph(random, &least), Some(slice), Some(7)));
             }

@@ -16,6 +16,9 @@ clear-requires-3 c κs = search needs
 clear-requires-4 : tie.Need-clear-requires-4
 clear-requires-4 c κs = search needs
 
+clear-requires-5 : tie.Need-clear-requires-5
+clear-requires-5 c κs = search needs
+
 same-length : tie.Need-same-length
 same-length c = search needs
 
@@ -28,8 +31,11 @@ same-length-3 c = search needs
 same-length-4 : tie.Need-same-length-4
 same-length-4 c = search needs
 
+same-length-5 : tie.Need-same-length-5
+same-length-5 c = search needs
+
 returns : tie.Need-returns
-returns c = record { w-vertices = cleared (c .before .before .before .before .before .before .before .before .before .before .before .before .before .before .before .before .before .before .before .before .args .w-v .now) _ (c .before .before .before .before .before .before .before .before .before .before .before .before .before .before .clear .ensures); w-edges = cleared (c .before .before .before .before .before .before .before .before .before .before .before .before .before .before .before .before .before .before .before .before .args .w-e .now) _ (c .before .before .before .before .before .before .before .before .before .before .clear2 .ensures); w-nodes = cleared (c .before .before .before .before .before .before .before .before .before .before .before .before .before .before .before .before .before .before .before .before .args .w-n .now) _ (c .before .before .before .before .before .before .clear3 .ensures); w-open = cleared (c .before .before .before .before .before .before .before .before .before .before .before .before .before .before .before .before .before .before .before .before .args .w-o .now) _ (c .before .before .clear4 .ensures) }
+returns c = record { w-vertices = cleared (c .before .before .before .before .before .before .before .before .before .before .before .before .before .before .before .before .before .before .before .before .before .before .before .before .before .args .w-v .now) _ (c .before .before .before .before .before .before .before .before .before .before .before .before .before .before .before .before .before .before .clear .ensures); w-edges = cleared (c .before .before .before .before .before .before .before .before .before .before .before .before .before .before .before .before .before .before .before .before .before .before .before .before .before .args .w-e .now) _ (c .before .before .before .before .before .before .before .before .before .before .before .before .before .before .clear2 .ensures); w-index = cleared (c .before .before .before .before .before .before .before .before .before .before .before .before .before .before .before .before .before .before .before .before .before .before .before .before .before .args .w-i .now) _ (c .before .before .before .before .before .before .before .before .before .before .clear3 .ensures); w-nodes = cleared (c .before .before .before .before .before .before .before .before .before .before .before .before .before .before .before .before .before .before .before .before .before .before .before .before .before .args .w-n .now) _ (c .before .before .before .before .before .before .clear4 .ensures); w-open = cleared (c .before .before .before .before .before .before .before .before .before .before .before .before .before .before .before .before .before .before .before .before .before .before .before .before .before .args .w-o .now) _ (c .before .before .clear5 .ensures) }
 
 pub clear-all-spec : {M : Type 1} → statement M
 clear-all-spec =
@@ -39,8 +45,10 @@ clear-all-spec =
     clear-requires-2
     clear-requires-3
     clear-requires-4
+    clear-requires-5
     same-length
     same-length-2
     same-length-3
     same-length-4
+    same-length-5
     returns)

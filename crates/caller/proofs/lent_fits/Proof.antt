@@ -1,6 +1,6 @@
 -- `lent_fits` meets its contract: the first slice shorter than told decides. Assumes nothing.
-use Rattle.caller.specs.Lent.{is-short, no-short, none-short, told-is}
 use mathlib.Core.Path.{_∙_}
+use Rattle.caller.specs.Lent.{is-short, no-short, none-short, told-is}
 use borrow.Author.Needs.{needs}
 use Rattle.caller.proofs.lent_fits.Statement.{statement}
 use Rattle.caller.proofs.lent_fits.Tie as tie
@@ -44,9 +44,6 @@ returns-4 c = is-short _ _ _ _ (c .if4 .taken) ∙ no-short _ _ _ _ (c .before .
 cast-if5 : tie.Need-cast-if5
 cast-if5 c = search needs
 
-add-if5 : tie.Need-add-if5
-add-if5 c = search needs
-
 mul-if5 : tie.Need-mul-if5
 mul-if5 c = search needs
 
@@ -56,14 +53,26 @@ returns-5 c = is-short _ _ _ _ (c .if5 .taken) ∙ no-short _ _ _ _ (c .before .
 cast-if6 : tie.Need-cast-if6
 cast-if6 c = search needs
 
+add-if6 : tie.Need-add-if6
+add-if6 c = search needs
+
 mul-if6 : tie.Need-mul-if6
 mul-if6 c = search needs
 
 returns-6 : tie.Need-returns-6
 returns-6 c = is-short _ _ _ _ (c .if6 .taken) ∙ no-short _ _ _ _ (c .before .before .if5 .left) ∙ no-short _ _ _ _ (c .before .before .before .before .if4 .left) ∙ no-short _ _ _ _ (c .before .before .before .before .before .before .if3 .left) ∙ no-short _ _ _ _ (c .before .before .before .before .before .before .before .before .if2 .left) ∙ no-short _ _ _ _ (c .before .before .before .before .before .before .before .before .before .before .if1 .left) ∙ told-is _ _
 
+cast-if7 : tie.Need-cast-if7
+cast-if7 c = search needs
+
+mul-if7 : tie.Need-mul-if7
+mul-if7 c = search needs
+
 returns-7 : tie.Need-returns-7
-returns-7 c = none-short ∙ no-short _ _ _ _ (c .if6 .left) ∙ no-short _ _ _ _ (c .before .before .if5 .left) ∙ no-short _ _ _ _ (c .before .before .before .before .if4 .left) ∙ no-short _ _ _ _ (c .before .before .before .before .before .before .if3 .left) ∙ no-short _ _ _ _ (c .before .before .before .before .before .before .before .before .if2 .left) ∙ no-short _ _ _ _ (c .before .before .before .before .before .before .before .before .before .before .if1 .left) ∙ told-is _ _
+returns-7 c = is-short _ _ _ _ (c .if7 .taken) ∙ no-short _ _ _ _ (c .before .before .if6 .left) ∙ no-short _ _ _ _ (c .before .before .before .before .if5 .left) ∙ no-short _ _ _ _ (c .before .before .before .before .before .before .if4 .left) ∙ no-short _ _ _ _ (c .before .before .before .before .before .before .before .before .if3 .left) ∙ no-short _ _ _ _ (c .before .before .before .before .before .before .before .before .before .before .if2 .left) ∙ no-short _ _ _ _ (c .before .before .before .before .before .before .before .before .before .before .before .before .if1 .left) ∙ told-is _ _
+
+returns-8 : tie.Need-returns-8
+returns-8 c = none-short ∙ no-short _ _ _ _ (c .if7 .left) ∙ no-short _ _ _ _ (c .before .before .if6 .left) ∙ no-short _ _ _ _ (c .before .before .before .before .if5 .left) ∙ no-short _ _ _ _ (c .before .before .before .before .before .before .if4 .left) ∙ no-short _ _ _ _ (c .before .before .before .before .before .before .before .before .if3 .left) ∙ no-short _ _ _ _ (c .before .before .before .before .before .before .before .before .before .before .if2 .left) ∙ no-short _ _ _ _ (c .before .before .before .before .before .before .before .before .before .before .before .before .if1 .left) ∙ told-is _ _
 
 pub lent-fits-spec : {M : Type 1} → statement M
 lent-fits-spec =
@@ -82,10 +91,13 @@ lent-fits-spec =
     mul-if4
     returns-4
     cast-if5
-    add-if5
     mul-if5
     returns-5
     cast-if6
+    add-if6
     mul-if6
     returns-6
-    returns-7)
+    cast-if7
+    mul-if7
+    returns-7
+    returns-8)

@@ -1,3 +1,5 @@
+use mathlib.Core.List.{_++_}
+use Rattle.junction_tree_graph.specs.Indexes.{Indexes, keeps-stop, keeps-next}
 use mathlib.Core.Path.{_≡_, refl, sym, _∙_}
 use Prim.Native.Nat.{_+_, _-_}
 use native.Mathlib.Omega.{arith}
@@ -12,82 +14,90 @@ use Rattle.assembly.proofs.wide.Reads as wide-reads
 use Rattle.junction_tree_graph.proofs.thread_read.Reads as thread-read-reads
 
 abbrev Inv-loop : tie.InvT-loop
-Inv-loop reference ends bases qualities vertices₀ edges₀ k quality most s₀ start₀ j₀ vertices edges s start j = ReadsLeft k quality reference ends bases qualities most vertices₀ edges₀ s₀ vertices edges s start j
+Inv-loop reference ends bases qualities vertices₀ edges₀ index₀ k quality most s₀ start₀ j₀ vertices edges index s start j = ReadsLeft k quality reference ends bases qualities most vertices₀ edges₀ s₀ vertices edges s start j × Indexes k (reference ++ bases) vertices index most (s .vertices) × (length index ≡ length index₀)
 
 abbrev μ-loop : tie.MeasureT-loop
-μ-loop reference ends bases qualities vertices₀ edges₀ k quality most s₀ start₀ j₀ vertices edges s start j = length ends - j
+μ-loop reference ends bases qualities vertices₀ edges₀ index₀ k quality most s₀ start₀ j₀ vertices edges index s start j = length ends - j
 
--- src/lib.rt:382:5
+-- src/lib.rt:398:5
 loop-holds : tie.Need-loop-holds Inv-loop μ-loop
-loop-holds c = reads-start (c .before .before .before .before .before .before .pre) ((c .before .before .before .before .before .before .args) .quality)
+loop-holds c = ((reads-start (c .before .before .before .before .before .before .before .pre .0) (c .before .before .before .before .before .before .before .args .quality)), c .before .before .before .before .before .before .before .pre .1, refl)
 
--- src/lib.rt:383:24
+-- src/lib.rt:399:24
 mul-wide : tie.Need-mul-wide Inv-loop μ-loop
 mul-wide c = search needs
 
--- src/lib.rt:383:24
+-- src/lib.rt:399:24
 shared-slice-read-wide : tie.Need-shared-slice-read-wide Inv-loop μ-loop
 shared-slice-read-wide c = search needs
 
--- src/lib.rt:383:13
+-- src/lib.rt:399:13
 wide-requires : tie.Need-wide-requires Inv-loop μ-loop
 wide-requires c κs = search needs
 
--- src/lib.rt:396:14
+-- src/lib.rt:413:14
 add-thread-read : tie.Need-add-thread-read Inv-loop μ-loop
-add-thread-read c = let h = (c .before .before .before .before .before .before .before .before .before .before .before .before .pre) .few in let l = (c .before .before .before .before .loop-test) .taken in omega arith
+add-thread-read c = let h = c .before .before .before .before .before .before .before .before .before .before .before .before .before .before .pre .0 .few in let l = c .before .before .before .before .before .loop-test .taken in omega arith
 
--- src/lib.rt:396:13
+-- src/lib.rt:413:13
 cast-thread-read : tie.Need-cast-thread-read Inv-loop μ-loop
-cast-thread-read c = let h = (c .before .before .before .before .before .before .before .before .before .before .before .before .pre) .few in let l = (c .before .before .before .before .loop-test) .taken in omega arith
+cast-thread-read c = let h = c .before .before .before .before .before .before .before .before .before .before .before .before .before .before .pre .0 .few in let l = c .before .before .before .before .before .loop-test .taken in omega arith
 
--- src/lib.rt:384:13
+-- src/lib.rt:400:13
 thread-read-requires : tie.Need-thread-read-requires Inv-loop μ-loop
-thread-read-requires c κs = let a = (c .before .before .before .before .before .before .before .before .before .before .before .before .args) in reads-read (c .before .before .before .before .before .before .before .before .before .before .before .before .pre) (a .quality) ((c .before .before .before .before .before .loop) .inv) ((c .before .before .before .before .loop-test) .taken) _ ((c .before .before .wide) .ensures)
+thread-read-requires c κs = ((let a = (c .before .before .before .before .before .before .before .before .before .before .before .before .before .before .args) in reads-read (c .before .before .before .before .before .before .before .before .before .before .before .before .before .before .pre .0) (a .quality) (c .before .before .before .before .before .before .loop .inv .0) (c .before .before .before .before .before .loop-test .taken) _ (c .before .before .before .wide .ensures)), c .before .before .before .before .before .before .loop .inv .1)
 
--- src/lib.rt:398:24
+-- src/lib.rt:415:24
 enum-known-r : tie.Need-enum-known-r Inv-loop μ-loop
 enum-known-r c = search needs
 
--- src/lib.rt:399:13
+-- src/lib.rt:416:13
 enum-told : tie.Need-enum-told Inv-loop μ-loop
 enum-told c = search needs
 
--- src/lib.rt:399:13
+-- src/lib.rt:416:13
 same-length : tie.Need-same-length Inv-loop μ-loop
-same-length c = (c .before .before .before .before .before .before .thread-read) .kept .1 .1 .1 .0 ∙ (c .before .before .before .before .before .before .before .before .before .before .before .before .loop) .inv .same-v
+same-length c = c .before .before .before .before .before .before .before .before .thread-read .kept .1 .1 .1 .0 ∙ c .before .before .before .before .before .before .before .before .before .before .before .before .before .before .before .loop .inv .0 .same-v
 
--- src/lib.rt:399:13
+-- src/lib.rt:416:13
 same-length-2 : tie.Need-same-length-2 Inv-loop μ-loop
-same-length-2 c = (c .before .before .before .before .before .before .thread-read) .kept .1 .1 .1 .1 .0 ∙ (c .before .before .before .before .before .before .before .before .before .before .before .before .loop) .inv .same-e
+same-length-2 c = c .before .before .before .before .before .before .before .before .thread-read .kept .1 .1 .1 .1 .0 ∙ c .before .before .before .before .before .before .before .before .before .before .before .before .before .before .before .loop .inv .0 .same-e
 
--- src/lib.rt:399:13
-returns : tie.Need-returns Inv-loop μ-loop
-returns c = let a = (c .before .before .before .before .before .before .before .before .before .before .before .before .before .before .before .before .before .before .before .args) in reads-stop (c .before .before .before .before .before .before .before .before .before .before .before .before .before .before .before .before .before .before .before .pre) (a .quality) ((c .before .before .before .before .before .before .before .before .before .before .before .before .loop) .inv) ((c .before .before .before .before .before .before .before .before .before .before .before .loop-test) .taken) _ ((c .before .before .before .before .before .before .before .before .before .wide) .ensures) _ _ _ _ _ ((c .before .before .before .before .before .before .thread-read) .ensures) ((c .enum-told) .given .1)
-
--- src/lib.rt:403:9
-add-j : tie.Need-add-j Inv-loop μ-loop
-add-j c = let h = (c .before .before .before .before .before .before .before .before .before .before .before .before .before .before .before .before .before .before .before .before .pre) .few in let l = (c .before .before .before .before .before .before .before .before .before .before .before .before .loop-test) .taken in omega arith
-
--- src/lib.rt:382:5
-loop-less : tie.Need-loop-less Inv-loop μ-loop
-loop-less c = let l = (c .before .before .before .before .before .before .before .before .before .before .before .before .loop-test) .taken in omega arith
-
--- src/lib.rt:382:5
-loop-again : tie.Need-loop-again Inv-loop μ-loop
-loop-again c = let a = (c .before .before .before .before .before .before .before .before .before .before .before .before .before .before .before .before .before .before .before .before .args) in reads-next (c .before .before .before .before .before .before .before .before .before .before .before .before .before .before .before .before .before .before .before .before .pre) (a .quality) ((c .before .before .before .before .before .before .before .before .before .before .before .before .before .loop) .inv) ((c .before .before .before .before .before .before .before .before .before .before .before .before .loop-test) .taken) _ ((c .before .before .before .before .before .before .before .before .before .before .wide) .ensures) _ _ _ _ ((c .before .before .before .before .before .before .before .thread-read) .ensures) ((c .before .r) .given .1) ((c .before .before .before .before .before .before .before .thread-read) .kept .1 .1 .1 .0) ((c .before .before .before .before .before .before .before .thread-read) .kept .1 .1 .1 .1 .0)
-
--- src/lib.rt:364:1
+-- src/lib.rt:416:13
 same-length-3 : tie.Need-same-length-3 Inv-loop μ-loop
-same-length-3 c = (c .before .loop) .inv .same-v
+same-length-3 c = c .before .before .before .before .before .before .before .before .thread-read .kept .1 .1 .1 .1 .1 .0 ∙ c .before .before .before .before .before .before .before .before .before .before .before .before .before .before .before .loop .inv .2
 
--- src/lib.rt:364:1
+-- src/lib.rt:416:13
+returns : tie.Need-returns Inv-loop μ-loop
+returns c = ((let a = (c .before .before .before .before .before .before .before .before .before .before .before .before .before .before .before .before .before .before .before .before .before .before .before .args) in reads-stop (c .before .before .before .before .before .before .before .before .before .before .before .before .before .before .before .before .before .before .before .before .before .before .before .pre .0) (a .quality) (c .before .before .before .before .before .before .before .before .before .before .before .before .before .before .before .loop .inv .0) (c .before .before .before .before .before .before .before .before .before .before .before .before .before .before .loop-test .taken) _ (c .before .before .before .before .before .before .before .before .before .before .before .before .wide .ensures) _ _ _ _ _ (c .before .before .before .before .before .before .before .before .thread-read .ensures .0) (c .enum-told .given .1)), keeps-stop _ _ _ _ _ _ _ (c .enum-told .given .1))
+
+-- src/lib.rt:420:9
+add-j : tie.Need-add-j Inv-loop μ-loop
+add-j c = let h = c .before .before .before .before .before .before .before .before .before .before .before .before .before .before .before .before .before .before .before .before .before .before .before .before .pre .0 .few in let l = c .before .before .before .before .before .before .before .before .before .before .before .before .before .before .before .loop-test .taken in omega arith
+
+-- src/lib.rt:398:5
+loop-less : tie.Need-loop-less Inv-loop μ-loop
+loop-less c = let l = c .before .before .before .before .before .before .before .before .before .before .before .before .before .before .before .loop-test .taken in omega arith
+
+-- src/lib.rt:398:5
+loop-again : tie.Need-loop-again Inv-loop μ-loop
+loop-again c = ((let a = (c .before .before .before .before .before .before .before .before .before .before .before .before .before .before .before .before .before .before .before .before .before .before .before .before .args) in reads-next (c .before .before .before .before .before .before .before .before .before .before .before .before .before .before .before .before .before .before .before .before .before .before .before .before .pre .0) (a .quality) (c .before .before .before .before .before .before .before .before .before .before .before .before .before .before .before .before .loop .inv .0) (c .before .before .before .before .before .before .before .before .before .before .before .before .before .before .before .loop-test .taken) _ (c .before .before .before .before .before .before .before .before .before .before .before .before .before .wide .ensures) _ _ _ _ (c .before .before .before .before .before .before .before .before .before .thread-read .ensures .0) (c .before .r .given .1) (c .before .before .before .before .before .before .before .before .before .thread-read .kept .1 .1 .1 .0) (c .before .before .before .before .before .before .before .before .before .thread-read .kept .1 .1 .1 .1 .0)), keeps-next _ _ _ _ _ _ _ (c .before .before .before .before .before .before .before .before .before .thread-read .ensures .1) (c .before .r .given .1), c .before .before .before .before .before .before .before .before .before .thread-read .kept .1 .1 .1 .1 .1 .0 ∙ c .before .before .before .before .before .before .before .before .before .before .before .before .before .before .before .before .loop .inv .2)
+
+-- src/lib.rt:379:1
 same-length-4 : tie.Need-same-length-4 Inv-loop μ-loop
-same-length-4 c = (c .before .loop) .inv .same-e
+same-length-4 c = c .before .loop .inv .0 .same-v
 
--- src/lib.rt:364:1
+-- src/lib.rt:379:1
+same-length-5 : tie.Need-same-length-5 Inv-loop μ-loop
+same-length-5 c = c .before .loop .inv .0 .same-e
+
+-- src/lib.rt:379:1
+same-length-6 : tie.Need-same-length-6 Inv-loop μ-loop
+same-length-6 c = c .before .loop .inv .2
+
+-- src/lib.rt:379:1
 returns-2 : tie.Need-returns-2 Inv-loop μ-loop
-returns-2 c = reads-end (c .before .before .before .before .before .before .before .before .pre) ((c .before .before .before .before .before .before .before .before .args) .quality) ((c .before .loop) .inv) ((c .loop-test) .left)
+returns-2 c = ((reads-end (c .before .before .before .before .before .before .before .before .before .pre .0) (c .before .before .before .before .before .before .before .before .before .args .quality) (c .before .loop .inv .0) (c .loop-test .left)), c .before .loop .inv .1)
 
 pub thread-reads-spec : {M : Type 1} → statement M
 thread-reads-spec =
@@ -106,10 +116,12 @@ thread-reads-spec =
     enum-told
     same-length
     same-length-2
+    same-length-3
     returns
     add-j
     loop-less
     loop-again
-    same-length-3
     same-length-4
+    same-length-5
+    same-length-6
     returns-2)
