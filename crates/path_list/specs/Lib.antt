@@ -1,2 +1,3 @@
 pub mod Laid
 pub mod Walked
+pub mod Tails
