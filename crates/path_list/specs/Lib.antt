@@ -1,3 +1,4 @@
 pub mod Laid
 pub mod Walked
 pub mod Tails
+pub mod Ranks
