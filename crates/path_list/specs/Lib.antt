@@ -2,3 +2,4 @@ pub mod Laid
 pub mod Walked
 pub mod Tails
 pub mod Ranks
+pub mod Rows

@@ -60,6 +60,7 @@ above-is l i j = refl
 pub record Ready (l : Lists) (count : ℕ) : Type 0 where
   pub shut-room : count ≤ length (l .shut)
   pub inside : (i : ℕ) → i < count → Inside (l .t) (l .sc) (recordAt (l .shut) i)
+  pub short : (i : ℕ) → i < count → countAt l i ≤ l .most
   pub walks-room : count * l .most ≤ length (l .walks)
   pub spells : (i : ℕ) → i < count → Spells (l .k) (l .text) (l .vs) (l .es) (drop (i * l .most) (l .walks)) (countAt l i)
   pub few : count ≤ 128
