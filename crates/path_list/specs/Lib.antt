@@ -3,3 +3,4 @@ pub mod Walked
 pub mod Tails
 pub mod Ranks
 pub mod Rows
+pub mod Told

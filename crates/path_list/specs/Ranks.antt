@@ -303,10 +303,10 @@ pub record Ranked (above : ℕ → ℕ → Bool) (count x : ℕ) (rank : List �
   pub low : x ≤ count
   pub is : between x count rank ≡ sorted above (upFrom x (count - x))
 
-all-from : (count x n : ℕ) → x + n ≤ count → All (λ y. y < count) (upFrom x n)
+pub all-low : (count x n : ℕ) → x + n ≤ count → All (λ y. y < count) (upFrom x n)
 unfolding upFrom
-all-from count x zero h = nil
-all-from count x (suc n) h = cons {x = x} (omega arith) (all-from count (suc x) n (omega arith))
+all-low count x zero h = nil
+all-low count x (suc n) h = cons {x = x} (omega arith) (all-low count (suc x) n (omega arith))
 
 sorted-more : (above : ℕ → ℕ → Bool) (x n : ℕ) → sorted above (upFrom x (suc n)) ≡ insert above x (sorted above (upFrom (suc x) n))
 unfolding sorted upFrom
@@ -330,7 +330,7 @@ module _ (above : ℕ → ℕ → Bool) (count : ℕ) where
 
   module _ (x : ℕ) (rank : List ℕ) (W : Ranked above count x rank) where
     pub ranked-known : All (λ y. y < count) (between x count rank)
-    ranked-known = rw (W .is) (all-sorted above (all-from count x (count - x) (let a = W .low in omega arith)))
+    ranked-known = rw (W .is) (all-sorted above (all-low count x (count - x) (let a = W .low in omega arith)))
 
     pub ranked-asks : (y : ℕ) → count ≤ length rank → count ≤ 128 → 0 < x → y ≡ x - 1 → Inserts count y rank
     ranked-asks y r f p e =

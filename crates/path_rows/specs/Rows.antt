@@ -8,7 +8,7 @@ use native.Mathlib.Omega.{arith}
 use lib.ListN.{length, getD, set, take, drop, length-map, length-set}
 use lib.Seq.{sets, sets-eq}
 use lib.Ieee.{Float, nan}
-use Rattle.laws.specs.Rows.{rows, length-rows, rows-more}
+use Rattle.laws.specs.Rows.{rows, length-rows, rows-more, rows-same}
 use Rattle.laws.specs.Stores.{sets-more}
 use Rattle.definition.specs.Calls.{writtenAt}
 use Rattle.definition.specs.Calls as defs
@@ -62,6 +62,11 @@ module _ (ss : List Float) (cs es : List ℕ) where
       none : (l : List defs.PathRow) → length l ≡ 0 → l ≡ []
       none [] e = refl
       none (x ∷ l) e = absurd (omega arith)
+
+  -- the rows one by one
+  pub finished-is : (n : ℕ) (row : ℕ → defs.PathRow) → ((i : ℕ) → i < n → told (rowAt ss cs es i) ≡ row i) → finished ss cs es n ≡ rows row n
+  unfolding finished
+  finished-is n row h = rows-same (λ i. told (rowAt ss cs es i)) row n h
 
   stored : (n : ℕ) (rs : List PathRow) → map told (written ss cs es n rs) ≡ sets (map told rs) 0 (finished ss cs es n)
   stored zero rs = rw finished-none
