@@ -4,3 +4,4 @@ pub mod Tails
 pub mod Ranks
 pub mod Rows
 pub mod Told
+pub mod List

@@ -114,7 +114,7 @@ module _ (l : Lists) (only to : List ℕ) (count : ℕ) (b : Built) (closed : Li
   abbrev pathAt : ℕ → Closed Float
   pathAt i = shutOf (l .es) only to (S .closing) (l .t) (l .sc) (recordAt (l .shut) i)
 
-  row : ℕ → Row Float
+  pub row : ℕ → Row Float
   row i = rowOf b (pathAt i)
 
   rows-are : map (rowOf b) closed ≡ map row (upFrom 0 count)
@@ -127,11 +127,11 @@ module _ (l : Lists) (only to : List ℕ) (count : ℕ) (b : Built) (closed : Li
 
   -- ---- the parts of a row
 
-  row-score : (i : ℕ) → row i .score ≡ scoreAt l i
+  pub row-score : (i : ℕ) → row i .score ≡ scoreAt l i
   unfolding row rowOf
   row-score i = refl
 
-  row-closing : (i : ℕ) → i < count → row i .closing ≡ i + 1
+  pub row-closing : (i : ℕ) → i < count → row i .closing ≡ i + 1
   unfolding row rowOf
   row-closing i h =
       let a : length (take count (l .shut)) ≡ count = length-take-le count (l .shut) shut-room in
@@ -140,15 +140,15 @@ module _ (l : Lists) (only to : List ℕ) (count : ℕ) (b : Built) (closed : Li
       ∙ numbered-at 0 (shutOf (l .es) only to (S .closing) (l .t) (l .sc)) (take count (l .shut)) N i (omega arith)
       ∙ (let z : suc 0 + i ≡ i + 1 = omega arith in z)
 
-  row-isRef : (i : ℕ) → row i .isRef ≡ false
+  pub row-isRef : (i : ℕ) → row i .isRef ≡ false
   unfolding row rowOf
   row-isRef i = refl
 
-  row-edges : (i : ℕ) → i < count → (h : countAt l i ≡ length (walkOf only to (l .t) (l .shut) i)) → row i .edges ≡ countAt l i
+  pub row-edges : (i : ℕ) → i < count → (h : countAt l i ≡ length (walkOf only to (l .t) (l .shut) i)) → row i .edges ≡ countAt l i
   unfolding row rowOf
   row-edges i k h = length-map (walkOf only to (l .t) (l .shut) i) (nameOf (l .es)) ∙ sym h
 
-  row-bases : (i : ℕ) → i < count → row i .bases ≡ basesOf (l .k) (l .text) (l .vs) (l .es) (walkAt l i)
+  pub row-bases : (i : ℕ) → i < count → row i .bases ≡ basesOf (l .k) (l .text) (l .vs) (l .es) (walkAt l i)
   unfolding row rowOf
   row-bases i h =
       ap (λ (g : Graph). pathBases g (map (nameOf (l .es)) (walkOf only to (l .t) (l .shut) i))) (sym (S .graph))
@@ -166,7 +166,7 @@ module _ (l : Lists) (only to : List ℕ) (count : ℕ) (b : Built) (closed : Li
       in
       rw (← S .edges, f, originAt)
 
-  row-origins : (i : ℕ) → i < count → (part : Origin → ℕ) → map part (row i .origins) ≡ map (λ e. part (edgeAt (l .es) e .origin)) (walkAt l i)
+  pub row-origins : (i : ℕ) → i < count → (part : Origin → ℕ) → map part (row i .origins) ≡ map (λ e. part (edgeAt (l .es) e .origin)) (walkAt l i)
   unfolding row rowOf
   row-origins i h part =
       map-two part (originAt (b .edges)) (map (nameOf (l .es)) (walkOf only to (l .t) (l .shut) i))
@@ -188,7 +188,7 @@ module _ (l : Lists) (only to : List ℕ) (count : ℕ) (b : Built) (closed : Li
         ∙ (rw (row-score i, row-score j, spelled i h, spelled j k, compare-same (kmerAt (l .k) (l .text) (l .vs) 0) (tailAt l i) (tailAt l j)))
 
     module _ (rank : List ℕ) (R : Ranked (aboveAt l) count 0 rank) where
-      order-is : listOrder (columnScoring column) (map (rowOf b) closed) ≡ map row (take count rank)
+      pub order-is : listOrder (columnScoring column) (map (rowOf b) closed) ≡ map row (take count rank)
       unfolding listOrder
       order-is =
           let z : count - 0 ≡ count = omega arith in
@@ -197,7 +197,7 @@ module _ (l : Lists) (only to : List ℕ) (count : ℕ) (b : Built) (closed : Li
           ∙ ap (λ (x : List ℕ). map row x) (ap (λ n. sorted (aboveAt l) (upFrom 0 n)) (sym z) ∙ sym (R .is))
 
       -- one part of every row, as the rows stand in a slice
-      part-is : {A : Type 0} (part : Row Float → A) (f : ℕ → A) → count ≤ length rank → ((r : ℕ) → r < count → f r ≡ part (row (getD rank r 0)))
+      pub part-is : {A : Type 0} (part : Row Float → A) (f : ℕ → A) → count ≤ length rank → ((r : ℕ) → r < count → f r ≡ part (row (getD rank r 0)))
           → rows f count ≡ map part (listOrder (columnScoring column) (map (rowOf b) closed))
       part-is {A} part f m h =
           rows-same f (λ r. part (row (getD rank r 0))) count h
