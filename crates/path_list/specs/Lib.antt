@@ -5,3 +5,4 @@ pub mod Ranks
 pub mod Rows
 pub mod Told
 pub mod List
+pub mod Ended

@@ -19,7 +19,7 @@ use Rattle.definition.specs.Listing.{Row, rowOf, listOrder}
 use Rattle.definition.specs.Calls.{pathRow, writtenAt, writtenRows, ListSlices, listedSlices}
 use Rattle.definition.specs.Calls as defs
 use Rattle.assembly.specs.Store.{edgeAt}
-use Rattle.assembly.specs.Paths.{spells-of}
+use Rattle.assembly.specs.Paths.{Spells}
 use Rattle.path_store.specs.Cells.{countOf}
 use Rattle.path_store.specs.Recover.{all-at}
 use Rattle.path_rows.specs.declared.PathRow.{PathRow}
@@ -79,6 +79,22 @@ module _ (text vs es only to t : List ℕ) (sc : List Float) (shut : List ℕ) (
         let d = length-drop (i * most) walks in
         omega arith
 
+    spelled : (i : ℕ) → i < count → Spells k text vs es (drop (i * most) walks) (countOf t (recordAt shut i))
+    spelled i h =
+        let v = L .vertices-room in
+        let d = L .edges-room in
+        let z = L .drawn .vertex in
+        record {
+          some = L .some;
+          small = L .small;
+          long = in-walks i h;
+          first-room = omega arith;
+          first-fits = L .drawn .fits 0 (L .drawn .vertex);
+          edge-room = λ x m. (let a = walked-edge i x h m in omega arith);
+          to-room = λ x m. (let a = L .drawn .to-in (getD (drop (i * most) walks) x 0) (walked-edge i x h m) in omega arith);
+          to-fits = λ x m. L .drawn .fits (field es 6 (getD (drop (i * most) walks) x 0) 1) (L .drawn .to-in (getD (drop (i * most) walks) x 0) (walked-edge i x h m));
+        }
+
     pub ready-of : Ready (lists text vs es t sc shut walks k most) count
     ready-of =
         record {
@@ -86,8 +102,7 @@ module _ (text vs es only to t : List ℕ) (sc : List Float) (shut : List ℕ) (
           inside = λ i h. walk-inside only to t sc shut count most room (L .walkable) i h;
           short = L .walkable .short;
           walks-room = walks-size;
-          spells = λ i h.
-              spells-of (L .drawn .good) (L .some) (L .drawn .vertex) (L .small) (L .vertices-room) (L .edges-room) (in-walks i h) (λ x m. walked-edge i x h m);
+          spells = λ i h. spelled i h;
           few = L .few;
         }
 

@@ -26,7 +26,7 @@ use Rattle.definition.specs.Listing.{Row, rowOf, pathBases, originAt, above, li
 use Rattle.definition.specs.Calls.{pathRow, writtenRows}
 use Rattle.definition.proofs.Walks.{Numbered, eqEnds-true}
 use Rattle.assembly.specs.Table.{table, Distinct, find-table-some}
-use Rattle.assembly.specs.Store.{edgeAt, edgesOf, kmerAt, graphOf, Good}
+use Rattle.assembly.specs.Store.{edgeAt, edgesOf, kmerAt, graphOf}
 use Rattle.assembly.specs.Kmers.{rows-0}
 use Rattle.assembly.specs.Paths.{endBase, basesOf, bases-is}
 use Rattle.path_store.specs.Cells.{countOf, scoreOf}
@@ -41,8 +41,9 @@ use Rattle.path_list.specs.Rows.{Columns, basesAt, fieldsAt}
 
 -- the closed paths are spelled by the graph of n vertices and m edges: none takes the symbolic edge
 pub record Drawn (text vs es only to t shut : List ℕ) (k count n m : ℕ) : Type 0 where
-  pub good : Good k text vs n es m
   pub vertex : 0 < n
+  pub fits : (v : ℕ) → v < n → field vs 12 v 8 + k ≤ length text
+  pub to-in : (e : ℕ) → e < m → field es 6 e 1 < n
   pub real : (i : ℕ) → i < count → All (λ e. e < m) (walkOf only to t shut i)
 
 -- the tables show the graph, its edges with the symbolic one, and the closed paths
@@ -153,7 +154,7 @@ module _ (l : Lists) (only to : List ℕ) (count : ℕ) (b : Built) (closed : Li
   row-bases i h =
       ap (λ (g : Graph). pathBases g (map (nameOf (l .es)) (walkOf only to (l .t) (l .shut) i))) (sym (S .graph))
       ∙ sym (bases-is (l .k) (l .text) (l .vs) (l .es) (S .vertices) (S .real) (walkOf only to (l .t) (l .shut) i) (S .drawn .vertex)
-      (all-mono (λ e m. S .drawn .good .to-in e m) (S .drawn .real i h)))
+      (all-mono (λ e m. S .drawn .to-in e m) (S .drawn .real i h)))
       ∙ ap (λ (w : List ℕ). basesOf (l .k) (l .text) (l .vs) (l .es) w) (sym (same i h))
 
   origin-is : (e : ℕ) → e < S .real → originAt (b .edges) (nameOf (l .es) e) ≡ edgeAt (l .es) e .origin
