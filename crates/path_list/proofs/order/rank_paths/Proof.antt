@@ -23,19 +23,19 @@ sub-x : tie.Need-sub-x Inv-loop μ-loop
 sub-x c = omega (arith, (c .loop-test) .taken)
 
 insert-path-requires : tie.Need-insert-path-requires Inv-loop μ-loop
-insert-path-requires c κs = ((c .before .before .before .before .before .before .before .before .before .before .before .before .pre) .0, ranked-asks _ _ _ _ ((c .before .before .loop) .inv .1) _ (omega (arith, (c .before .before .before .before .before .before .before .before .before .before .before .before .pre) .1, (c .before .before .loop) .inv .0)) ((c .before .before .before .before .before .before .before .before .before .before .before .before .pre) .0 .few) ((c .before .loop-test) .taken) refl)
+insert-path-requires c κs = ((c .before .before .before .before .before .before .before .before .before .before .before .before .pre) .0, ranked-asks _ _ _ _ ((c .before .before .loop) .inv .1) _ (omega (arith, (c .before .before .before .before .before .before .before .before .before .before .before .before .pre) .1, (c .before .before .loop) .inv .0)) ((c .before .before .before .before .before .before .before .before .before .before .before .before .pre) .0 .few) (omega (arith, (c .before .loop-test) .taken)) refl)
 
 loop-less : tie.Need-loop-less Inv-loop μ-loop
 loop-less c = omega (arith, (c .before .before .before .before .loop-test) .taken)
 
 loop-again : tie.Need-loop-again Inv-loop μ-loop
-loop-again c = ((c .before .before .insert-path) .ensures .size ∙ (c .before .before .before .before .before .loop) .inv .0, ranked-next _ _ _ _ ((c .before .before .before .before .before .loop) .inv .1) _ _ ((c .before .before .before .before .loop-test) .taken) refl ((c .before .before .insert-path) .ensures))
+loop-again c = ((c .before .before .insert-path) .ensures .size ∙ (c .before .before .before .before .before .loop) .inv .0, ranked-next _ _ _ _ ((c .before .before .before .before .before .loop) .inv .1) _ _ (omega (arith, (c .before .before .before .before .loop-test) .taken)) refl ((c .before .before .insert-path) .ensures))
 
 same-length : tie.Need-same-length Inv-loop μ-loop
 same-length c = (c .before .loop) .inv .0
 
 returns : tie.Need-returns Inv-loop μ-loop
-returns c = ranked-end _ _ _ _ ((c .loop-test) .left) ((c .before .loop) .inv .1)
+returns c = ranked-end _ _ _ _ (omega (arith, (c .loop-test) .left)) ((c .before .loop) .inv .1)
 
 pub rank-paths-spec : {M : Type 1} → statement M
 rank-paths-spec =
