@@ -2,7 +2,7 @@
 use mathlib.Core.Path.{_≡_, refl, sym, ap, _∙_}
 use mathlib.Core.Logic.{_⊎_, inl, inr}
 use mathlib.Core.List.{List, [], _∷_, _++_, map}
-use Prim.Native.Nat.{ℕ, zero, suc, _+_, _-_, _*_, _<_, _≤_}
+use Prim.Native.Nat.{ℕ, zero, suc, _+_, _-_, _*_, _^_, _<_, _≤_}
 use native.Mathlib.Omega.{arith}
 use lib.ListN.{length, getD, take, length-map}
 use lib.Seq.{getD-take, length-take-le}
@@ -13,9 +13,9 @@ use Rattle.laws.specs.Sorting.{same-or}
 use Rattle.definition.specs.Limits.{Sample}
 use Rattle.definition.specs.Threading.{Ends, Edge, Graph, threaded, withSymbolic}
 use Rattle.definition.specs.Evidence.{Branches}
-use Rattle.definition.specs.Search.{SearchInput, Closed, endFrom}
+use Rattle.definition.specs.Search.{SearchInput, Closed, State, endFrom}
 use Rattle.definition.specs.Building.{Built}
-use Rattle.definition.proofs.Walks.{Linked, GoodClosed, Numbered}
+use Rattle.definition.proofs.Walks.{Linked, GoodClosed, GoodState, Numbered}
 use Rattle.assembly.specs.Table.{Distinct}
 use Rattle.assembly.specs.Store.{edgeAt, edgesOf, graphOf, Good}
 use Rattle.assembly.specs.Moves.{kmers-same}
@@ -24,10 +24,12 @@ use Rattle.path_store.specs.Cells.{countOf}
 use Rattle.path_store.specs.Path.{Table, edges}
 use Rattle.path_store.specs.Recover.{all-at, edges-in}
 use Rattle.search_state.specs.declared.Setting.{Setting}
-use Rattle.search_state.specs.Ground.{nameOf}
-use Rattle.search_state.specs.State.{shutOf, Records}
+use Rattle.search_state.specs.declared.Progress.{Progress}
+use Rattle.search_state.specs.Ground.{nameOf, Ground}
+use Rattle.search_state.specs.State.{shutOf, Records, Holds}
 use Rattle.path_list.specs.Walked.{recordAt, walkOf, Walkable}
 use Rattle.path_list.specs.Told.{Drawn, Shows}
+use Rattle.path_list.specs.List.{Listable}
 
 -- ---- the closed paths are records of the table
 
@@ -123,3 +125,50 @@ module _ (s : Sample) (v e : ℕ) (vs₀ es : List ℕ) (n m sink : ℕ) (B : Bu
           shut-are = are;
           numbered = numbered;
         }
+
+-- ---- the state that a search ends in, over the tables of the graph built
+
+module _ (s : Sample) (v e : ℕ) (vs₀ es : List ℕ) (n m sink : ℕ) (B : BuiltAt s v e vs₀ es n m sink) (vs : List ℕ) (kept : (u : ℕ) → u < n → field vs 12 u 8 ≡ field vs₀ 12 u 8)
+    (f : SearchInput) (g : Setting) (x only to : List ℕ) (G : Ground f g vs es x only to) (ge : g .edges ≡ m + 1) (gs : g .sink ≡ sink)
+    (bs : ℕ → List Branches) (closing : ℕ → ℕ) (t : List ℕ) (sc : List Float) (ac queue shut order marks : List ℕ) (p : Progress) (st : State Float)
+    (H : Holds f g es x only to bs closing t sc ac queue shut order marks p st) {Fine : Float → Type 0} (good : GoodState Fine f st) where
+  the-edges : f .edges ≡ withSymbolic s (threaded s)
+  the-edges = G .settings .edges ∙ ap (λ c. edgesOf es c) ge ∙ B .edges
+
+  the-size : length to ≡ suc m
+  the-size = let a = G .size in omega arith
+
+  pub ended-drawn : Drawn (s .reference ++ s .bases) vs es only to t shut (s .k) (p .closed) n m
+  ended-drawn =
+      drawn-of s v e vs₀ es n m sink B vs kept f (G .sink ∙ gs) the-edges only to t sc closing shut (p .closed) (p .records) (H .shut-room) (H .shut-known) (H .records .held .table)
+      the-size (st .closed) (H .closed) (good .closed)
+
+  pub ended-shows : (b : Built) → b .graph ≡ threaded s → b .edges ≡ withSymbolic s (threaded s) → Numbered 0 (st .closed)
+      → Shows (s .reference ++ s .bases) vs es only to t sc shut (s .k) (p .closed) b (st .closed)
+  ended-shows b bg be numbered =
+      shows-of s v e vs₀ es n m sink B vs kept f (G .sink ∙ gs) the-edges only to t sc closing shut (p .closed) (p .records) (H .shut-room) (H .shut-known) (H .records .held .table)
+      the-size (st .closed) (H .closed) (good .closed) b bg be (rw ge at (G .linked .distinct)) numbered
+
+  pub ended-listable : 0 < s .k → length (s .reference ++ s .bases) < 2 ^ 32 → n * 12 ≤ length vs → p .closed ≤ 128
+      → (walks rank scored closings lengths spellings sequences places : ℕ) → p .closed * g .most ≤ walks → p .closed ≤ rank → p .closed ≤ scored → p .closed ≤ closings → p .closed ≤ lengths
+      → p .closed * (s .k + g .most) ≤ spellings → p .closed * g .most ≤ sequences → p .closed * g .most ≤ places
+      → Listable (s .reference ++ s .bases) vs es only to t sc shut (s .k) (g .most) (p .closed) walks rank scored closings lengths spellings sequences places
+  ended-listable k small room few walks rank scored closings lengths spellings sequences places a b c d h i j l =
+      record {
+        walkable = walkable-of shut (p .closed) (p .records) (H .shut-room) (H .shut-known) (H .records) walks a;
+        vertices = n;
+        real = m;
+        drawn = ended-drawn;
+        some = k;
+        small = small;
+        vertices-room = room;
+        edges-room = (let z = G .linked .room in omega arith);
+        few = few;
+        rank-room = b;
+        scored-room = c;
+        closings-room = d;
+        lengths-room = h;
+        spellings-room = i;
+        sequences-room = j;
+        places-room = l;
+      }
