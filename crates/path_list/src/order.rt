@@ -95,7 +95,7 @@ fn stands_above(
     )
 }
 
-// The closed path x goes in front of the first that it is not below, among those from place x + 1 on: they move up by one.
+// The closed path x goes in front of the first that does not stand above it, among those from place x + 1 on; those passed move up by one.
 fn insert_path(
     reference: &[u8],
     bases: &[u8],
