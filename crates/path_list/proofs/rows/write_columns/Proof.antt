@@ -1,0 +1,102 @@
+use Rattle.path_list.proofs.rows.write_columns.Statement.{statement}
+use Rattle.path_list.proofs.rows.write_columns.Tie as tie
+use Rattle.path_list.proofs.rows.write_columns.Reads as reads
+use Rattle.path_list.proofs.rows.write_columns.Lts as lts
+use Rattle.path_store.proofs.chains.at.Reads as at-reads
+use Rattle.path_store.proofs.records.path_at.Reads as path-at-reads
+use mathlib.Core.Path.{_≡_, refl, sym, ap, _∙_}
+use Prim.Native.Nat.{_-_, _≤_}
+use native.Mathlib.Omega.{arith}
+use lib.ListN.{length}
+use Rattle.path_store.specs.Cells.{countOf, scoreOf}
+use Rattle.path_store.specs.declared.records.PathRecord.{PathRecord}
+use Rattle.path_list.specs.Rows.{ColumnsTo, known-at, known-inside, columns-start, columns-next, columns-end}
+
+abbrev Inv-loop : tie.InvT-loop
+Inv-loop paths scores shut rank count scored₀ closings₀ lengths₀ r₀ scored closings lengths r = ColumnsTo paths scores shut rank r (length scored₀) (length closings₀) (length lengths₀) scored closings lengths
+
+abbrev μ-loop : tie.MeasureT-loop
+μ-loop paths scores shut rank count scored₀ closings₀ lengths₀ r₀ scored closings lengths r = count - r
+
+loop-holds : tie.Need-loop-holds Inv-loop μ-loop
+loop-holds c = columns-start _ _ _ _ _ _ _
+
+mul-i : tie.Need-mul-i Inv-loop μ-loop
+mul-i c = omega (arith, (c .before .before .before .before .before .before .before .before .before .pre) .0 .few, (c .loop-test) .taken)
+
+shared-slice-read-i : tie.Need-shared-slice-read-i Inv-loop μ-loop
+shared-slice-read-i c = omega (arith, (c .before .before .before .before .before .before .before .before .before .before .pre) .0 .room, (c .before .loop-test) .taken)
+
+at-requires : tie.Need-at-requires Inv-loop μ-loop
+at-requires c κs = known-at _ _ ((c .before .before .before .before .before .before .before .before .before .before .pre) .0) _ _ _ ((c .before .before .before .before .before .before .before .before .before .before .pre) .1) _ ((c .before .loop-test) .taken)
+
+path-at-requires : tie.Need-path-at-requires Inv-loop μ-loop
+path-at-requires c κs = known-inside _ _ ((c .before .before .before .before .before .before .before .before .before .before .before .pre) .0) _ _ _ ((c .before .before .before .before .before .before .before .before .before .before .before .pre) .1) _ ((c .before .before .loop-test) .taken) _ ((c .at) .ensures)
+
+mul-scored : tie.Need-mul-scored Inv-loop μ-loop
+mul-scored c = omega (arith, (c .before .before .before .before .before .before .before .before .before .before .before .before .pre) .0 .few, (c .before .before .before .loop-test) .taken)
+
+slice-write-scored : tie.Need-slice-write-scored Inv-loop μ-loop
+slice-write-scored c = omega (arith, (c .before .before .before .before .loop) .inv .scores .long, (c .before .before .before .before .before .before .before .before .before .before .before .before .pre) .2, (c .before .before .before .loop-test) .taken)
+
+add-closings : tie.Need-add-closings Inv-loop μ-loop
+add-closings c = omega (arith, (c .before .before .before .before .before .before .before .before .before .before .before .before .pre) .0 .known _ ((c .before .before .before .loop-test) .taken), (c .before .before .before .before .before .before .before .before .before .before .before .before .pre) .0 .few)
+
+mul-closings : tie.Need-mul-closings Inv-loop μ-loop
+mul-closings c = omega (arith, (c .before .before .before .before .before .before .before .before .before .before .before .before .pre) .0 .few, (c .before .before .before .loop-test) .taken)
+
+slice-write-closings : tie.Need-slice-write-closings Inv-loop μ-loop
+slice-write-closings c = omega (arith, (c .before .before .before .before .loop) .inv .closings .long, (c .before .before .before .before .before .before .before .before .before .before .before .before .pre) .3, (c .before .before .before .loop-test) .taken)
+
+mul-lengths : tie.Need-mul-lengths Inv-loop μ-loop
+mul-lengths c = omega (arith, (c .before .before .before .before .before .before .before .before .before .before .before .before .pre) .0 .few, (c .before .before .before .loop-test) .taken)
+
+slice-write-lengths : tie.Need-slice-write-lengths Inv-loop μ-loop
+slice-write-lengths c = omega (arith, (c .before .before .before .before .loop) .inv .edges .long, (c .before .before .before .before .before .before .before .before .before .before .before .before .pre) .4, (c .before .before .before .loop-test) .taken)
+
+add-r : tie.Need-add-r Inv-loop μ-loop
+add-r c = omega (arith, (c .before .before .before .before .before .before .before .before .before .before .before .before .pre) .0 .few, (c .before .before .before .loop-test) .taken)
+
+loop-less : tie.Need-loop-less Inv-loop μ-loop
+loop-less c = omega (arith, (c .before .before .before .loop-test) .taken)
+
+loop-again : tie.Need-loop-again Inv-loop μ-loop
+loop-again c = columns-next _ _ _ _ _ _ _ _ _ _ _ ((c .before .before .before .before .loop) .inv) (omega (arith, (c .before .before .before .before .before .before .before .before .before .before .before .before .pre) .2, (c .before .before .before .loop-test) .taken)) (omega (arith, (c .before .before .before .before .before .before .before .before .before .before .before .before .pre) .3, (c .before .before .before .loop-test) .taken)) (omega (arith, (c .before .before .before .before .before .before .before .before .before .before .before .before .pre) .4, (c .before .before .before .loop-test) .taken)) _ _ _ (ap (λ (x : PathRecord). x .score) ((c .path-at) .ensures) ∙ ap (λ q. scoreOf ((c .before .before .before .before .before .before .before .before .before .before .before .before .args) .scores .now) q) ((c .before .at) .ensures)) refl (ap (λ (x : PathRecord). x .edges) ((c .path-at) .ensures) ∙ ap (λ q. countOf ((c .before .before .before .before .before .before .before .before .before .before .before .before .args) .paths .now) q) ((c .before .at) .ensures))
+
+same-length : tie.Need-same-length Inv-loop μ-loop
+same-length c = (c .before .loop) .inv .scores .long
+
+same-length-2 : tie.Need-same-length-2 Inv-loop μ-loop
+same-length-2 c = (c .before .loop) .inv .closings .long
+
+same-length-3 : tie.Need-same-length-3 Inv-loop μ-loop
+same-length-3 c = (c .before .loop) .inv .edges .long
+
+returns : tie.Need-returns Inv-loop μ-loop
+returns c = columns-end _ _ _ _ _ _ _ _ _ _ _ ((c .before .loop) .inv) _ ((c .loop-test) .left)
+
+pub write-columns-spec : {M : Type 1} → statement M
+write-columns-spec =
+    tie.close
+    (tie.spec
+    Inv-loop
+    μ-loop
+    loop-holds
+    mul-i
+    shared-slice-read-i
+    at-requires
+    path-at-requires
+    mul-scored
+    slice-write-scored
+    add-closings
+    mul-closings
+    slice-write-closings
+    mul-lengths
+    slice-write-lengths
+    add-r
+    loop-less
+    loop-again
+    same-length
+    same-length-2
+    same-length-3
+    returns)

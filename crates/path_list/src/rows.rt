@@ -1,0 +1,105 @@
+// The rows of the list: scores, closing numbers and edge counts as columns, and beside them the bases and the origins.
+ghost use mathlib.Core.Path.{_≡_};
+ghost use mathlib.Core.List.{_++_};
+ghost use Prim.Native.Nat.{ℕ, _+_, _-_, _*_, _<_, _≤_};
+ghost use lib.ListN.{length, getD};
+ghost use Rattle.path_list.specs.Laid.{Laid};
+ghost use Rattle.path_list.specs.Ranks.{lists, Ready};
+ghost use Rattle.path_list.specs.Rows.{Placed, Known, Columns, Filed, basesAt, fieldsAt};
+use assembly::path_bases;
+use assembly::wide;
+use path_store::chains::at;
+use path_store::records::path_at;
+use path_store::writing::write_field;
+
+// Row r tells of the closed path whose number stands at rank r. Closings are numbered from 1.
+pub fn write_columns(
+    paths: &[u32],
+    scores: &[f64],
+    shut: &[u32],
+    rank: &[u32],
+    count: usize,
+    scored: &mut [f64],
+    closings: &mut [u32],
+    lengths: &mut [u32],
+)
+    requires { ⌜ Placed count (now rank) × Known (now paths) (now scores) (now shut) count × (count ≤ length (now scored)) × (count ≤ length (now closings)) × (count ≤ length (now lengths)) ⌝ }
+    ensures { λ _. ⌜ Columns (now (paths .entry)) (now (scores .entry)) (now (shut .entry)) (now (rank .entry)) count (now (scored .exit)) (now (closings .exit)) (now (lengths .exit)) ⌝ }
+{
+    let mut r: usize = 0;
+    while r < count {
+        let i = rank[r];
+        let row = path_at(paths, scores, at(shut, i));
+        scored[r] = row.score;
+        closings[r] = i + 1;
+        lengths[r] = row.edges;
+        r += 1;
+    }
+}
+
+// The bases of row r from place r * (k + most) on.
+pub fn write_spellings(
+    reference: &[u8],
+    bases: &[u8],
+    vertices: &[u32],
+    edges: &[u32],
+    paths: &[u32],
+    scores: &[f64],
+    shut: &[u32],
+    walks: &[u32],
+    rank: &[u32],
+    k: usize,
+    most: usize,
+    count: usize,
+    out: &mut [u8],
+)
+    requires { ⌜ Placed count (now rank) × Ready (lists (now reference ++ now bases) (now vertices) (now edges) (now paths) (now scores) (now shut) (now walks) k most) count × (count * (k + most) ≤ length (now out)) ⌝ }
+    ensures { λ _. ⌜ Laid (k + most) (basesAt (lists (now (reference .entry) ++ now (bases .entry)) (now (vertices .entry)) (now (edges .entry)) (now (paths .entry)) (now (scores .entry)) (now (shut .entry)) (now (walks .entry)) k most) (now (rank .entry))) (now (out .entry)) count (now (out .exit)) ⌝ }
+{
+    let mut r: usize = 0;
+    while r < count {
+        let i = rank[r];
+        let row = path_at(paths, scores, at(shut, i));
+        let p = wide(i) * most;
+        let from = r * (k + most);
+        path_bases(
+            reference,
+            bases,
+            vertices,
+            edges,
+            k,
+            &walks[p..],
+            wide(row.edges),
+            out,
+            from,
+        );
+        r += 1;
+    }
+}
+
+// A field of each edge of row r, from place r * most on: the sequences or the places of the origins.
+pub fn write_origins(
+    edges: &[u32],
+    paths: &[u32],
+    scores: &[f64],
+    shut: &[u32],
+    walks: &[u32],
+    rank: &[u32],
+    most: usize,
+    count: usize,
+    field: usize,
+    out: &mut [u32],
+)
+    requires { ⌜ Placed count (now rank) × Filed (now edges) (now paths) (now scores) (now shut) (now walks) most count × (field < 6) × (count * most ≤ length (now out)) ⌝ }
+    ensures { λ _. ⌜ Laid most (fieldsAt (now (edges .entry)) (now (paths .entry)) (now (shut .entry)) (now (walks .entry)) most field (now (rank .entry))) (now (out .entry)) count (now (out .exit)) ⌝ }
+{
+    let mut r: usize = 0;
+    while r < count {
+        let i = rank[r];
+        let row = path_at(paths, scores, at(shut, i));
+        let p = wide(i) * most;
+        let from = r * most;
+        write_field(&walks[p..], wide(row.edges), edges, 6, field, out, from);
+        r += 1;
+    }
+}
