@@ -5,3 +5,5 @@ pub mod Answers
 pub mod Extend
 pub mod Steps
 pub mod Take
+pub mod Between
+pub mod Find

@@ -15,6 +15,12 @@ ghost use Rattle.junction_kbest.specs.Extend.{ExtendsTaken, TakenExtende
 ghost use Rattle.junction_kbest.specs.Take.{TakesPath, PathTaken};
 ghost use Rattle.junction_kbest.specs.Answers.{joinRefusal, extendRefusal};
 
+// The answer of the search: how far it has come when it ends, or a refusal.
+pub enum Search {
+    Paths(Progress),
+    Refused(u32),
+}
+
 fn join_refusal(a: PathAnswer) -> u32
     ensures { λ n. ⌜ n ≡ joinRefusal a ⌝ }
 {
@@ -54,20 +60,39 @@ fn extend_taken(
     requires { ⌜ ExtendsTaken g (now vertices) (now edges) (now nodes) (now only) (now to) (now column) (now paths) (now scores) (now active) (now shut) (now marks) (now offers) p taken ⌝ }
     ensures { λ r. ⌜ TakenExtended g (now (vertices .entry)) (now (edges .entry)) (now (nodes .entry)) (now (only .entry)) (now (to .entry)) (now (column .entry)) (now (paths .entry)) (now (scores .entry)) (now (active .entry)) (now (shut .entry)) (now (marks .entry)) p taken r (now (paths .exit)) (now (scores .exit)) (now (active .exit)) (now (shut .exit)) (now (marks .exit)) ⌝ }
 {
-    let a = add_junction_tree(
-        vertices, nodes, only, to, paths, scores, active, g, taken,
-    );
+    let a = add_junction_tree(vertices, nodes, only, to, paths, scores, active, g, taken);
     let PathAnswer::Made(_) = a else {
         return Step::Refused(join_refusal(a));
     };
     let c = close_at_sink(
-        nodes, only, to, paths, scores, active, shut, marks, g, taken, p,
+        nodes,
+        only,
+        to,
+        paths,
+        scores,
+        active,
+        shut,
+        marks,
+        g,
+        taken,
+        p,
     );
     let Step::On(q) = c else {
         return c;
     };
     let e = process_vertex(
-        vertices, edges, nodes, only, to, column, paths, scores, active, offers, g, taken,
+        vertices,
+        edges,
+        nodes,
+        only,
+        to,
+        column,
+        paths,
+        scores,
+        active,
+        offers,
+        g,
+        taken,
         q.records,
     );
     let Extended::Made(n) = e else {
@@ -111,7 +136,20 @@ fn take_path(
     }
     let taken = follow_chain(paths, scores, only, to, path);
     extend_taken(
-        vertices, edges, nodes, only, to, column, paths, scores, active, shut, marks, offers, g, taken,
+        vertices,
+        edges,
+        nodes,
+        only,
+        to,
+        column,
+        paths,
+        scores,
+        active,
+        shut,
+        marks,
+        offers,
+        g,
+        taken,
         p,
     )
 }
