@@ -2,3 +2,4 @@ pub mod Lent
 pub mod Rules
 pub mod Outcome
 pub mod Within
+pub mod Parts
