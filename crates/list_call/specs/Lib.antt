@@ -3,3 +3,5 @@ pub mod Rules
 pub mod Outcome
 pub mod Within
 pub mod Parts
+pub mod Late
+pub mod Call

@@ -1,12 +1,11 @@
 -- The parts of the workspace that are told: lent to the work, which may leave anything there, and zero afterwards. Assumes nothing.
-use mathlib.Core.Path.{_≡_, refl, sym, ap, _∙_}
+use mathlib.Core.Path.{_≡_, _∙_}
 use mathlib.Core.List.{List, _++_}
-use Prim.Native.Nat.{ℕ, _+_, _*_, _<_, _≤_}
+use Prim.Native.Nat.{ℕ, _+_, _≤_}
 use native.Mathlib.Omega.{arith}
 use lib.ListN.{length, take, drop, replicate}
 use lib.Seq.{length-take-le, length-front}
-use lib.Ieee.{Float}
-use Rattle.definition.specs.Limits.{GraphMaxima, SearchMaxima, Input}
+use Rattle.definition.specs.Limits.{Input}
 use Rattle.definition.specs.Calls.{writtenAt}
 use Rattle.definition.proofs.Checks.{Checked}
 use Rattle.limits.specs.Bounds.{InLimits, settings-most}
