@@ -3,6 +3,8 @@ use path_closing::add_junction_tree;
 use path_closing::close_at_sink;
 use path_extensions::Extended;
 use path_extensions::process_vertex;
+use path_queue::push_paths;
+use path_queue::take_first;
 use path_store::growth::PathAnswer;
 use path_store::growth::Taken;
 use path_store::growth::follow_chain;
@@ -11,13 +13,24 @@ use search_state::Progress;
 use search_state::Setting;
 use search_state::Step;
 ghost use mathlib.Core.Path.{_≡_};
-ghost use Rattle.junction_kbest.specs.Extend.{ExtendsTaken, TakenExtended};
+ghost use mathlib.Core.Bool.{cond};
+ghost use Prim.Native.Nat.{_≤_};
+ghost use lib.Dec.{eqb, ltb};
+ghost use Rattle.junction_kbest.specs.Extend.{ExtendsTaken, TakenExtended, firstNew};
 ghost use Rattle.junction_kbest.specs.Take.{TakesPath, PathTaken};
-ghost use Rattle.junction_kbest.specs.Answers.{joinRefusal, extendRefusal};
+ghost use Rattle.junction_kbest.specs.Answers.{joinRefusal, extendRefusal, stepRefusal};
+ghost use Rattle.junction_kbest.specs.Between.{NextTurn, TurnMade};
 
 // The answer of the search: how far it has come when it ends, or a refusal.
 pub enum Search {
     Paths(Progress),
+    Refused(u32),
+}
+
+// What comes of a turn: the search goes on, it ends as it is, or a refusal.
+pub enum Turned {
+    More(Progress),
+    Ended,
     Refused(u32),
 }
 
@@ -152,4 +165,72 @@ fn take_path(
         taken,
         p,
     )
+}
+
+// Whether more paths wait than may: 1,000 while nothing has closed, then 10,000.
+fn too_many(p: Progress) -> bool
+    ensures { λ r. ⌜ r ≡ ltb (cond (eqb (p .closed) 0) 1000 10000) (p .waiting) ⌝ }
+{
+    if p.closed == 0 {
+        return p.waiting > 1000;
+    }
+    p.waiting > 10000
+}
+
+fn step_refusal(a: Step) -> u32
+    ensures { λ n. ⌜ n ≡ stepRefusal a ⌝ }
+{
+    match a {
+        Step::On(_) => 0,
+        Step::Refused(n) => n,
+    }
+}
+
+// The first record that is still to be pushed: a path that has closed is not.
+fn first_new(p: Progress, q: Progress) -> u32
+    requires { ⌜ (p .closed ≤ q .closed) × (firstNew p q ≤ q .records) ⌝ }
+    ensures { λ r. ⌜ r ≡ firstNew p q ⌝ }
+{
+    let closed = q.closed - p.closed;
+    p.records + closed as u32
+}
+
+// A turn where paths wait: the first is taken, and what is made of it is pushed.
+fn next_path(
+    vertices: &[u32],
+    edges: &[u32],
+    nodes: &[u32],
+    only: &[u32],
+    to: &[u32],
+    column: &[f64],
+    paths: &mut [u32],
+    scores: &mut [f64],
+    active: &mut [u32],
+    queue: &mut [u32],
+    shut: &mut [u32],
+    marks: &mut [u32],
+    offers: &mut [u32],
+    g: Setting,
+    p: Progress,
+) -> Turned
+    requires { ⌜ NextTurn g (now vertices) (now edges) (now nodes) (now only) (now to) (now column) (now paths) (now scores) (now active) (now queue) (now shut) (now marks) (now offers) p ⌝ }
+    ensures { λ r. ⌜ TurnMade g (now (vertices .entry)) (now (edges .entry)) (now (nodes .entry)) (now (only .entry)) (now (to .entry)) (now (column .entry)) (now (paths .entry)) (now (scores .entry)) (now (active .entry)) (now (queue .entry)) (now (shut .entry)) (now (marks .entry)) p r (now (paths .exit)) (now (scores .exit)) (now (active .exit)) (now (queue .exit)) (now (shut .exit)) (now (marks .exit)) ⌝ }
+{
+    if too_many(p) {
+        return Turned::Ended;
+    }
+    let t = take_first(scores, queue, p);
+    let left = t.left;
+    let r = take_path(
+        vertices, edges, nodes, only, to, column, paths, scores, active, shut, marks, offers, g, left,
+        t.path,
+    );
+    let Step::On(q) = r else {
+        return Turned::Refused(step_refusal(r));
+    };
+    let d = push_paths(scores, queue, g, q, first_new(left, q));
+    let Step::On(n) = d else {
+        return Turned::Refused(step_refusal(d));
+    };
+    Turned::More(n)
 }
