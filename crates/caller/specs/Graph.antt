@@ -16,13 +16,8 @@ use Rattle.definition.specs.Threading.{threaded, withSymbolic}
 use Rattle.definition.specs.Evidence.{nodes, evidence}
 use Rattle.definition.specs.Building.{built, builtOf}
 use Rattle.definition.specs.Calls.{GraphOutcome, graphOf, graphCall, afterGraphChecks, workspaceAfter}
-<<<<<<< HEAD
-use Rattle.limits.specs.Rules.{rule, Numbered, none-broken, first-broken, first-hold, sample-numbered, graph-rules}
-use Rattle.limits.specs.Workspaces.{vertexTable, edgeTable, kmerIndex, nodeTable, openTrees}
-=======
 use Rattle.limits.specs.Rules.{rule, Numbered, low-broken, none-broken, first-broken, first-hold, sample-numbered, graph-rules}
-use Rattle.limits.specs.Workspaces.{vertexTable, edgeTable, nodeTable, openTrees}
->>>>>>> outer
+use Rattle.limits.specs.Workspaces.{vertexTable, edgeTable, kmerIndex, nodeTable, openTrees}
 use Rattle.caller.specs.declared.GraphAnswer.{GraphAnswer}
 use Rattle.caller.specs.Lent.{workspaceTold, Long, long-of, Lent}
 use Rattle.caller.specs.Outcome.{outcome, refusedAnswer, Graphed}

@@ -6,4 +6,5 @@ pub mod Extend
 pub mod Steps
 pub mod Take
 pub mod Between
+pub mod Next
 pub mod Find

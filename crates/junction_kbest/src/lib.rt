@@ -222,7 +222,20 @@ fn next_path(
     let t = take_first(scores, queue, p);
     let left = t.left;
     let r = take_path(
-        vertices, edges, nodes, only, to, column, paths, scores, active, shut, marks, offers, g, left,
+        vertices,
+        edges,
+        nodes,
+        only,
+        to,
+        column,
+        paths,
+        scores,
+        active,
+        shut,
+        marks,
+        offers,
+        g,
+        left,
         t.path,
     );
     let Step::On(q) = r else {
