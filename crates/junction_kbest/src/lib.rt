@@ -3,6 +3,8 @@ use path_closing::add_junction_tree;
 use path_closing::close_at_sink;
 use path_extensions::Extended;
 use path_extensions::process_vertex;
+use path_queue::Recovery;
+use path_queue::enqueue_next_pivotal_edge;
 use path_queue::push_paths;
 use path_queue::take_first;
 use path_store::growth::PathAnswer;
@@ -19,7 +21,9 @@ ghost use lib.Dec.{eqb, ltb};
 ghost use Rattle.junction_kbest.specs.Extend.{ExtendsTaken, TakenExtended, firstNew};
 ghost use Rattle.junction_kbest.specs.Take.{TakesPath, PathTaken};
 ghost use Rattle.junction_kbest.specs.Answers.{joinRefusal, extendRefusal, stepRefusal};
+ghost use Rattle.path_queue.specs.Push.{Pushes};
 ghost use Rattle.junction_kbest.specs.Between.{NextTurn, TurnMade};
+ghost use Rattle.junction_kbest.specs.Pivot.{PushedTurn, RecoveredAsks, RecoveredTurn, PivotTurn, PivotMade};
 
 // The answer of the search: how far it has come when it ends, or a refusal.
 pub enum Search {
@@ -246,4 +250,52 @@ fn next_path(
         return Turned::Refused(step_refusal(d));
     };
     Turned::More(n)
+}
+
+// The paths from `from` on are pushed, and the turn is over.
+fn push_turn(scores: &[f64], queue: &mut [u32], g: Setting, q: Progress, from: u32) -> Turned
+    requires { ⌜ Pushes (now scores) (now queue) g q from ⌝ }
+    ensures { λ r. ⌜ PushedTurn (now (scores .entry)) (now (queue .entry)) g q from (now (queue .exit)) r ⌝ }
+{
+    let d = push_paths(scores, queue, g, q, from);
+    let Step::On(n) = d else {
+        return Turned::Refused(step_refusal(d));
+    };
+    Turned::More(n)
+}
+
+// What was recovered, if anything, is pushed.
+fn push_recovered(scores: &[f64], queue: &mut [u32], g: Setting, p: Progress, r: Recovery) -> Turned
+    requires { ⌜ RecoveredAsks (now scores) (now queue) g p r ⌝ }
+    ensures { λ o. ⌜ RecoveredTurn (now (scores .entry)) (now (queue .entry)) g p r (now (queue .exit)) o ⌝ }
+{
+    match r {
+        Recovery::Ended => Turned::Ended,
+        Recovery::Made(q) => push_turn(scores, queue, g, q, p.records),
+        Recovery::Refused(k) => Turned::Refused(k),
+    }
+}
+
+// A turn where nothing waits: the next pivotal edge is tried, and what is recovered is pushed.
+fn try_pivotal(
+    edges: &[u32],
+    only: &[u32],
+    to: &[u32],
+    paths: &mut [u32],
+    scores: &mut [f64],
+    queue: &mut [u32],
+    shut: &[u32],
+    order: &[u32],
+    marks: &[u32],
+    walk: &mut [u32],
+    g: Setting,
+    p: Progress,
+) -> Turned
+    requires { ⌜ PivotTurn (now edges) (now only) (now to) (now paths) (now scores) (now queue) (now shut) (now order) (now marks) (now walk) g p ⌝ }
+    ensures { λ r. ⌜ PivotMade (now (edges .entry)) (now (only .entry)) (now (to .entry)) (now (paths .entry)) (now (scores .entry)) (now (queue .entry)) (now (shut .entry)) (now (order .entry)) (now (marks .entry)) g p r (now (paths .exit)) (now (scores .exit)) (now (queue .exit)) ⌝ }
+{
+    let r = enqueue_next_pivotal_edge(
+        edges, only, to, paths, scores, shut, order, marks, walk, g, p,
+    );
+    push_recovered(scores, queue, g, p, r)
 }
