@@ -9,3 +9,4 @@ pub mod Between
 pub mod Next
 pub mod Pivot
 pub mod Find
+pub mod Loop

@@ -178,40 +178,40 @@ module _ (g : Setting) (es only to t : List ℕ) (sc : List Float) (queue shut o
       pushed-turn q X (Refused k) F =
           record {
             is = λ vs x ac column. record {
-                is = λ f bs cl s A unmet.
-                    (let E = F .each (scene q X vs x ac column f bs cl s A unmet) _ column (ready q X vs x ac column f bs cl s A unmet) in
-                    fills (F .number) (E .state) (E .left) (pushed-is q X vs x ac column f bs cl s A unmet ∙ E .is));
-              };
+              is = λ f bs cl s A unmet.
+                  (let E = F .each (scene q X vs x ac column f bs cl s A unmet) _ column (ready q X vs x ac column f bs cl s A unmet) in
+                  fills (F .number) (E .state) (E .left) (pushed-is q X vs x ac column f bs cl s A unmet ∙ E .is));
+            };
           }
       pushed-turn q X (On n) F =
           record {
             is = λ vs x ac column. record {
-                is = λ f bs cl s A unmet.
-                    (let E = F .each (scene q X vs x ac column f bs cl s A unmet) _ column (ready q X vs x ac column f bs cl s A unmet) in
-                    let is = pushed-is q X vs x ac column f bs cl s A unmet ∙ E .is in
-                    let c1 = F .counted .records in
-                    let c2 = F .counted .closed in
-                    let c3 = F .counted .pushes in
-                    let m1 = X .0 .low in
-                    let m2 = X .0 .closed in
-                    let m3 = X .0 .pushes in
-                    let a = A .counted in
-                    record {
-                      branches = K q X vs x ac column f bs cl s A unmet .bs;
-                      closings = cl;
-                      state = E .state;
-                      is = is;
-                      at =
-                          record {
-                            ground = A .ground;
-                            fits = A .fits;
-                            holds = E .holds;
-                            counted = omega arith;
-                            good = good-on f g vs es x only to column bs cl t sc ac queue shut order marks p s A unmet (E .state) is;
-                            room = room-kept g t sc ac queue shut t₁ sc₁ ac queue₁ shut lt ls refl lq refl (A .room);
-                          };
-                    });
-              };
+              is = λ f bs cl s A unmet.
+                  (let E = F .each (scene q X vs x ac column f bs cl s A unmet) _ column (ready q X vs x ac column f bs cl s A unmet) in
+                  let is = pushed-is q X vs x ac column f bs cl s A unmet ∙ E .is in
+                  let c1 = F .counted .records in
+                  let c2 = F .counted .closed in
+                  let c3 = F .counted .pushes in
+                  let m1 = X .0 .low in
+                  let m2 = X .0 .closed in
+                  let m3 = X .0 .pushes in
+                  let a = A .counted in
+                  record {
+                    branches = K q X vs x ac column f bs cl s A unmet .bs;
+                    closings = cl;
+                    state = E .state;
+                    is = is;
+                    at =
+                        record {
+                          ground = A .ground;
+                          fits = A .fits;
+                          holds = E .holds;
+                          counted = omega arith;
+                          good = good-on f g vs es x only to column bs cl t sc ac queue shut order marks p s A unmet (E .state) is;
+                          room = room-kept g t sc ac queue shut t₁ sc₁ ac queue₁ shut lt ls refl lq refl (A .room);
+                        };
+                  });
+            };
           }
 
       pub pivot-turn : (r : Recovery) → Tried es only to t sc shut order marks g p t₁ sc₁ r → (out : Turned) → RecoveredTurn sc₁ queue g p r queue₁ out
@@ -220,22 +220,24 @@ module _ (g : Setting) (es only to t : List ℕ) (sc : List Float) (queue shut o
           subst (λ (o : Turned). PivotMade es only to t sc queue shut order marks g p o t₁ sc₁ queue₁) (sym (Y .1))
           (record {
             is = λ vs x ac column. record {
-                is = λ f bs cl s A unmet.
-                    (turn-ended (columnScoring column) f (g .asked) (g .pushes) s (still-unmet vs x ac column f bs cl s A unmet) (still vs x ac column f bs cl s A unmet)
-                    (X .2 (around vs x ac column f bs cl s A unmet) s (resting vs x ac column f bs cl s A unmet)), record { paths = X .0; scores = X .1; actives = refl; waiting = Y .0; closed = refl; marked = refl });
-              };
+              is = λ f bs cl s A unmet. (
+                turn-ended (columnScoring column) f (g .asked) (g .pushes) s (still-unmet vs x ac column f bs cl s A unmet) (still vs x ac column f bs cl s A unmet)
+                    (X .2 (around vs x ac column f bs cl s A unmet) s (resting vs x ac column f bs cl s A unmet)),
+                record { paths = X .0; scores = X .1; actives = refl; waiting = Y .0; closed = refl; marked = refl },
+              );
+            };
           })
       pivot-turn (recovery.Refused k) X out Y =
           subst (λ (o : Turned). PivotMade es only to t sc queue shut order marks g p o t₁ sc₁ queue₁) (sym Y)
           (record {
             is = λ vs x ac column. record {
-                is = λ f bs cl s A unmet.
-                    (let B = X (around vs x ac column f bs cl s A unmet) s column (resting vs x ac column f bs cl s A unmet) in
-                    fails
-                    (turn-recovers (columnScoring column) f (g .asked) (g .pushes) s (still-unmet vs x ac column f bs cl s A unmet) (nameOf es (B .next .edge)) (B .next .rest)
-                    (still vs x ac column f bs cl s A unmet) (B .next .is) _ (B .gives)
-                    ∙ push-broken (columnScoring column) f (g .asked) (g .pushes) s k));
-              };
+              is = λ f bs cl s A unmet.
+                  (let B = X (around vs x ac column f bs cl s A unmet) s column (resting vs x ac column f bs cl s A unmet) in
+                  fails
+                  (turn-recovers (columnScoring column) f (g .asked) (g .pushes) s (still-unmet vs x ac column f bs cl s A unmet) (nameOf es (B .next .edge)) (B .next .rest)
+                  (still vs x ac column f bs cl s A unmet) (B .next .is) _ (B .gives)
+                  ∙ push-broken (columnScoring column) f (g .asked) (g .pushes) s k));
+            };
           })
       pivot-turn (recovery.Made q) X out Y =
           subst (λ (o : Turned). PivotMade es only to t sc queue shut order marks g p o t₁ sc₁ queue₁) (sym (Y .is)) (pushed-turn q X (Y .step) (Y .pushed))
