@@ -1,0 +1,3 @@
+// The text of the program `paths`: what it reads, taken apart over lent slices, and what it prints.
+pub mod column; // column.rt: the column file
+pub mod writing; // writing.rt: what is printed
