@@ -1,3 +1,5 @@
 // The text of the program `paths`: what it reads, taken apart over lent slices, and what it prints.
+pub mod numbers; // numbers.rt: decimal numbers
+pub mod header; // header.rt: the first line
 pub mod column; // column.rt: the column file
 pub mod writing; // writing.rt: what is printed

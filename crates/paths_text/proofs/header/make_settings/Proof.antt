@@ -1,0 +1,67 @@
+-- `make_settings` meets its contract. Assumes nothing.
+use native.Mathlib.Omega.{arith}
+use mathlib.Core.Path.{_≡_}
+use Rattle.paths_text.specs.Numbers.{valueOf, signed-same}
+use Rattle.paths_text.specs.Headers.{quality-bad, quality-small, recovery-bad, settings-good}
+use borrow.Author.Needs.{needs}
+use Rattle.paths_text.proofs.header.make_settings.Statement.{statement}
+use Rattle.paths_text.proofs.header.make_settings.Tie as tie
+
+up-to-requires : tie.Need-up-to-requires
+up-to-requires c κs = search needs
+
+enum-known-least : tie.Need-enum-known-least
+enum-known-least c = search needs
+
+enum-told : tie.Need-enum-told
+enum-told c = search needs
+
+returns : tie.Need-returns
+returns c = quality-bad (valueOf (c .before .before .before .args .k)) (valueOf (c .before .before .before .args .q)) (valueOf (c .before .before .before .args .n)) (valueOf (c .before .before .before .args .t)) (valueOf (c .before .before .before .args .r)) (c .before .before .up-to .result) (c .before .before .up-to .ensures) (c .enum-told .given .1)
+
+up-to-requires-2 : tie.Need-up-to-requires-2
+up-to-requires-2 c κs = search needs
+
+enum-known-flag : tie.Need-enum-known-flag
+enum-known-flag c = search needs
+
+enum-told-2 : tie.Need-enum-told-2
+enum-told-2 c = search needs
+
+returns-2 : tie.Need-returns-2
+returns-2 c = recovery-bad (valueOf (c .before .before .before .before .before .before .before .args .k)) (valueOf (c .before .before .before .before .before .before .before .args .q)) (valueOf (c .before .before .before .before .before .before .before .args .n)) (valueOf (c .before .before .before .before .before .before .before .args .t)) (valueOf (c .before .before .before .before .before .before .before .args .r)) (c .before .before .before .before .before .before .up-to .result) (c .before .before .before .before .before .before .up-to .ensures) _ (c .before .before .before .before .least .given .1) (c .before .before .up-to2 .result) (c .before .before .up-to2 .ensures) (c .enum-told2 .given .1)
+
+size-of-requires : tie.Need-size-of-requires
+size-of-requires c κs = search needs
+
+cast-t11 : tie.Need-cast-t11
+cast-t11 c = let h = quality-small (valueOf (c .before .before .before .before .before .before .before .before .before .args .k)) (valueOf (c .before .before .before .before .before .before .before .before .before .args .q)) (valueOf (c .before .before .before .before .before .before .before .before .before .args .n)) (valueOf (c .before .before .before .before .before .before .before .before .before .args .t)) (valueOf (c .before .before .before .before .before .before .before .before .before .args .r)) (c .before .before .before .before .before .before .before .before .up-to .result) (c .before .before .before .before .before .before .before .before .up-to .ensures) _ (c .before .before .before .before .before .before .least .given .1) (c .before .before .before .before .up-to2 .result) (c .before .before .before .before .up-to2 .ensures) in omega arith
+
+asked-of-requires : tie.Need-asked-of-requires
+asked-of-requires c κs = search needs
+
+signed-requires : tie.Need-signed-requires
+signed-requires c κs = search needs
+
+returns-3 : tie.Need-returns-3
+returns-3 c =
+    settings-good (valueOf (c .before .before .before .before .before .before .before .before .before .before .before .args .k)) (valueOf (c .before .before .before .before .before .before .before .before .before .before .before .args .q)) (valueOf (c .before .before .before .before .before .before .before .before .before .before .before .args .n)) (valueOf (c .before .before .before .before .before .before .before .before .before .before .before .args .t)) (valueOf (c .before .before .before .before .before .before .before .before .before .before .before .args .r)) (c .before .before .before .before .before .before .before .before .before .before .up-to .result) (c .before .before .before .before .before .before .before .before .before .before .up-to .ensures) _ (c .before .before .before .before .before .before .before .before .least .given .1) (c .before .before .before .before .before .before .up-to2 .result) (c .before .before .before .before .before .before .up-to2 .ensures) _ (c .before .before .before .before .flag .given .1) _ _ _
+    (c .before .before .size-of .ensures) (c .before .asked-of .ensures) (signed-same (c .before .before .before .before .before .before .before .before .before .before .before .args .t) _ (c .before .before .before .before .before .before .before .before .before .before .before .pre) (c .signed .ensures))
+
+pub make-settings-spec : {M : Type 1} → statement M
+make-settings-spec =
+    tie.close
+    (tie.spec
+    up-to-requires
+    enum-known-least
+    enum-told
+    returns
+    up-to-requires-2
+    enum-known-flag
+    enum-told-2
+    returns-2
+    size-of-requires
+    cast-t11
+    asked-of-requires
+    signed-requires
+    returns-3)
