@@ -6,16 +6,9 @@ use Prim.Native.Nat.{ℕ, zero, suc, _+_, _-_, _*_, _/_, _%_, _<_, _≤_}
 use native.Mathlib.Omega.{arith}
 use lib.Dec.{leb}
 use lib.ListN.{length, length-append}
-use borrow.Author.Tests.{leb-true, leb-false, le-leb}
+use borrow.Author.Tests.{leb-true, leb-false, le-leb, lt-leb}
 use Rattle.definition.specs.Text.{decimalWithin, decimal, hexDigit, hexadecimal}
 use Rattle.paths_text.specs.Written.{Wrote, wrote-then, written-sets}
-
-pub lt-leb : (n m : ℕ) → m < n → leb n m ≡ false
-lt-leb n m h = go (leb n m) refl
-  where
-    go : (b : Bool) → leb n m ≡ b → leb n m ≡ false
-    go true e = let k = leb-true n m e in absurd (omega arith)
-    go false e = e
 
 -- ---- decimal
 

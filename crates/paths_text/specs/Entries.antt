@@ -11,12 +11,11 @@ use lib.Dec.{T, leb, eqb}
 use lib.ListN.{length, take, drop, getD, set, length-set}
 use lib.Seq.{drop-cons, drop-drop, sets}
 use lib.Ieee.{Float, nan, binary64, div, ofBits, ofFields, nanBits}
-use borrow.Author.Tests.{leb-true, leb-false, le-leb, eq-eqb, ne-eqb}
+use borrow.Author.Tests.{leb-true, leb-false, le-leb, eq-eqb, ne-eqb, lt-leb}
 use Rattle.definition.specs.Text.{lowestFirst, entries, columnOf}
 use Rattle.laws.specs.Stores.{sets-more}
 use Rattle.definition.specs.Calls.{writtenAt}
 use Rattle.paths_text.specs.Written.{written-sets}
-use Rattle.paths_text.specs.Digits.{lt-leb}
 use Rattle.paths_text.specs.declared.column.Column.{Column}
 use Rattle.paths_text.specs.declared.column.Column.the-variants.{Entries, Malformed}
 

@@ -10,9 +10,8 @@ use lib.Dec.{eqb, leb}
 use lib.IntN.{ℤ, pos, negsuc}
 use lib.ListN.{length, take, drop, length-append}
 use lib.Seq.{slice}
-use borrow.Author.Tests.{leb-true}
+use borrow.Author.Tests.{leb-true, lt-leb}
 use Rattle.definition.specs.Text.{Header, parts, number, numbers, settings, header, byteOf, flagOf, sizeOf, with, inFront}
-use Rattle.paths_text.specs.Digits.{lt-leb}
 use Rattle.paths_text.specs.Parts.{firstAt, leftOf, left-none, left-some, parts-some, field-first, found-within}
 use Rattle.paths_text.specs.Numbers.{valueOf, Fitting, Parsed, upTo, askedOf, digitsOf, byte-up}
 use Rattle.paths_text.specs.declared.numbers.Decimal.{Decimal}

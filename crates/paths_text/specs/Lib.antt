@@ -5,3 +5,4 @@ pub mod Entries
 pub mod Parts
 pub mod Numbers
 pub mod Headers
+pub mod Reads

@@ -14,11 +14,10 @@ use mir.Val.{SFits, toZ, ofZ}
 use mir.ValLaws.{toZ-pos, toZ-ofZ}
 use lib.ListN.{length, getD}
 use lib.Seq.{slice, slice-cons, slice-empty}
-use borrow.Author.Tests.{leb-true, leb-false, le-leb, eq-eqb, ne-eqb}
+use borrow.Author.Tests.{leb-true, leb-false, le-leb, eq-eqb, ne-eqb, lt-leb}
 use Rattle.laws.specs.Numbers.{within}
 use Rattle.definition.specs.Limits.{kFits}
 use Rattle.definition.specs.Text.{digitsFrom, magnitude, notNegative, negative, number, byteOf, flagOf, sizeOf, kWithin, askedWithin}
-use Rattle.paths_text.specs.Digits.{lt-leb}
 use Rattle.paths_text.specs.declared.numbers.Decimal.{Decimal}
 use Rattle.paths_text.specs.declared.numbers.Digits.{Digits}
 use Rattle.paths_text.specs.declared.numbers.Digits.the-variants as D

@@ -1,5 +1,6 @@
 // The text of the program `paths`: what it reads, taken apart over lent slices, and what it prints.
 pub mod numbers; // numbers.rt: decimal numbers
 pub mod header; // header.rt: the first line
+pub mod reads; // reads.rt: the lines behind the first
 pub mod column; // column.rt: the column file
 pub mod writing; // writing.rt: what is printed
