@@ -6,3 +6,5 @@ pub mod Parts
 pub mod Numbers
 pub mod Headers
 pub mod Reads
+pub mod Moves
+pub mod Gather

@@ -44,6 +44,7 @@ pub record PairAt (text : List ℕ) (at : ℕ) (l : Lines) : Type 0 where
   pub rising : at ≤ l .bases
   pub behind : l .bases < l .qualities
   pub inside : l .qualities < length text
+  pub good : all isQuality (slice (l .bases + 1) (l .qualities) text) ≡ true
 
 abbrev pub PairSays : List ℕ → ℕ → Pair → Type 0
 PairSays text at (P.At l) = PairAt text at l
@@ -186,6 +187,7 @@ module _ (text : List ℕ) (at : ℕ) (b : ℕ) (h : at < length text) (e : b �
               rising = w .0;
               behind = (let u = z .0 in omega arith);
               inside = m;
+              good = sym x ∙ y;
             }
 
 -- ---- all reads

@@ -2,5 +2,6 @@
 pub mod numbers; // numbers.rt: decimal numbers
 pub mod header; // header.rt: the first line
 pub mod reads; // reads.rt: the lines behind the first
+pub mod gather; // gather.rt: the reads brought together
 pub mod column; // column.rt: the column file
 pub mod writing; // writing.rt: what is printed

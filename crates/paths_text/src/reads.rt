@@ -69,7 +69,7 @@ fn qualities_fit(text: &[u8], from: usize, to: usize) -> bool
 }
 
 // The two lines of the read at a place.
-fn read_pair(text: &[u8], at: usize) -> Pair
+pub fn read_pair(text: &[u8], at: usize) -> Pair
     requires { ⌜ at < length (now text) ⌝ }
     ensures { λ r. ⌜ PairSays (now (text .entry)) at r ⌝ }
 {
