@@ -99,7 +99,7 @@ ends-last n (x ∷ rs) r e h =
     let l = length-append (x .bases) (allBases rs) in
     ap (λ (t : List ℕ). (n + length (x .bases)) ∷ t) (ends-last (n + length (x .bases)) rs r e (omega arith))
 
-length-ends : (n : ℕ) (rs : List ReadLines) → length (endsFrom n rs) ≡ length rs
+pub length-ends : (n : ℕ) (rs : List ReadLines) → length (endsFrom n rs) ≡ length rs
 unfolding endsFrom
 length-ends n [] = refl
 length-ends n (x ∷ rs) = ap suc (length-ends (n + length (x .bases)) rs)

@@ -8,3 +8,4 @@ pub mod Headers
 pub mod Reads
 pub mod Moves
 pub mod Gather
+pub mod Checks

@@ -3,5 +3,6 @@ pub mod numbers; // numbers.rt: decimal numbers
 pub mod header; // header.rt: the first line
 pub mod reads; // reads.rt: the lines behind the first
 pub mod gather; // gather.rt: the reads brought together
+pub mod check; // check.rt: refusals 1 to 5 as the program meets them
 pub mod column; // column.rt: the column file
 pub mod writing; // writing.rt: what is printed
