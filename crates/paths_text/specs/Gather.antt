@@ -39,6 +39,7 @@ pub record Gathered (T E T' E' : List ℕ) (from : ℕ) (reads : List ReadLines)
   pub ends : E' ≡ writtenAt 0 (endsFrom 0 reads) E
   pub bases-many : bases ≡ length (allBases reads)
   pub qualities-many : bases ≡ length (allQualities reads)
+  pub inside : (from + bases) + bases ≤ length T
 
 -- some reads are gathered, the others are left
 pub record Going (T₀ E₀ : List ℕ) (from : ℕ) (reads : List ReadLines) (T E : List ℕ) (g : Gathering) : Type 0 where
@@ -408,6 +409,7 @@ module _ {T₀ E₀ : List ℕ} {from count : ℕ} {T E : List ℕ} {g : Gatheri
         ends = o .ends ∙ sym (written-sets 0 (endsFrom 0 (o .done)) E₀ (omega arith));
         bases-many = o .bases-many;
         qualities-many = o .qualities-many;
+        inside = (let x = o .room in let y = o .inside in let w = o .same in omega arith);
       })
     where
       empty : (l : List ReadLines) → length l ≡ 0 → l ≡ []

@@ -9,3 +9,4 @@ pub mod Reads
 pub mod Moves
 pub mod Gather
 pub mod Checks
+pub mod Sources
