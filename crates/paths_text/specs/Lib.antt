@@ -10,3 +10,4 @@ pub mod Moves
 pub mod Gather
 pub mod Checks
 pub mod Sources
+pub mod Listing

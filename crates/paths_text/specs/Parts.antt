@@ -143,6 +143,13 @@ module _ {A : Type 0} where
   pub slice-some : (f t : ℕ) (xs : List A) → t ≤ length xs → f < t → 0 < length (slice f t xs)
   slice-some f t xs l h = let e = length-slice f t xs l in omega arith
 
+  -- a part of a slice as a loan has it
+  abbrev pub part : ℕ → ℕ → List A → List A
+  part a e xs = take (e - a) (drop a xs)
+
+  pub part-slice : (a e : ℕ) (xs : List A) → a ≤ e → part a e xs ≡ slice a e xs
+  part-slice a e xs h = let z : a + (e - a) ≡ e = omega arith in take-slice (e - a) a xs ∙ ap (λ (n : ℕ). slice a n xs) z
+
 -- a line ends at place r
 pub line-first : (text : List ℕ) (at r : ℕ) → at ≤ length text → r ≡ at + firstAt 10 (slice at (length text) text) → r < length text
     → parts 10 (drop at text) ≡ inFront (slice at r text) (parts 10 (drop (r + 1) text))

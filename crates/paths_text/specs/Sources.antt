@@ -12,7 +12,7 @@ use Rattle.laws.specs.ListLaws.{clash}
 use Rattle.definition.specs.Text.{Text, ReadLines, textOf, evenRead, allBases, allQualities, endsFrom}
 use Rattle.definition.specs.Calls.{writtenAt}
 use Rattle.paths_text.specs.Written.{length-written}
-use Rattle.paths_text.specs.Parts.{take-slice}
+use Rattle.paths_text.specs.Parts.{take-slice, part, part-slice}
 use Rattle.paths_text.specs.Reads.{readsFrom, Laid, FormSays}
 use Rattle.paths_text.specs.Moves.{drop-here, slice-before}
 use Rattle.paths_text.specs.Gather.{Gathers, Gathered, length-ends}
@@ -55,7 +55,7 @@ gathered l n =
 -- the parts of the text T and the ends E are those of t, and lie within them
 pub record Ready (T E : List ℕ) (s : Source) (t : Text) : Type 0 where
   pub handed :
-      Handed (s .settings) (slice (s .reference) (s .past) T) (take (s .ends) E) (slice (s .bases) (s .qualities) T) (slice (s .qualities) (s .end) T)
+      Handed (s .settings) (part (s .reference) (s .past) T) (take (s .ends) E) (part (s .bases) (s .qualities) T) (part (s .qualities) (s .end) T)
       (s .count) (s .even) t
   pub reference-rises : s .reference ≤ s .past
   pub bases-behind : s .past ≤ s .bases
@@ -108,7 +108,7 @@ module _ (T E : List ℕ) (f : Form) (q : FormSays T f (textOf T)) where
                 handed =
                     record {
                       settings = d .settings;
-                      reference-is = d .reference;
+                      reference-is = part-slice (l .reference) (l .past) T r ∙ d .reference;
                       count-is = d .count;
                       even-is = d .even;
                       reads = λ a c. absurd (k a c);
@@ -219,10 +219,15 @@ module _ (T E : List ℕ) (f : Form) (q : FormSays T f (textOf T)) where
                 handed =
                     record {
                       settings = d .settings;
-                      reference-is = reference-part;
+                      reference-is = part-slice (l .reference) (l .past) T' r ∙ reference-part;
                       count-is = d .count;
                       even-is = d .even;
-                      reads = λ a c. (ends-part, bases-part, qualities-part);
+                      reads =
+                          λ a c. (
+                            ends-part,
+                            part-slice (l .reads) (l .reads + n) T' (omega arith) ∙ bases-part,
+                            part-slice (l .reads + n) ((l .reads + n) + n) T' (omega arith) ∙ qualities-part,
+                          );
                     };
                 reference-rises = r;
                 bases-behind = omega arith;

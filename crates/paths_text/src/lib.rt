@@ -7,3 +7,4 @@ pub mod check; // check.rt: refusals 1 to 5 as the program meets them
 pub mod source; // source.rt: the whole text
 pub mod column; // column.rt: the column file
 pub mod writing; // writing.rt: what is printed
+pub mod listing; // listing.rt: what an accepted list prints
