@@ -78,7 +78,7 @@ module _ {s : Settings} {reference ends bases qualities : List ℕ} {count : ℕ
     evens : all evenRead (t .reads) ≡ true
     evens = sym (d .even-is) ∙ e
 
-    sample-is : L.sampleOf (s .k) (t .header .quality) reference ends bases qualities ≡ sampleOf t
+    pub sample-is : L.sampleOf (s .k) (t .header .quality) reference ends bases qualities ≡ sampleOf t
     unfolding sampleOf
     sample-is = let r = d .reads e h in rw (k-is, d .reference-is, r .0, r .1, r .2)
 

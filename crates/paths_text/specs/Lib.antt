@@ -11,3 +11,4 @@ pub mod Gather
 pub mod Checks
 pub mod Sources
 pub mod Listing
+pub mod Program
