@@ -11,4 +11,5 @@ pub mod Gather
 pub mod Checks
 pub mod Sources
 pub mod Listing
+pub mod Rows
 pub mod Program

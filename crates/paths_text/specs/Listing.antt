@@ -33,7 +33,6 @@ pub record Columns (scores : List Float) (closings edges bases : List ℕ) (k pa
   pub closed : paths ≤ length closings
   pub edged : paths ≤ length edges
   pub edges-most : (i : ℕ) → i < paths → getD edges i 0 ≤ 128
-  pub small : (i : ℕ) → i < paths → getD closings i 0 < 4294967296
   pub k-most : k ≤ 128
   pub paths-most : paths ≤ 8
   pub inside : paths * (k + 128) ≤ length bases
@@ -75,39 +74,41 @@ module _ {scores : List Float} {closings edges bases : List ℕ} {k paths : ℕ}
         inside = omega arith;
       }
 
-  line-most : (i : ℕ) → i < paths → length (lineAt scores closings edges bases k i) ≤ 307
-  unfolding lineAt
-  line-most i h =
-      let f = row-fits i h in
-      let a : ℕ = i * (k + 128) in
-      let e : ℕ = getD edges i 0 in
-      let x = f .inside in
-      let y = f .edges-most in
-      let z = f .k-most in
-      let w = f .i-most in
-      let d = length-drop a bases in
-      let n : (a + (k + e)) - a ≡ k + e = omega arith in
-      let l : length (part a (a + (k + e)) bases) ≡ (a + (k + e)) - a = length-take-le ((a + (k + e)) - a) (drop a bases) (omega arith) in
-      let m = path-most (i + 1) (getD scores i nan) (getD closings i 0) e (part a (a + (k + e)) bases) (omega arith) (c .small i h) (omega arith) in
-      omega arith
+  -- closing numbers are of 32 bits
+  module _ (small : (i : ℕ) → getD closings i 0 < 4294967296) where
+    line-most : (i : ℕ) → i < paths → length (lineAt scores closings edges bases k i) ≤ 307
+    unfolding lineAt
+    line-most i h =
+        let f = row-fits i h in
+        let a : ℕ = i * (k + 128) in
+        let e : ℕ = getD edges i 0 in
+        let x = f .inside in
+        let y = f .edges-most in
+        let z = f .k-most in
+        let w = f .i-most in
+        let d = length-drop a bases in
+        let n : (a + (k + e)) - a ≡ k + e = omega arith in
+        let l : length (part a (a + (k + e)) bases) ≡ (a + (k + e)) - a = length-take-le ((a + (k + e)) - a) (drop a bases) (omega arith) in
+        let m = path-most (i + 1) (getD scores i nan) (getD closings i 0) e (part a (a + (k + e)) bases) (omega arith) (small i) (omega arith) in
+        omega arith
 
-  lines-most : (n i : ℕ) → i + n ≤ paths → length (linesFrom scores closings edges bases k i n) ≤ n * 307
-  unfolding linesFrom
-  lines-most zero i h = omega arith
-  lines-most (suc n) i h =
-      let a = length-append (lineAt scores closings edges bases k i) (linesFrom scores closings edges bases k (i + 1) n) in
-      let b = line-most i (omega arith) in
-      let d = lines-most n (i + 1) (omega arith) in
-      omega arith
+    lines-most : (n i : ℕ) → i + n ≤ paths → length (linesFrom scores closings edges bases k i n) ≤ n * 307
+    unfolding linesFrom
+    lines-most zero i h = omega arith
+    lines-most (suc n) i h =
+        let a = length-append (lineAt scores closings edges bases k i) (linesFrom scores closings edges bases k (i + 1) n) in
+        let b = line-most i (omega arith) in
+        let d = lines-most n (i + 1) (omega arith) in
+        omega arith
 
-  -- all that is printed has room in 2,491 bytes
-  pub list-most : (pushes : ℕ) → pushes < 4294967296 → length (firstLine paths pushes ++ linesFrom scores closings edges bases k 0 paths) ≤ 2491
-  list-most pushes h =
-      let p = c .paths-most in
-      let a = length-append (firstLine paths pushes) (linesFrom scores closings edges bases k 0 paths) in
-      let b = first-most paths pushes (omega arith) h in
-      let d = lines-most paths 0 (omega arith) in
-      omega arith
+    -- all that is printed has room in 2,491 bytes
+    pub list-most : (pushes : ℕ) → pushes < 4294967296 → length (firstLine paths pushes ++ linesFrom scores closings edges bases k 0 paths) ≤ 2491
+    list-most pushes h =
+        let p = c .paths-most in
+        let a = length-append (firstLine paths pushes) (linesFrom scores closings edges bases k 0 paths) in
+        let b = first-most paths pushes (omega arith) h in
+        let d = lines-most paths 0 (omega arith) in
+        omega arith
 
 -- i lines are written behind place `from`
 pub record Listing (scores : List Float) (closings edges bases : List ℕ) (k paths : ℕ) (old now : List ℕ) (from at i : ℕ) : Type 0 where
