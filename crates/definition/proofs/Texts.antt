@@ -1,11 +1,9 @@
 -- The program `paths` on case 6: its text as it is read, the column file, and the whole output as 01 prints it; and the borders of the text's form.
 -- Everything is computed from the definitions.
 use mathlib.Core.Path.{_≡_, refl}
-use mathlib.Core.Bool.{false}
 use mathlib.Core.List.{List, [], _∷_, _++_, map}
 use mathlib.Core.Option.{Option, none, some}
 use Prim.Native.Nat.{ℕ}
-use lib.IntN.{pos}
 use lib.ListN.{replicate}
 use lib.Ieee.{Float, add, sub, lt, eq, le, toBits, ofBits}
 use Rattle.definition.specs.Refusal.{openRefusal}
@@ -18,7 +16,7 @@ use Rattle.definition.specs.Search.{openSearch}
 use Rattle.definition.specs.Building.{openBuilding}
 use Rattle.definition.specs.Listing.{openListing}
 use Rattle.definition.specs.Text.{Text, textOf, columnOf, inputOf, printed, refusedLine, openText}
-use Rattle.definition.proofs.Examples.{seqR, seqA, column, one, sample, ask}
+use Rattle.definition.proofs.Examples.{seqR, seqA, sample, ask}
 
 -- "Case 6, with `3 10 5 5 0` and qualities `IIIIIII`"
 abbrev pub input : List ℕ
@@ -55,11 +53,11 @@ output =
     -- 2 bff0000000000000 1 4 CAACTGG
     50 ∷ 32 ∷ 98 ∷ 102 ∷ 102 ∷ 48 ∷ 48 ∷ 48 ∷ 48 ∷ 48 ∷ 48 ∷ 48 ∷ 48 ∷ 48 ∷ 48 ∷ 48 ∷ 48 ∷ 48 ∷ 32 ∷ 49 ∷ 32 ∷ 52 ∷ 32 ∷ 67 ∷ 65 ∷ 65 ∷ 67 ∷ 84 ∷ 71 ∷ 71 ∷ 10 ∷ []
 
-module _ where
-  abbrev read : Option Text → Option (List Float) → Option Input
-  read none c = none
-  read (some t) none = none
-  read (some t) (some c) = some (inputOf t c)
+-- the input that a text and a column make
+abbrev read : Option Text → Option (List Float) → Option Input
+read none c = none
+read (some t) none = none
+read (some t) (some c) = some (inputOf t c)
 
 -- the text and the file are case 6 of the table
 pub case6-read : read (textOf input) (columnOf file) ≡ some (ask (sample 3 seqR (seqA ∷ seqR ∷ [])) 5)

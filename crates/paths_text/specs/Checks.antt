@@ -2,7 +2,7 @@
 use mathlib.Core.Path.{_≡_, refl, sym, ap, _∙_}
 use mathlib.Core.Bool.{Bool, true, false, _&&_}
 use mathlib.Core.List.{List, [], _∷_, _++_}
-use Prim.Native.Nat.{ℕ, zero, suc, _+_, _<_, _≤_}
+use Prim.Native.Nat.{ℕ, _+_, _<_, _≤_}
 use native.Mathlib.Omega.{arith}
 use lib.Dec.{leb, eqb}
 use lib.ListN.{length}
@@ -10,10 +10,10 @@ use borrow.Author.Tests.{le-leb, lt-leb}
 use Rattle.laws.specs.Lists.{all, lastOr}
 use Rattle.definition.specs.Refusal.{Rule, firstBroken}
 use Rattle.definition.specs.Limits.{Sample, kFits, referenceFits, referenceBases, rising, endsFit, readsFit, sampleRules}
-use Rattle.definition.specs.Text.{Text, ReadLines, textRules, sampleOf, sizeOf, evenRead, endsFrom, allBases, allQualities, askedWithin, kWithin}
+use Rattle.definition.specs.Text.{Text, textRules, sampleOf, sizeOf, evenRead, endsFrom, allBases, allQualities, askedWithin}
 use Rattle.limits.specs.Rules.{rule, referenceRules, broken, holds, all-hold, first-broken, first-hold, sample-numbered}
 use Rattle.limits.specs.Handed as L
-use Rattle.paths_text.specs.Numbers.{askedOf, k-within, asked-within}
+use Rattle.paths_text.specs.Numbers.{k-within, asked-within}
 use Rattle.paths_text.specs.Headers.{shown}
 use Rattle.paths_text.specs.Gather.{length-ends}
 use Rattle.paths_text.specs.declared.header.Settings.{Settings}

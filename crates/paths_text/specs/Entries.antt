@@ -7,11 +7,11 @@ use Prim.Native.Nat.{ℕ, zero, suc, _+_, _-_, _*_, _/_, _%_, _<_, _≤_}
 use native.Mathlib.Omega.{arith}
 use native.Mathlib.Numerals.{add-one}
 use native.Mathlib.Nat.{zero-add}
-use lib.Dec.{T, leb, eqb}
+use lib.Dec.{T, eqb}
 use lib.ListN.{length, take, drop, getD, set, length-set}
 use lib.Seq.{drop-cons, drop-drop, sets}
 use lib.Ieee.{Float, nan, binary64, div, ofBits, ofFields, nanBits}
-use borrow.Author.Tests.{leb-true, leb-false, le-leb, eq-eqb, ne-eqb, lt-leb}
+use borrow.Author.Tests.{le-leb, eq-eqb, ne-eqb, lt-leb}
 use Rattle.definition.specs.Text.{lowestFirst, entries, columnOf}
 use Rattle.laws.specs.Stores.{sets-more}
 use Rattle.definition.specs.Calls.{writtenAt}

@@ -1,13 +1,12 @@
 -- The reads brought together one by one: what stands together, and what is left.
 use mathlib.Core.Path.{_≡_, refl, sym, ap, _∙_}
-use mathlib.Core.Bool.{Bool, true, _&&_}
+use mathlib.Core.Bool.{true}
 use mathlib.Core.List.{List, [], _∷_, _++_, append-assoc, append-nil}
 use mathlib.Core.Option.{Option, none, some}
-use Prim.Native.Nat.{ℕ, zero, suc, _+_, _-_, _<_, _≤_}
+use Prim.Native.Nat.{ℕ, suc, _+_, _-_, _<_, _≤_}
 use native.Mathlib.Omega.{arith}
-use lib.Dec.{eqb}
 use native.Mathlib.Decide.{decLt}
-use lib.ListN.{length, set, take, drop, getD, length-append, length-map, drop-of-length-le}
+use lib.ListN.{length, set, drop, length-append, length-map, drop-of-length-le}
 use lib.Seq.{slice, sets, length-slice}
 use borrow.Author.Tests.{eqb-true}
 use Rattle.laws.specs.Lists.{all}

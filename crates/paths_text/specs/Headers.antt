@@ -8,7 +8,7 @@ use Prim.Native.Nat.{ℕ, zero, suc, _+_, _<_, _≤_}
 use native.Mathlib.Omega.{arith}
 use lib.Dec.{eqb, leb}
 use lib.IntN.{ℤ, pos, negsuc}
-use lib.ListN.{length, take, drop, length-append}
+use lib.ListN.{length, take, length-append}
 use lib.Seq.{slice}
 use borrow.Author.Tests.{leb-true, lt-leb}
 use Rattle.definition.specs.Text.{Header, parts, number, numbers, settings, header, byteOf, flagOf, sizeOf, with, inFront}

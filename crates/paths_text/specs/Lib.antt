@@ -1,3 +1,5 @@
+-- What is read: Parts, Numbers, Headers, Reads, Moves, Gather, Sources, Entries. What is refused: Checks. What is printed: Written, Digits, Lines, Listing,
+-- Rows. What the program prints, by what these answered: Program.
 pub mod Written
 pub mod Digits
 pub mod Lines

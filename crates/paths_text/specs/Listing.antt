@@ -1,16 +1,15 @@
 -- An accepted list as columns of numbers: its lines, and how long they are.
-use mathlib.Core.Path.{_≡_, refl, sym, ap, _∙_}
+use mathlib.Core.Path.{_≡_, refl, sym, _∙_}
 use mathlib.Core.Bool.{not}
 use mathlib.Core.List.{List, [], _∷_, _++_, append-nil}
 use Prim.Native.Nat.{ℕ, zero, suc, _+_, _-_, _*_, _<_, _≤_}
-use native.Mathlib.Numerals.{add-one}
 use native.Mathlib.Nat.{mul-le-mul, suc-mul}
 use native.Mathlib.Omega.{arith}
 use lib.Dec.{T}
-use lib.ListN.{length, take, drop, getD, length-append, length-drop}
+use lib.ListN.{length, drop, getD, length-append, length-drop}
 use lib.Seq.{length-take-le}
 use lib.Ieee.{Float, nan, isNan}
-use Rattle.definition.specs.Listing.{Row, Answer, listed}
+use Rattle.definition.specs.Listing.{Row, listed}
 use Rattle.definition.specs.Text.{pathLine, pathLines, firstLine, printedOf}
 use Rattle.paths_text.specs.Written.{Wrote, wrote-then, Begun, begin, piece-room, piece-done}
 use Rattle.paths_text.specs.Parts.{part}

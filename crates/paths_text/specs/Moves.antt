@@ -1,12 +1,12 @@
 -- Bytes moved within one slice: to a place before them, and two parts side by side that change places.
 use mathlib.Core.Path.{_≡_, refl, sym, ap, _∙_}
 use mathlib.Core.Bool.{true, _&&_}
-use mathlib.Core.List.{List, [], _∷_, _++_, map, append-assoc, append-nil, reverse, reverse-append, reverse-reverse}
+use mathlib.Core.List.{List, [], _∷_, _++_, map, append-assoc, reverse, reverse-append, reverse-reverse}
 use Prim.Native.Nat.{ℕ, zero, suc, _+_, _-_, _<_, _≤_}
 use native.Mathlib.Numerals.{add-one}
 use native.Mathlib.Omega.{arith}
 use lib.Dec.{leb}
-use lib.ListN.{length, set, take, drop, getD, length-append, length-set, length-map, length-drop, List·getD-map, take-append-drop, length-reverse}
+use lib.ListN.{length, set, take, drop, getD, length-append, length-set, length-map, List·getD-map, take-append-drop, length-reverse}
 use lib.Seq.{slice, sets, length-slice, take-suc, take-all, length-take-le, getD-set-other, take-at, drop-at, take-append-le, drop-drop, drop-append-add, take-append-seam, drop-append-seam, take-take, getD-drop, getD-take}
 use borrow.Author.Tests.{leb-true}
 use Rattle.laws.specs.Lists.{all}
@@ -178,18 +178,6 @@ module _ (T : List ℕ) (a m e : ℕ) (h : a ≤ m) (k : m ≤ e) (l : e ≤ len
       ∙ turned A (rev X ++ rev Y) Z a e la (omega arith)
       ∙ ap (λ (t : List ℕ). A ++ (t ++ Z)) (rev-parts X Y)
       ∙ ap (λ (t : List ℕ). A ++ t) (append-assoc Y X Z)
-
-  pub turned-long : (T1 : List ℕ) (f t : ℕ) (U : List ℕ) → length U ≡ length T → f ≤ t → t ≤ length U → T1 ≡ take f U ++ (rev (B.slice f t U) ++ drop t U) → length T1 ≡ length T
-  unfolding B.slice
-  turned-long T1 f t U s i j p =
-      let a1 = length-append (take f U) (rev (drop f (take t U)) ++ drop t U) in
-      let a2 = length-append (rev (drop f (take t U))) (drop t U) in
-      let a3 = length-take-le f U (omega arith) in
-      let a4 = length-rev (drop f (take t U)) in
-      let a5 = length-slice f t U j in
-      let a6 = length-drop t U in
-      let a7 = ap length p in
-      omega arith
 
 -- ---- what a run of stores leaves alone, and what it holds
 

@@ -1,12 +1,12 @@
 -- Decimal numbers as they are read: digit by digit, given up where the size passes that of every i32.
 use mathlib.Core.Path.{_≡_, refl, sym, ap, _∙_}
 use mathlib.Core.Bool.{Bool, true, false, cond}
-use mathlib.Core.List.{List, [], _∷_, _++_}
+use mathlib.Core.List.{List, [], _∷_}
 use mathlib.Core.Option.{Option, none, some}
 use Prim.Native.Nat.{ℕ, zero, suc, _+_, _-_, _*_, _<_, _≤_}
 use native.Mathlib.Numerals.{add-one}
 use native.Mathlib.Omega.{arith}
-use lib.Dec.{leb, eqb}
+use lib.Dec.{leb}
 use lib.IntN.{ℤ, pos, negsuc, negℤ, _-ℤ_, +ℤ-idl}
 use lib.Signed.{mag}
 use mir.Syntax.{w32, w64}
@@ -17,7 +17,7 @@ use lib.Seq.{slice, slice-cons, slice-empty}
 use borrow.Author.Tests.{leb-true, leb-false, le-leb, eq-eqb, ne-eqb, lt-leb}
 use Rattle.laws.specs.Numbers.{within}
 use Rattle.definition.specs.Limits.{kFits}
-use Rattle.definition.specs.Text.{digitsFrom, magnitude, notNegative, negative, number, byteOf, flagOf, sizeOf, kWithin, askedWithin}
+use Rattle.definition.specs.Text.{digitsFrom, magnitude, notNegative, negative, number, byteOf, sizeOf, kWithin, askedWithin}
 use Rattle.paths_text.specs.declared.numbers.Decimal.{Decimal}
 use Rattle.paths_text.specs.declared.numbers.Digits.{Digits}
 use Rattle.paths_text.specs.declared.numbers.Digits.the-variants as D

@@ -1,9 +1,9 @@
 -- What the program prints, by what its parts answered.
 use mathlib.Core.Path.{_≡_, refl, sym, ap, _∙_}
-use mathlib.Core.Bool.{Bool, true, false, _&&_}
-use mathlib.Core.List.{List, [], _∷_, _++_}
+use mathlib.Core.Bool.{Bool, true, _&&_}
+use mathlib.Core.List.{List, []}
 use mathlib.Core.Option.{Option, none, some}
-use Prim.Native.Nat.{ℕ, zero, suc, _+_, _<_, _≤_}
+use Prim.Native.Nat.{ℕ, zero, suc, _<_, _≤_}
 use native.Mathlib.Omega.{arith}
 use lib.Dec.{leb, eqb}
 use lib.ListN.{length}
@@ -11,12 +11,11 @@ use lib.Ieee.{Float}
 use borrow.Author.Tests.{leb-true}
 use Rattle.laws.specs.Lists.{all, lastOr}
 use Rattle.laws.specs.ListLaws.{and-left, and-right}
-use Rattle.definition.specs.Refusal.{Rule, firstBroken}
-use Rattle.definition.specs.Limits.{Sample, Input, rising, endsFit, readsFit, settingsFit, columnFits, longEnough, sampleRules, listRules}
-use Rattle.definition.specs.Listing.{Answer, refusal, listed, answer, afterChecks}
-use Rattle.definition.specs.Score.{columnScoring}
-use Rattle.definition.specs.Text.{Text, textOf, columnOf, textRules, sampleOf, inputOf, sizeOf, evenRead, endsFrom, allBases, askedWithin, graphMaxima, searchMaxima, afterText, answerTo, refusedLine, printedOf, printed, with}
-use Rattle.limits.specs.Rules.{rule, none-broken}
+use Rattle.definition.specs.Refusal.{firstBroken}
+use Rattle.definition.specs.Limits.{Input, rising, endsFit, readsFit, longEnough, listRules}
+use Rattle.definition.specs.Listing.{Answer, answer}
+use Rattle.definition.specs.Text.{Text, textOf, columnOf, textRules, sampleOf, inputOf, sizeOf, evenRead, endsFrom, allBases, askedWithin, graphMaxima, searchMaxima, afterText, answerTo, refusedLine, printedOf, printed}
+use Rattle.limits.specs.Rules.{none-broken}
 use Rattle.limits.specs.Handed as L
 use Rattle.paths_text.specs.Numbers.{askedOf, asked-within, asked-same}
 use Rattle.paths_text.specs.Gather.{length-ends}

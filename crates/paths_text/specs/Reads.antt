@@ -1,18 +1,16 @@
 -- The lines behind the first as they are read: pair by pair, each with what is left behind it.
 use mathlib.Core.Path.{_≡_, refl, sym, ap, _∙_}
-use mathlib.Core.Logic.{_⊎_, inl, inr}
 use mathlib.Core.Bool.{Bool, true, false, _&&_}
 use mathlib.Core.List.{List, [], _∷_, _++_, append-nil}
 use mathlib.Core.Option.{Option, none, some}
-use Prim.Native.Nat.{ℕ, zero, suc, _+_, _-_, _<_, _≤_}
+use Prim.Native.Nat.{ℕ, suc, _+_, _-_, _<_, _≤_}
 use native.Mathlib.Numerals.{add-one}
 use native.Mathlib.Omega.{arith}
 use lib.Dec.{eqb, leb}
 use lib.ListN.{length, take, drop, getD, length-append, length-map}
 use lib.Seq.{slice, slice-cons, slice-empty, length-slice, drop-length}
-use borrow.Author.Tests.{leb-true, leb-false, le-leb, eq-eqb, lt-leb}
+use borrow.Author.Tests.{leb-true, leb-false, le-leb, lt-leb}
 use Rattle.laws.specs.Lists.{all}
-use Rattle.laws.specs.ListLaws.{clash}
 use Rattle.definition.specs.Text.{Header, ReadLines, Text, parts, header, isQuality, values, readsOf, fromLines, textOf, evenRead, with, inFront}
 use Rattle.paths_text.specs.Parts.{firstAt, line-first, line-unended, found-within}
 use Rattle.paths_text.specs.Headers.{shown, HeaderSays}
@@ -146,9 +144,6 @@ module _ (text : List ℕ) (at : ℕ) (b : ℕ) (h : at < length text) (e : b �
   module _ (k : b < length text) where
     first-line : parts 10 (drop at text) ≡ inFront (slice at b text) (parts 10 (drop (b + 1) text))
     first-line = line-first text at b (omega arith) e k
-
-    pub second-starts : b + 1 ≤ length text
-    second-starts = omega arith
 
     module _ (q : ℕ) (f : q ≡ (b + 1) + firstAt 10 (slice (b + 1) (length text) text)) where
       pub qualities-unended : length text ≤ q → readsFrom text at ≡ none

@@ -2,20 +2,20 @@
 -- prints.
 use mathlib.Core.Path.{_≡_, refl, sym, ap, _∙_}
 use mathlib.Core.Bool.{false}
-use mathlib.Core.List.{List, [], _∷_, _++_, map}
-use Prim.Native.Nat.{ℕ, zero, suc, _+_, _-_, _*_, _<_, _≤_}
+use mathlib.Core.List.{List, [], _∷_, map}
+use Prim.Native.Nat.{ℕ, suc, _+_, _-_, _*_, _<_, _≤_}
 use native.Mathlib.Nat.{suc-mul}
 use native.Mathlib.Omega.{arith}
-use lib.ListN.{length, take, drop, getD, length-append, length-map, List·getD-map, List·getD-append}
+use lib.ListN.{length, take, drop, getD, length-map, List·getD-map, List·getD-append}
 use lib.Seq.{slice}
 use lib.Ieee.{Float, nan}
 use Rattle.laws.specs.ListLaws.{All, nil, cons}
 use Rattle.definition.specs.Listing.{Row}
 use Rattle.definition.specs.Calls.{writtenAt, writtenRows, PathRow, pathRow}
 use Rattle.paths_text.specs.Written.{length-written}
-use Rattle.paths_text.specs.Parts.{part, part-slice}
+use Rattle.paths_text.specs.Parts.{part-slice}
 use Rattle.paths_text.specs.Moves.{take-written, slice-here}
-use Rattle.paths_text.specs.Listing.{Hold, Held, none-left, one-more}
+use Rattle.paths_text.specs.Listing.{Held, none-left, one-more}
 
 -- ---- rows of bases, each a stride behind the one before
 

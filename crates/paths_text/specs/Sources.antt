@@ -1,17 +1,15 @@
 -- The text read: its parts in the buffer are what the definition hands to the call for the list.
 use mathlib.Core.Path.{_≡_, refl, sym, ap, _∙_}
-use mathlib.Core.Bool.{Bool, true, false}
-use mathlib.Core.List.{List, [], _∷_, _++_, append-assoc}
+use mathlib.Core.Bool.{true, false}
+use mathlib.Core.List.{List, _++_, append-assoc}
 use mathlib.Core.Option.{Option, none, some}
-use Prim.Native.Nat.{ℕ, zero, suc, _+_, _-_, _<_, _≤_}
+use Prim.Native.Nat.{ℕ, _+_, _-_, _<_, _≤_}
 use native.Mathlib.Omega.{arith}
 use lib.ListN.{length, take, drop, length-append}
 use lib.Seq.{slice, take-append-seam, drop-append-seam, drop-drop}
-use Rattle.laws.specs.Lists.{all}
 use Rattle.laws.specs.ListLaws.{clash}
-use Rattle.definition.specs.Text.{Text, ReadLines, textOf, evenRead, allBases, allQualities, endsFrom}
+use Rattle.definition.specs.Text.{Text, ReadLines, textOf, allBases, allQualities, endsFrom}
 use Rattle.definition.specs.Calls.{writtenAt}
-use Rattle.paths_text.specs.Written.{length-written}
 use Rattle.paths_text.specs.Parts.{take-slice, part, part-slice}
 use Rattle.paths_text.specs.Reads.{readsFrom, Laid, FormSays}
 use Rattle.paths_text.specs.Moves.{drop-here, slice-before}
@@ -89,9 +87,6 @@ module _ (T E : List ℕ) (f : Form) (q : FormSays T f (textOf T)) where
   module _ (l : Layout) (m : f ≡ F.Read l) where
     said : (t : Text) × (textOf T ≡ some t) × Laid T l t
     said = form-some T f (textOf T) l q m
-
-    pub text-small : (l .reads ≤ length T) × (length T ≤ 8192)
-    text-small = let d = said .2 in (d .inside, d .small)
 
     -- reads that are refused are left where they are
     left : (s : Source) → s ≡ ungathered l → (l .even ≡ true → l .count ≤ 512 → ⊥) → TextSays (textOf T) T T E E (R.Source s)

@@ -3,8 +3,8 @@ pub mod numbers; // numbers.rt: decimal numbers
 pub mod header; // header.rt: the first line
 pub mod reads; // reads.rt: the lines behind the first
 pub mod gather; // gather.rt: the reads brought together
-pub mod check; // check.rt: refusals 1 to 5 as the program meets them
 pub mod source; // source.rt: the whole text
 pub mod column; // column.rt: the column file
-pub mod writing; // writing.rt: what is printed
+pub mod check; // check.rt: refusals 1 to 5 as the program meets them
+pub mod writing; // writing.rt: the lines printed
 pub mod listing; // listing.rt: what an accepted list prints

@@ -21,13 +21,21 @@ check-sample-requires : tie.Need-check-sample-requires
 check-sample-requires c κs = search needs
 
 returns-3 : tie.Need-returns-3
-returns-3 c = λ t d. sample-refused t d (not-false _ (c .before .before .before .if1 .left)) (c .before .before .if2 .left) _ (c .before .check-sample .ensures) (c .if3 .taken)
+returns-3 c =
+    λ t d. sample-refused t d (not-false _ (c .before .before .before .if1 .left)) (c .before .before .if2 .left) _
+    (c .before .check-sample .ensures) (c .if3 .taken)
 
 returns-4 : tie.Need-returns-4
-returns-4 c = λ t d. paths-refused t d (not-false _ (c .before .before .before .before .before .if1 .left)) (c .before .before .before .before .if2 .left) _ (c .before .before .before .check-sample .ensures) (c .before .before .if3 .left) (c .if4 .taken)
+returns-4 c =
+    λ t d. paths-refused t d (not-false _ (c .before .before .before .before .before .if1 .left))
+    (c .before .before .before .before .if2 .left) _ (c .before .before .before .check-sample .ensures) (c .before .before .if3 .left)
+    (c .if4 .taken)
 
 returns-5 : tie.Need-returns-5
-returns-5 c = λ t d. text-accepted t d (not-false _ (c .before .before .before .before .before .if1 .left)) (c .before .before .before .before .if2 .left) _ (c .before .before .before .check-sample .ensures) (c .before .before .if3 .left) (c .if4 .left)
+returns-5 c =
+    λ t d. text-accepted t d (not-false _ (c .before .before .before .before .before .if1 .left))
+    (c .before .before .before .before .if2 .left) _ (c .before .before .before .check-sample .ensures) (c .before .before .if3 .left)
+    (c .if4 .left)
 
 pub check-text-spec : {M : Type 1} → statement M
 check-text-spec =

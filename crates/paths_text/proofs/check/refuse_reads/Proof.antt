@@ -15,20 +15,24 @@ reference-fits-requires : tie.Need-reference-fits-requires
 reference-fits-requires c κs = search needs
 
 returns-2 : tie.Need-returns-2
-returns-2 c = λ rest. second-fails _ _ rest _ _ (c .before .before .before .k-fits .ensures) (not-false _ (c .before .before .if1 .left)) (c .before .reference-fits .ensures) (not-true _ (c .if2 .taken))
+returns-2 c =
+    λ rest. second-fails _ _ rest _ _ (c .before .before .before .k-fits .ensures) (not-false _ (c .before .before .if1 .left))
+    (c .before .reference-fits .ensures) (not-true _ (c .if2 .taken))
 
 reference-bases-requires : tie.Need-reference-bases-requires
 reference-bases-requires c κs = search needs
 
 returns-3 : tie.Need-returns-3
 returns-3 c =
-    λ rest. third-fails _ _ rest _ _ _ (c .before .before .before .before .before .k-fits .ensures) (not-false _ (c .before .before .before .before .if1 .left)) (c .before .before .before .reference-fits .ensures) (not-false _ (c .before .before .if2 .left))
-    (c .before .reference-bases .ensures) (not-true _ (c .if3 .taken))
+    λ rest. third-fails _ _ rest _ _ _ (c .before .before .before .before .before .k-fits .ensures)
+    (not-false _ (c .before .before .before .before .if1 .left)) (c .before .before .before .reference-fits .ensures)
+    (not-false _ (c .before .before .if2 .left)) (c .before .reference-bases .ensures) (not-true _ (c .if3 .taken))
 
 returns-4 : tie.Need-returns-4
 returns-4 c =
-    λ rest. fourth-fails _ _ rest _ _ _ (c .before .before .before .before .before .k-fits .ensures) (not-false _ (c .before .before .before .before .if1 .left)) (c .before .before .before .reference-fits .ensures) (not-false _ (c .before .before .if2 .left))
-    (c .before .reference-bases .ensures) (not-false _ (c .if3 .left))
+    λ rest. fourth-fails _ _ rest _ _ _ (c .before .before .before .before .before .k-fits .ensures)
+    (not-false _ (c .before .before .before .before .if1 .left)) (c .before .before .before .reference-fits .ensures)
+    (not-false _ (c .before .before .if2 .left)) (c .before .reference-bases .ensures) (not-false _ (c .if3 .left))
 
 pub refuse-reads-spec : {M : Type 1} → statement M
 refuse-reads-spec =

@@ -1,7 +1,6 @@
 -- `read_column` meets its contract. The invariant: i entries are decoded. Assumes nothing.
-use Prim.Native.Nat.{_-_, _*_, _≤_}
+use Prim.Native.Nat.{_-_}
 use native.Mathlib.Omega.{arith}
-use lib.ListN.{length}
 use Rattle.paths_text.specs.Entries.{Decoding, decode-start, decode-next, column-ragged, column-long, column-read}
 use borrow.Author.Needs.{needs}
 use Rattle.paths_text.proofs.column.read_column.Statement.{statement}
@@ -35,7 +34,10 @@ mul-column : tie.Need-mul-column Inv-loop μ-loop
 mul-column c = omega (arith, c .before .before .loop-test .taken, c .before .before .before .before .if2 .left)
 
 slice-write-column : tie.Need-slice-write-column Inv-loop μ-loop
-slice-write-column c = omega (arith, c .before .before .loop-test .taken, c .before .before .before .before .if2 .left, c .before .before .before .before .before .before .before .before .pre, c .before .before .before .loop .inv .same)
+slice-write-column c =
+    let c8 = c .before .before .before .before .before .before .before .before in
+    omega
+    (arith, c .before .before .loop-test .taken, c .before .before .before .before .if2 .left, c8 .pre, c .before .before .before .loop .inv .same)
 
 add-i : tie.Need-add-i Inv-loop μ-loop
 add-i c = omega (arith, c .before .before .loop-test .taken, c .before .before .before .before .if2 .left)
@@ -44,13 +46,17 @@ loop-less : tie.Need-loop-less Inv-loop μ-loop
 loop-less c = omega (arith, c .before .before .loop-test .taken)
 
 loop-again : tie.Need-loop-again Inv-loop μ-loop
-loop-again c = decode-next (c .before .before .before .loop .inv) _ _ (omega (arith, c .before .before .loop-test .taken)) (c .before .word-at .ensures) (c .float-of .ensures)
+loop-again c =
+    decode-next (c .before .before .before .loop .inv) _ _ (omega (arith, c .before .before .loop-test .taken))
+    (c .before .word-at .ensures) (c .float-of .ensures)
 
 same-length : tie.Need-same-length Inv-loop μ-loop
 same-length c = c .before .loop .inv .same
 
 returns-3 : tie.Need-returns-3 Inv-loop μ-loop
-returns-3 c = column-read _ _ _ _ (c .before .before .before .if1 .left) (c .before .before .if2 .left) (c .before .before .before .before .before .before .pre) (c .before .loop .inv) (c .loop-test .left)
+returns-3 c =
+    column-read _ _ _ _ (c .before .before .before .if1 .left) (c .before .before .if2 .left)
+    (c .before .before .before .before .before .before .pre) (c .before .loop .inv) (c .loop-test .left)
 
 pub read-column-spec : {M : Type 1} → statement M
 read-column-spec =

@@ -93,8 +93,12 @@ add-result c = search needs
 
 returns : tie.Need-returns
 returns c =
-    word-is _ _ _ _ _ _ _ _ _ _ (c .before .before .before .before .before .before .before .before .before .pre) (c .byte-at8 .ensures .0) (c .before .byte-at7 .ensures .0) (c .before .before .byte-at6 .ensures .0) (c .before .before .before .byte-at5 .ensures .0)
-    (c .before .before .before .before .byte-at4 .ensures .0) (c .before .before .before .before .before .byte-at3 .ensures .0) (c .before .before .before .before .before .before .byte-at2 .ensures .0) (c .before .before .before .before .before .before .before .byte-at .ensures .0)
+    let c9 = c .before .before .before .before .before .before .before .before .before in
+    word-is _ _ _ _ _ _ _ _ _ _ (c9 .pre) (c .byte-at8 .ensures .0) (c .before .byte-at7 .ensures .0)
+    (c .before .before .byte-at6 .ensures .0) (c .before .before .before .byte-at5 .ensures .0)
+    (c .before .before .before .before .byte-at4 .ensures .0) (c .before .before .before .before .before .byte-at3 .ensures .0)
+    (c .before .before .before .before .before .before .byte-at2 .ensures .0)
+    (c .before .before .before .before .before .before .before .byte-at .ensures .0)
 
 pub word-at-spec : {M : Type 1} → statement M
 word-at-spec =

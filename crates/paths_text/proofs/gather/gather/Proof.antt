@@ -18,10 +18,15 @@ next-read-requires : tie.Need-next-read-requires Inv-loop μ-loop
 next-read-requires c κs = loop-asks (c .before .before .before .before .loop .inv) (c .before .before .if1 .taken)
 
 loop-less : tie.Need-loop-less Inv-loop μ-loop
-loop-less c = let e = c .before .before .before .before .next-read .ensures .reads in omega (arith, c .before .before .before .before .before .before .before .if1 .taken)
+loop-less c =
+    let e = c .before .before .before .before .next-read .ensures .reads in
+    omega (arith, c .before .before .before .before .before .before .before .if1 .taken)
 
 loop-again : tie.Need-loop-again Inv-loop μ-loop
-loop-again c = loop-next (c .before .before .before .before .before .before .before .before .before .loop .inv) (c .before .before .before .before .next-read .ensures) (c .before .before .before .before .next-read .kept .0) (c .before .before .before .before .next-read .kept .1 .0)
+loop-again c =
+    let c9 = c .before .before .before .before .before .before .before .before .before in
+    let c4 = c .before .before .before .before in
+    loop-next (c9 .loop .inv) (c4 .next-read .ensures) (c4 .next-read .kept .0) (c4 .next-read .kept .1 .0)
 
 same-length : tie.Need-same-length Inv-loop μ-loop
 same-length c = c .before .before .loop .inv .going .same

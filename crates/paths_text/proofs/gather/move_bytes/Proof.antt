@@ -1,5 +1,5 @@
 -- `move_bytes` meets its contract. The invariant: i bytes are moved, and those still to move are as they were. Assumes nothing.
-use Prim.Native.Nat.{_-_, _+_}
+use Prim.Native.Nat.{_-_}
 use native.Mathlib.Omega.{arith}
 use Rattle.paths_text.specs.Moves.{Moving, move-start, move-large, move-next, move-end, move-room}
 use Rattle.paths_text.proofs.gather.move_bytes.Statement.{statement}
@@ -18,34 +18,64 @@ loop-holds : tie.Need-loop-holds Inv-loop μ-loop
 loop-holds c = move-start (c .args .text .now) (c .args .from) (c .args .to) (c .args .dest) (c .args .less) (c .pre)
 
 add-text : tie.Need-add-text Inv-loop μ-loop
-add-text c = let r = move-room (c .before .before .args .text .now) (c .before .before .args .from) (c .before .before .args .to) (c .before .before .args .dest) (c .before .before .args .less) (c .before .before .pre) _ _ (c .before .loop .inv) (c .loop-test .taken) .0 in let s = c .before .loop .inv .same in omega (arith, c .before .before .good .0 .0)
+add-text c =
+    let c2 = c .before .before in
+    let r = move-room (c2 .args .text .now) (c2 .args .from) (c2 .args .to) (c2 .args .dest) (c2 .args .less) (c2 .pre) _ _
+    (c .before .loop .inv) (c .loop-test .taken) .0 in
+    let s = c .before .loop .inv .same in
+    omega (arith, c2 .good .0 .0)
 
 slice-read-text : tie.Need-slice-read-text Inv-loop μ-loop
-slice-read-text c = move-room (c .before .before .before .args .text .now) (c .before .before .before .args .from) (c .before .before .before .args .to) (c .before .before .before .args .dest) (c .before .before .before .args .less) (c .before .before .before .pre) _ _ (c .before .before .loop .inv) (c .before .loop-test .taken) .0
+slice-read-text c =
+    let c3 = c .before .before .before in
+    move-room (c3 .args .text .now) (c3 .args .from) (c3 .args .to) (c3 .args .dest) (c3 .args .less) (c3 .pre) _ _
+    (c .before .before .loop .inv) (c .before .loop-test .taken) .0
 
 sub-text : tie.Need-sub-text Inv-loop μ-loop
-sub-text c = move-large (c .before .before .before .args .text .now) (c .before .before .before .args .from) (c .before .before .before .args .to) (c .before .before .before .args .dest) (c .before .before .before .args .less) (c .before .before .before .pre) _ _ (c .before .before .loop .inv) (c .before .loop-test .taken)
+sub-text c =
+    let c3 = c .before .before .before in
+    move-large (c3 .args .text .now) (c3 .args .from) (c3 .args .to) (c3 .args .dest) (c3 .args .less) (c3 .pre) _ _
+    (c .before .before .loop .inv) (c .before .loop-test .taken)
 
 add-text-2 : tie.Need-add-text-2 Inv-loop μ-loop
-add-text-2 c = let r = move-room (c .before .before .before .args .text .now) (c .before .before .before .args .from) (c .before .before .before .args .to) (c .before .before .before .args .dest) (c .before .before .before .args .less) (c .before .before .before .pre) _ _ (c .before .before .loop .inv) (c .before .loop-test .taken) .1 in let s = c .before .before .loop .inv .same in omega (arith, c .before .before .before .good .0 .0)
+add-text-2 c =
+    let c3 = c .before .before .before in
+    let r = move-room (c3 .args .text .now) (c3 .args .from) (c3 .args .to) (c3 .args .dest) (c3 .args .less) (c3 .pre) _ _
+    (c .before .before .loop .inv) (c .before .loop-test .taken) .1 in
+    let s = c .before .before .loop .inv .same in
+    omega (arith, c3 .good .0 .0)
 
 slice-write-text : tie.Need-slice-write-text Inv-loop μ-loop
-slice-write-text c = move-room (c .before .before .before .args .text .now) (c .before .before .before .args .from) (c .before .before .before .args .to) (c .before .before .before .args .dest) (c .before .before .before .args .less) (c .before .before .before .pre) _ _ (c .before .before .loop .inv) (c .before .loop-test .taken) .1
+slice-write-text c =
+    let c3 = c .before .before .before in
+    move-room (c3 .args .text .now) (c3 .args .from) (c3 .args .to) (c3 .args .dest) (c3 .args .less) (c3 .pre) _ _
+    (c .before .before .loop .inv) (c .before .loop-test .taken) .1
 
 add-i : tie.Need-add-i Inv-loop μ-loop
-add-i c = let r = move-room (c .before .before .before .args .text .now) (c .before .before .before .args .from) (c .before .before .before .args .to) (c .before .before .before .args .dest) (c .before .before .before .args .less) (c .before .before .before .pre) _ _ (c .before .before .loop .inv) (c .before .loop-test .taken) .0 in let s = c .before .before .loop .inv .same in omega (arith, c .before .before .before .good .0 .0)
+add-i c =
+    let c3 = c .before .before .before in
+    let r = move-room (c3 .args .text .now) (c3 .args .from) (c3 .args .to) (c3 .args .dest) (c3 .args .less) (c3 .pre) _ _
+    (c .before .before .loop .inv) (c .before .loop-test .taken) .0 in
+    let s = c .before .before .loop .inv .same in
+    omega (arith, c3 .good .0 .0)
 
 loop-less : tie.Need-loop-less Inv-loop μ-loop
 loop-less c = omega (arith, c .before .loop-test .taken)
 
 loop-again : tie.Need-loop-again Inv-loop μ-loop
-loop-again c = move-next (c .before .before .before .args .text .now) (c .before .before .before .args .from) (c .before .before .before .args .to) (c .before .before .before .args .dest) (c .before .before .before .args .less) (c .before .before .before .pre) _ _ (c .before .before .loop .inv) (c .before .loop-test .taken)
+loop-again c =
+    let c3 = c .before .before .before in
+    move-next (c3 .args .text .now) (c3 .args .from) (c3 .args .to) (c3 .args .dest) (c3 .args .less) (c3 .pre) _ _
+    (c .before .before .loop .inv) (c .before .loop-test .taken)
 
 same-length : tie.Need-same-length Inv-loop μ-loop
 same-length c = c .before .loop .inv .same
 
 returns : tie.Need-returns Inv-loop μ-loop
-returns c = move-end (c .before .before .args .text .now) (c .before .before .args .from) (c .before .before .args .to) (c .before .before .args .dest) (c .before .before .args .less) (c .before .before .pre) _ _ (c .before .loop .inv) (c .loop-test .left)
+returns c =
+    let c2 = c .before .before in
+    move-end (c2 .args .text .now) (c2 .args .from) (c2 .args .to) (c2 .args .dest) (c2 .args .less) (c2 .pre) _ _ (c .before .loop .inv)
+    (c .loop-test .left)
 
 pub move-bytes-spec : {M : Type 1} → statement M
 move-bytes-spec =

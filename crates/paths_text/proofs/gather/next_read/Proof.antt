@@ -19,10 +19,15 @@ same-length : tie.Need-same-length
 same-length c = search needs
 
 returns : tie.Need-returns
-returns c = next-there (c .before .before .before .before .before .before .pre) (c .before .before .read-pair .result) (c .before .before .read-pair .ensures) (c .enum-told .given .1)
+returns c =
+    next-there (c .before .before .before .before .before .before .pre) (c .before .before .read-pair .result)
+    (c .before .before .read-pair .ensures) (c .enum-told .given .1)
 
 sub-more : tie.Need-sub-more
-sub-more c = next-pair (c .before .before .before .before .before .before .before .before .pre) (c .before .before .before .before .read-pair .result) _ (c .before .before .before .before .read-pair .ensures) (c .before .before .pair .given .1) .rising
+sub-more c =
+    let c8 = c .before .before .before .before .before .before .before .before in
+    let c4 = c .before .before .before .before in
+    next-pair (c8 .pre) (c4 .read-pair .result) _ (c4 .read-pair .ensures) (c .before .before .pair .given .1) .rising
 
 add-more : tie.Need-add-more
 add-more c = search needs
@@ -31,10 +36,21 @@ add-join-read : tie.Need-add-join-read
 add-join-read c = search needs
 
 join-read-requires : tie.Need-join-read-requires
-join-read-requires c κs = next-joins (c .before .before .before .before .before .before .before .before .before .pre) (c .before .before .before .before .before .read-pair .result) _ (c .before .before .before .before .before .read-pair .ensures) (c .before .before .before .pair .given .1)
+join-read-requires c κs =
+    let c9 = c .before .before .before .before .before .before .before .before .before in
+    let c5 = c .before .before .before .before .before in
+    next-joins (c9 .pre) (c5 .read-pair .result) _ (c5 .read-pair .ensures) (c .before .before .before .pair .given .1)
 
 cast-ends : tie.Need-cast-ends
-cast-ends c = let p = next-pair (c .before .before .before .before .before .before .before .before .before .before .before .before .pre) (c .before .before .before .before .before .before .before .before .read-pair .result) _ (c .before .before .before .before .before .before .before .before .read-pair .ensures) (c .before .before .before .before .before .before .pair .given .1) in let x = p .rising in let y = p .behind in let z = p .inside in omega (arith, c .before .before .before .before .before .before .before .before .before .before .before .before .pre .room, c .before .before .before .before .before .before .before .before .before .before .before .before .pre .small)
+cast-ends c =
+    let c12 = c .before .before .before .before .before .before .before .before .before .before .before .before in
+    let c8 = c .before .before .before .before .before .before .before .before in
+    let p = next-pair (c12 .pre) (c8 .read-pair .result) _ (c8 .read-pair .ensures)
+    (c .before .before .before .before .before .before .pair .given .1) in
+    let x = p .rising in
+    let y = p .behind in
+    let z = p .inside in
+    omega (arith, c12 .pre .room, c12 .pre .small)
 
 mul-ends : tie.Need-mul-ends
 mul-ends c = search needs
@@ -43,7 +59,13 @@ slice-write-ends : tie.Need-slice-write-ends
 slice-write-ends c = search needs
 
 add-t13 : tie.Need-add-t13
-add-t13 c = let p = next-pair (c .before .before .before .before .before .before .before .before .before .before .before .before .before .pre) (c .before .before .before .before .before .before .before .before .before .read-pair .result) _ (c .before .before .before .before .before .before .before .before .before .read-pair .ensures) (c .before .before .before .before .before .before .before .pair .given .1) in let z = p .inside in omega (arith, c .before .before .before .before .before .before .before .before .before .before .before .before .before .pre .small)
+add-t13 c =
+    let c13 = c .before .before .before .before .before .before .before .before .before .before .before .before .before in
+    let c9 = c .before .before .before .before .before .before .before .before .before in
+    let p = next-pair (c13 .pre) (c9 .read-pair .result) _ (c9 .read-pair .ensures)
+    (c .before .before .before .before .before .before .before .pair .given .1) in
+    let z = p .inside in
+    omega (arith, c13 .pre .small)
 
 add-t19 : tie.Need-add-t19
 add-t19 c = search needs
@@ -55,7 +77,11 @@ same-length-3 : tie.Need-same-length-3
 same-length-3 c = search needs
 
 returns-2 : tie.Need-returns-2
-returns-2 c = record { lines = _; pair = next-pair (c .before .before .before .before .before .before .before .before .before .before .before .before .before .pre) (c .before .before .before .before .before .before .before .before .before .read-pair .result) _ (c .before .before .before .before .before .before .before .before .before .read-pair .ensures) (c .before .before .before .before .before .before .before .pair .given .1); at = refl; bases = refl; reads = refl; text = c .before .before .before .join-read .ensures; ends = refl }
+returns-2 c =
+    let c13 = c .before .before .before .before .before .before .before .before .before .before .before .before .before in
+    let c9 = c .before .before .before .before .before .before .before .before .before in
+    record
+    { lines = _; pair = next-pair (c13 .pre) (c9 .read-pair .result) _ (c9 .read-pair .ensures) (c .before .before .before .before .before .before .before .pair .given .1); at = refl; bases = refl; reads = refl; text = c .before .before .before .join-read .ensures; ends = refl }
 
 pub next-read-spec : {M : Type 1} → statement M
 next-read-spec =

@@ -17,7 +17,11 @@ same-length : tie.Need-same-length
 same-length c = search needs
 
 returns : tie.Need-returns
-returns c = rotated (c .before .before .before .before .before .before .before .before .before .before .before .before .before .args .text .now) (c .before .before .before .before .before .before .before .before .before .before .before .before .before .args .a) (c .before .before .before .before .before .before .before .before .before .before .before .before .before .args .m) (c .before .before .before .before .before .before .before .before .before .before .before .before .before .args .e) (c .before .before .before .before .before .before .before .before .before .before .before .before .before .pre .0) (c .before .before .before .before .before .before .before .before .before .before .before .before .before .pre .1) (c .before .before .before .before .before .before .before .before .before .before .before .before .before .pre .2) _ _ _ (c .before .before .before .before .before .before .before .before .before .before .reverse .ensures) (c .before .before .before .before .before .before .reverse2 .ensures) (c .before .before .reverse3 .ensures)
+returns c =
+    let c13 = c .before .before .before .before .before .before .before .before .before .before .before .before .before in
+    let c10 = c .before .before .before .before .before .before .before .before .before .before in
+    rotated (c13 .args .text .now) (c13 .args .a) (c13 .args .m) (c13 .args .e) (c13 .pre .0) (c13 .pre .1) (c13 .pre .2) _ _ _
+    (c10 .reverse .ensures) (c .before .before .before .before .before .before .reverse2 .ensures) (c .before .before .reverse3 .ensures)
 
 pub rotate-spec : {M : Type 1} → statement M
 rotate-spec =

@@ -54,7 +54,9 @@ part-write-path-end c = search needs
 
 write-path-requires : tie.Need-write-path-requires
 unfolding lineAt
-write-path-requires c κs = (c .before .before .before .before .before .before .before .before .before .before .pre .0 .score, c .before .before .before .before .before .before .before .before .before .before .pre .1)
+write-path-requires c κs =
+    let c10 = c .before .before .before .before .before .before .before .before .before .before in
+    (c10 .pre .0 .score, c10 .pre .1)
 
 same-length : tie.Need-same-length
 same-length c = search needs

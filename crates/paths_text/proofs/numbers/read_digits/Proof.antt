@@ -1,7 +1,6 @@
 -- `read_digits` meets its contract. The invariant: the digits from here on, behind those read, are worth what all are. Assumes nothing.
 use Prim.Native.Nat.{_-_}
 use native.Mathlib.Omega.{arith}
-use mathlib.Core.Path.{_∙_}
 use Rattle.paths_text.specs.Numbers.{Reading, read-start, read-stop, read-next, read-end}
 use borrow.Author.Needs.{needs}
 use Rattle.paths_text.proofs.numbers.read_digits.Statement.{statement}
@@ -29,16 +28,24 @@ enum-told : tie.Need-enum-told Inv-loop μ-loop
 enum-told c = search needs
 
 returns : tie.Need-returns Inv-loop μ-loop
-returns c = read-stop (c .before .before .before .before .before .loop .inv) (c .before .before .before .before .before .before .before .pre .1) (c .before .before .before .before .loop-test .taken) _ (c .before .before .more-digits .ensures) (c .enum-told .given .1)
+returns c =
+    read-stop (c .before .before .before .before .before .loop .inv) (c .before .before .before .before .before .before .before .pre .1)
+    (c .before .before .before .before .loop-test .taken) _ (c .before .before .more-digits .ensures) (c .enum-told .given .1)
 
 add-place : tie.Need-add-place Inv-loop μ-loop
-add-place c = omega (arith, c .before .before .before .before .before .loop-test .taken, c .before .before .before .before .before .before .before .before .pre .1)
+add-place c =
+    let c8 = c .before .before .before .before .before .before .before .before in
+    omega (arith, c .before .before .before .before .before .loop-test .taken, c8 .pre .1)
 
 loop-less : tie.Need-loop-less Inv-loop μ-loop
 loop-less c = omega (arith, c .before .before .before .before .before .loop-test .taken)
 
 loop-again : tie.Need-loop-again Inv-loop μ-loop
-loop-again c = read-next (c .before .before .before .before .before .before .loop .inv) (c .before .before .before .before .before .before .before .before .pre .1) (c .before .before .before .before .before .loop-test .taken) _ _ (c .before .before .before .more-digits .ensures) (c .before .more .given .1)
+loop-again c =
+    let c8 = c .before .before .before .before .before .before .before .before in
+    read-next (c .before .before .before .before .before .before .loop .inv) (c8 .pre .1)
+    (c .before .before .before .before .before .loop-test .taken) _ _ (c .before .before .before .more-digits .ensures)
+    (c .before .more .given .1)
 
 returns-2 : tie.Need-returns-2 Inv-loop μ-loop
 returns-2 c = read-end (c .before .loop .inv) (c .loop-test .left)

@@ -7,13 +7,18 @@ returns : tie.Need-returns
 returns c = above-most (c .before .before .args .d) (c .before .before .args .most) (c .if1 .taken)
 
 returns-2 : tie.Need-returns-2
-returns-2 c = below-nought (c .before .before .before .before .before .args .d) (c .before .before .before .before .before .args .most) (c .before .before .if2 .taken) (c .if3 .taken)
+returns-2 c =
+    let c5 = c .before .before .before .before .before in
+    below-nought (c5 .args .d) (c5 .args .most) (c .before .before .if2 .taken) (c .if3 .taken)
 
 returns-3 : tie.Need-returns-3
-returns-3 c = nought-within (c .before .before .before .before .before .args .d) (c .before .before .before .before .before .args .most) (c .before .before .before .if1 .left) (c .before .before .if2 .taken) (c .if3 .left)
+returns-3 c =
+    let c5 = c .before .before .before .before .before in
+    nought-within (c5 .args .d) (c5 .args .most) (c .before .before .before .if1 .left) (c .before .before .if2 .taken) (c .if3 .left)
 
 returns-4 : tie.Need-returns-4
-returns-4 c = above-within (c .before .before .before .args .d) (c .before .before .before .args .most) (c .before .if1 .left) (c .if2 .left)
+returns-4 c =
+    above-within (c .before .before .before .args .d) (c .before .before .before .args .most) (c .before .if1 .left) (c .if2 .left)
 
 pub up-to-spec : {M : Type 1} → statement M
 up-to-spec = tie.close (tie.spec returns returns-2 returns-3 returns-4)

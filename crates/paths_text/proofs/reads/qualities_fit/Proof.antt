@@ -18,10 +18,14 @@ shared-slice-read-byte : tie.Need-shared-slice-read-byte Inv-loop μ-loop
 shared-slice-read-byte c = omega (arith, c .before .loop-test .taken, c .before .before .before .pre .1)
 
 returns : tie.Need-returns Inv-loop μ-loop
-returns c = good-low (c .before .before .before .loop .inv) (c .before .before .before .before .pre .1) (c .before .before .loop-test .taken) (c .if1 .taken)
+returns c =
+    good-low (c .before .before .before .loop .inv) (c .before .before .before .before .pre .1) (c .before .before .loop-test .taken)
+    (c .if1 .taken)
 
 returns-2 : tie.Need-returns-2 Inv-loop μ-loop
-returns-2 c = good-high (c .before .before .before .before .loop .inv) (c .before .before .before .before .before .pre .1) (c .before .before .before .loop-test .taken) (c .if2 .taken)
+returns-2 c =
+    good-high (c .before .before .before .before .loop .inv) (c .before .before .before .before .before .pre .1)
+    (c .before .before .before .loop-test .taken) (c .if2 .taken)
 
 add-place : tie.Need-add-place Inv-loop μ-loop
 add-place c = omega (arith, c .before .before .before .loop-test .taken, c .before .before .before .before .before .pre .1)
@@ -30,7 +34,9 @@ loop-less : tie.Need-loop-less Inv-loop μ-loop
 loop-less c = omega (arith, c .before .before .before .loop-test .taken)
 
 loop-again : tie.Need-loop-again Inv-loop μ-loop
-loop-again c = good-next (c .before .before .before .before .loop .inv) (c .before .before .before .before .before .pre .1) (c .before .before .before .loop-test .taken) (c .before .if1 .left) (c .if2 .left)
+loop-again c =
+    good-next (c .before .before .before .before .loop .inv) (c .before .before .before .before .before .pre .1)
+    (c .before .before .before .loop-test .taken) (c .before .if1 .left) (c .if2 .left)
 
 returns-3 : tie.Need-returns-3 Inv-loop μ-loop
 returns-3 c = good-end (c .before .loop .inv) (c .loop-test .left)

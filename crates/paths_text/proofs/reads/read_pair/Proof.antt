@@ -18,7 +18,9 @@ find-byte-requires-2 : tie.Need-find-byte-requires-2
 find-byte-requires-2 c κs = search needs
 
 returns-2 : tie.Need-returns-2
-returns-2 c = qualities-unended _ _ _ (c .before .before .before .before .before .pre) (c .before .before .before .find-byte .ensures) (c .before .before .if1 .left) _ (c .before .find-byte2 .ensures) (c .if2 .taken)
+returns-2 c =
+    qualities-unended _ _ _ (c .before .before .before .before .before .pre) (c .before .before .before .find-byte .ensures)
+    (c .before .before .if1 .left) _ (c .before .find-byte2 .ensures) (c .if2 .taken)
 
 add-qualities-fit : tie.Need-add-qualities-fit
 add-qualities-fit c = search needs
@@ -27,10 +29,18 @@ qualities-fit-requires : tie.Need-qualities-fit-requires
 qualities-fit-requires c κs = search needs
 
 returns-3 : tie.Need-returns-3
-returns-3 c = qualities-bad _ _ _ (c .before .before .before .before .before .before .before .pre) (c .before .before .before .before .before .find-byte .ensures) (c .before .before .before .before .if1 .left) _ (c .before .before .before .find-byte2 .ensures) (c .before .before .if2 .left) _ (c .before .qualities-fit .ensures) (not-true _ (c .if3 .taken))
+returns-3 c =
+    qualities-bad _ _ _ (c .before .before .before .before .before .before .before .pre)
+    (c .before .before .before .before .before .find-byte .ensures) (c .before .before .before .before .if1 .left) _
+    (c .before .before .before .find-byte2 .ensures) (c .before .before .if2 .left) _ (c .before .qualities-fit .ensures)
+    (not-true _ (c .if3 .taken))
 
 returns-4 : tie.Need-returns-4
-returns-4 c = pair-read _ _ _ (c .before .before .before .before .before .before .before .pre) (c .before .before .before .before .before .find-byte .ensures) (c .before .before .before .before .if1 .left) _ (c .before .before .before .find-byte2 .ensures) (c .before .before .if2 .left) _ (c .before .qualities-fit .ensures) (not-false _ (c .if3 .left))
+returns-4 c =
+    pair-read _ _ _ (c .before .before .before .before .before .before .before .pre)
+    (c .before .before .before .before .before .find-byte .ensures) (c .before .before .before .before .if1 .left) _
+    (c .before .before .before .find-byte2 .ensures) (c .before .before .if2 .left) _ (c .before .qualities-fit .ensures)
+    (not-false _ (c .if3 .left))
 
 pub read-pair-spec : {M : Type 1} → statement M
 read-pair-spec =

@@ -26,31 +26,66 @@ enum-told : tie.Need-enum-told Inv-loop μ-loop
 enum-told c = search needs
 
 returns : tie.Need-returns Inv-loop μ-loop
-returns c = scan-stop (c .before .before .before .before .loop .inv) (c .before .before .read-pair .result) (c .before .before .read-pair .ensures) (c .enum-told .given .1)
+returns c =
+    scan-stop (c .before .before .before .before .loop .inv) (c .before .before .read-pair .result) (c .before .before .read-pair .ensures)
+    (c .enum-told .given .1)
 
 sub-both : tie.Need-sub-both Inv-loop μ-loop
-sub-both c = scan-pair (c .before .before .before .before .before .before .loop .inv) (c .before .before .before .before .read-pair .result) _ (c .before .before .before .before .read-pair .ensures) (c .before .before .pair .given .1) .rising
+sub-both c =
+    let c4 = c .before .before .before .before in
+    scan-pair (c .before .before .before .before .before .before .loop .inv) (c4 .read-pair .result) _ (c4 .read-pair .ensures)
+    (c .before .before .pair .given .1) .rising
 
 sub-both-2 : tie.Need-sub-both-2 Inv-loop μ-loop
-sub-both-2 c = let p = scan-pair (c .before .before .before .before .before .before .before .loop .inv) (c .before .before .before .before .before .read-pair .result) _ (c .before .before .before .before .before .read-pair .ensures) (c .before .before .before .pair .given .1) .behind in omega arith
+sub-both-2 c =
+    let c5 = c .before .before .before .before .before in
+    let p = scan-pair (c .before .before .before .before .before .before .before .loop .inv) (c5 .read-pair .result) _
+    (c5 .read-pair .ensures) (c .before .before .before .pair .given .1) .behind in
+    omega arith
 
 sub-both-3 : tie.Need-sub-both-3 Inv-loop μ-loop
-sub-both-3 c = let p = scan-pair (c .before .before .before .before .before .before .before .loop .inv) (c .before .before .before .before .before .read-pair .result) _ (c .before .before .before .before .before .read-pair .ensures) (c .before .before .before .pair .given .1) .behind in omega arith
+sub-both-3 c =
+    let c5 = c .before .before .before .before .before in
+    let p = scan-pair (c .before .before .before .before .before .before .before .loop .inv) (c5 .read-pair .result) _
+    (c5 .read-pair .ensures) (c .before .before .before .pair .given .1) .behind in
+    omega arith
 
 both-requires : tie.Need-both-requires Inv-loop μ-loop
 both-requires c κs = search needs
 
 add-at : tie.Need-add-at Inv-loop μ-loop
-add-at c = let p = scan-pair (c .before .before .before .before .before .before .before .before .before .loop .inv) (c .before .before .before .before .before .before .before .read-pair .result) _ (c .before .before .before .before .before .before .before .read-pair .ensures) (c .before .before .before .before .before .pair .given .1) .inside in omega (arith, c .before .before .before .before .before .before .before .before .before .before .before .good .0 .0)
+add-at c =
+    let c11 = c .before .before .before .before .before .before .before .before .before .before .before in
+    let c9 = c .before .before .before .before .before .before .before .before .before in
+    let c7 = c .before .before .before .before .before .before .before in
+    let p = scan-pair (c9 .loop .inv) (c7 .read-pair .result) _ (c7 .read-pair .ensures)
+    (c .before .before .before .before .before .pair .given .1) .inside in
+    omega (arith, c11 .good .0 .0)
 
 add-count : tie.Need-add-count Inv-loop μ-loop
-add-count c = omega (arith, c .before .before .before .before .before .before .before .before .before .loop .inv .few, c .before .before .before .before .before .before .before .before .loop-test .taken, c .before .before .before .before .before .before .before .before .before .before .before .good .0 .0)
+add-count c =
+    let c11 = c .before .before .before .before .before .before .before .before .before .before .before in
+    let c9 = c .before .before .before .before .before .before .before .before .before in
+    let c8 = c .before .before .before .before .before .before .before .before in
+    omega (arith, c9 .loop .inv .few, c8 .loop-test .taken, c11 .good .0 .0)
 
 loop-less : tie.Need-loop-less Inv-loop μ-loop
-loop-less c = let p = scan-pair (c .before .before .before .before .before .before .before .before .before .loop .inv) (c .before .before .before .before .before .before .before .read-pair .result) _ (c .before .before .before .before .before .before .before .read-pair .ensures) (c .before .before .before .before .before .pair .given .1) .inside in let q = scan-pair (c .before .before .before .before .before .before .before .before .before .loop .inv) (c .before .before .before .before .before .before .before .read-pair .result) _ (c .before .before .before .before .before .before .before .read-pair .ensures) (c .before .before .before .before .before .pair .given .1) .rising in let r = scan-pair (c .before .before .before .before .before .before .before .before .before .loop .inv) (c .before .before .before .before .before .before .before .read-pair .result) _ (c .before .before .before .before .before .before .before .read-pair .ensures) (c .before .before .before .before .before .pair .given .1) .behind in omega (arith, c .before .before .before .before .before .before .before .before .loop-test .taken)
+loop-less c =
+    let c9 = c .before .before .before .before .before .before .before .before .before in
+    let c8 = c .before .before .before .before .before .before .before .before in
+    let c7 = c .before .before .before .before .before .before .before in
+    let c5 = c .before .before .before .before .before in
+    let p = scan-pair (c9 .loop .inv) (c7 .read-pair .result) _ (c7 .read-pair .ensures) (c5 .pair .given .1) .inside in
+    let q = scan-pair (c9 .loop .inv) (c7 .read-pair .result) _ (c7 .read-pair .ensures) (c5 .pair .given .1) .rising in
+    let r = scan-pair (c9 .loop .inv) (c7 .read-pair .result) _ (c7 .read-pair .ensures) (c5 .pair .given .1) .behind in
+    omega (arith, c8 .loop-test .taken)
 
 loop-again : tie.Need-loop-again Inv-loop μ-loop
-loop-again c = scan-next (c .before .before .before .before .before .before .before .before .before .loop .inv) (c .before .before .before .before .before .before .before .read-pair .result) _ (c .before .before .before .before .before .before .before .read-pair .ensures) (c .before .before .before .before .before .pair .given .1) _ (c .before .both .ensures)
+loop-again c =
+    let c9 = c .before .before .before .before .before .before .before .before .before in
+    let c7 = c .before .before .before .before .before .before .before in
+    scan-next (c9 .loop .inv) (c7 .read-pair .result) _ (c7 .read-pair .ensures)
+    (c .before .before .before .before .before .pair .given .1) _ (c .before .both .ensures)
 
 returns-2 : tie.Need-returns-2 Inv-loop μ-loop
 returns-2 c = scan-end (c .before .loop .inv) (c .loop-test .left)

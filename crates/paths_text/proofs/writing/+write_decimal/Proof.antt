@@ -1,7 +1,6 @@
 -- `write_decimal` meets its contract; the number itself falls. Assumes nothing.
 use native.Mathlib.Omega.{arith}
-use mathlib.Core.Path.{_≡_, sym, ap, _∙_}
-use lib.ListN.{length, length-append}
+use mathlib.Core.Path.{_∙_}
 use Rattle.paths_text.specs.Digits.{small-room, small-wrote, large-room, large-next, large-wrote}
 use Prim.Native.Nat.{ℕ, _<_}
 use borrow.Fn.Kinds.{In}
@@ -50,7 +49,9 @@ write-decimal-write-byte-requires : (t : ℕ) → write-decimal-lts.Need-write-b
   write-decimal-below t,
   write-decimal.Post,
 ) (write-decimal-at t) write-decimal.Post
-write-decimal-write-byte-requires t c κs = small-room (c .before .before .before .args .n) (c .before .before .before .args .at) (c .before .before .before .args .out .now) (c .before .if1 .taken) (c .before .before .before .pre .1)
+write-decimal-write-byte-requires t c κs =
+    let c3 = c .before .before .before in
+    small-room (c3 .args .n) (c3 .args .at) (c3 .args .out .now) (c .before .if1 .taken) (c3 .pre .1)
 
 write-decimal-same-length : (t : ℕ) → write-decimal-lts.Need-same-length (
   write-byte-reads.Asked,
@@ -66,7 +67,9 @@ write-decimal-returns : (t : ℕ) → write-decimal-lts.Need-returns (
   write-decimal-below t,
   write-decimal.Post,
 ) (write-decimal-at t) write-decimal.Post
-write-decimal-returns t c = small-wrote (c .before .before .before .before .before .before .args .n) (c .before .before .before .before .if1 .taken) (c .before .before .write-byte .ensures)
+write-decimal-returns t c =
+    small-wrote (c .before .before .before .before .before .before .args .n) (c .before .before .before .before .if1 .taken)
+    (c .before .before .write-byte .ensures)
 
 write-decimal-write-decimal-requires : (t : ℕ) → write-decimal-lts.Need-write-decimal-requires (
   write-byte-reads.Asked,
@@ -74,7 +77,9 @@ write-decimal-write-decimal-requires : (t : ℕ) → write-decimal-lts.Need-writ
   write-decimal-below t,
   write-decimal.Post,
 ) (write-decimal-at t) write-decimal.Post
-write-decimal-write-decimal-requires t c κs = (omega (arith, c .before .before .before .pre .0, c .before .if1 .left), large-room (c .before .before .before .args .n) (c .before .before .before .args .at) (c .before .before .before .args .out .now) (c .before .if1 .left) (c .before .before .before .pre .1))
+write-decimal-write-decimal-requires t c κs =
+    let c3 = c .before .before .before in
+    (omega (arith, c3 .pre .0, c .before .if1 .left), large-room (c3 .args .n) (c3 .args .at) (c3 .args .out .now) (c .before .if1 .left) (c3 .pre .1))
 
 write-decimal-cast-write-byte-2 : (t : ℕ) → write-decimal-lts.Need-cast-write-byte-2 (
   write-byte-reads.Asked,
@@ -98,7 +103,10 @@ write-decimal-write-byte-requires-2 : (t : ℕ) → write-decimal-lts.Need-write
   write-decimal-below t,
   write-decimal.Post,
 ) (write-decimal-at t) write-decimal.Post
-write-decimal-write-byte-requires-2 t c κs = large-next (c .before .before .before .before .before .before .before .args .n) (c .before .before .before .before .before .before .before .args .at) (c .before .before .before .before .before .if1 .left) (c .before .before .before .before .before .before .before .pre .1) (c .before .before .before .write-decimal .ensures .next) (c .before .before .before .write-decimal .kept .0)
+write-decimal-write-byte-requires-2 t c κs =
+    let c7 = c .before .before .before .before .before .before .before in
+    large-next (c7 .args .n) (c7 .args .at) (c .before .before .before .before .before .if1 .left) (c7 .pre .1)
+    (c .before .before .before .write-decimal .ensures .next) (c .before .before .before .write-decimal .kept .0)
 
 write-decimal-same-length-2 : (t : ℕ) → write-decimal-lts.Need-same-length-2 (
   write-byte-reads.Asked,
@@ -114,7 +122,11 @@ write-decimal-returns-2 : (t : ℕ) → write-decimal-lts.Need-returns-2 (
   write-decimal-below t,
   write-decimal.Post,
 ) (write-decimal-at t) write-decimal.Post
-write-decimal-returns-2 t c = large-wrote (c .before .before .before .before .before .before .before .before .before .before .args .n) (c .before .before .before .before .before .before .before .before .if1 .left) (c .before .before .before .before .before .before .before .before .before .before .pre .1) (c .before .before .before .before .before .before .write-decimal .ensures) (c .before .before .write-byte2 .ensures)
+write-decimal-returns-2 t c =
+    let c10 = c .before .before .before .before .before .before .before .before .before .before in
+    let c8 = c .before .before .before .before .before .before .before .before in
+    large-wrote (c10 .args .n) (c8 .if1 .left) (c10 .pre .1) (c .before .before .before .before .before .before .write-decimal .ensures)
+    (c .before .before .write-byte2 .ensures)
 
 pub +write-decimal-spec : {M : Type 1} → statement M
 +write-decimal-spec = close μ-write-decimal λ t. write-decimal-lts.spec (

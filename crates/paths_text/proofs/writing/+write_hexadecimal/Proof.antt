@@ -1,6 +1,6 @@
 -- `write_hexadecimal` meets its contract; the digits left fall. Assumes nothing.
 use native.Mathlib.Omega.{arith}
-use mathlib.Core.Path.{_≡_, sym, ap, _∙_}
+use mathlib.Core.Path.{_∙_}
 use Rattle.paths_text.specs.Digits.{hex-none, hex-next, hex-wrote}
 use Prim.Native.Nat.{ℕ, _<_}
 use borrow.Fn.Kinds.{In}
@@ -40,7 +40,9 @@ write-hexadecimal-returns : (t : ℕ) → write-hexadecimal-lts.Need-returns (
   write-byte-reads.Asked,
   write-byte-reads.Learnt,
 ) (write-hexadecimal-at t) write-hexadecimal.Post
-write-hexadecimal-returns t c = hex-none (c .before .before .args .digits) (c .before .before .args .n) (c .before .before .args .out .now) (c .before .before .args .at) (c .if1 .taken) (c .before .before .pre .1)
+write-hexadecimal-returns t c =
+    let c2 = c .before .before in
+    hex-none (c2 .args .digits) (c2 .args .n) (c2 .args .out .now) (c2 .args .at) (c .if1 .taken) (c2 .pre .1)
 
 write-hexadecimal-sub-write-hexadecimal :
     (t : ℕ) → write-hexadecimal-lts.Need-sub-write-hexadecimal (
@@ -62,7 +64,8 @@ write-hexadecimal-write-hexadecimal-requires :
       write-byte-reads.Asked,
       write-byte-reads.Learnt,
     ) (write-hexadecimal-at t) write-hexadecimal.Post
-write-hexadecimal-write-hexadecimal-requires t c κs = (omega (arith, c .before .before .before .pre .0, c .before .if1 .left), omega (arith, c .before .before .before .pre .1, c .before .if1 .left))
+write-hexadecimal-write-hexadecimal-requires t c κs =
+    (omega (arith, c .before .before .before .pre .0, c .before .if1 .left), omega (arith, c .before .before .before .pre .1, c .before .if1 .left))
 
 write-hexadecimal-cast-hex-digit : (t : ℕ) → write-hexadecimal-lts.Need-cast-hex-digit (
   write-hexadecimal-below t,
@@ -92,7 +95,11 @@ write-hexadecimal-write-byte-requires : (t : ℕ) → write-hexadecimal-lts.Need
   write-byte-reads.Asked,
   write-byte-reads.Learnt,
 ) (write-hexadecimal-at t) write-hexadecimal.Post
-write-hexadecimal-write-byte-requires t c κs = hex-next (c .before .before .before .before .before .before .before .before .args .digits) (c .before .before .before .before .before .before .before .before .args .n) (c .before .before .before .before .before .before .before .before .args .at) (c .before .before .before .before .before .before .if1 .left) (c .before .before .before .before .before .before .before .before .pre .1) (c .before .before .before .before .write-hexadecimal .ensures .next) (c .before .before .before .before .write-hexadecimal .kept .0)
+write-hexadecimal-write-byte-requires t c κs =
+    let c8 = c .before .before .before .before .before .before .before .before in
+    let c4 = c .before .before .before .before in
+    hex-next (c8 .args .digits) (c8 .args .n) (c8 .args .at) (c .before .before .before .before .before .before .if1 .left) (c8 .pre .1)
+    (c4 .write-hexadecimal .ensures .next) (c4 .write-hexadecimal .kept .0)
 
 write-hexadecimal-same-length : (t : ℕ) → write-hexadecimal-lts.Need-same-length (
   write-hexadecimal-below t,
@@ -102,7 +109,8 @@ write-hexadecimal-same-length : (t : ℕ) → write-hexadecimal-lts.Need-same-le
   write-byte-reads.Asked,
   write-byte-reads.Learnt,
 ) (write-hexadecimal-at t) write-hexadecimal.Post
-write-hexadecimal-same-length t c = c .before .before .write-byte .kept .0 ∙ c .before .before .before .before .before .before .before .write-hexadecimal .kept .0
+write-hexadecimal-same-length t c =
+    c .before .before .write-byte .kept .0 ∙ c .before .before .before .before .before .before .before .write-hexadecimal .kept .0
 
 write-hexadecimal-returns-2 : (t : ℕ) → write-hexadecimal-lts.Need-returns-2 (
   write-hexadecimal-below t,
@@ -112,7 +120,11 @@ write-hexadecimal-returns-2 : (t : ℕ) → write-hexadecimal-lts.Need-returns-2
   write-byte-reads.Asked,
   write-byte-reads.Learnt,
 ) (write-hexadecimal-at t) write-hexadecimal.Post
-write-hexadecimal-returns-2 t c = hex-wrote (c .before .before .before .before .before .before .before .before .before .before .before .args .digits) (c .before .before .before .before .before .before .before .before .before .before .before .args .n) (c .before .before .before .before .before .before .before .before .before .if1 .left) (c .before .before .before .before .before .before .before .before .before .before .before .pre .1) (c .before .before .before .hex-digit .ensures) (c .before .before .before .before .before .before .before .write-hexadecimal .ensures) (c .before .before .write-byte .ensures)
+write-hexadecimal-returns-2 t c =
+    let c11 = c .before .before .before .before .before .before .before .before .before .before .before in
+    let c9 = c .before .before .before .before .before .before .before .before .before in
+    hex-wrote (c11 .args .digits) (c11 .args .n) (c9 .if1 .left) (c11 .pre .1) (c .before .before .before .hex-digit .ensures)
+    (c .before .before .before .before .before .before .before .write-hexadecimal .ensures) (c .before .before .write-byte .ensures)
 
 pub +write-hexadecimal-spec : {M : Type 1} → statement M
 +write-hexadecimal-spec = close μ-write-hexadecimal λ t. write-hexadecimal-lts.spec (

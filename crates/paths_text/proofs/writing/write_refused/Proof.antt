@@ -11,16 +11,26 @@ slice-aggregate-write-bytes : tie.Need-slice-aggregate-write-bytes
 slice-aggregate-write-bytes c = search needs
 
 write-bytes-requires : tie.Need-write-bytes-requires
-write-bytes-requires c κs = piece-room refusedWord _ (refused-begin (c .before .before .before .args .number) (c .before .before .before .args .out .now) (c .before .before .before .args .at) (c .before .before .before .pre))
+write-bytes-requires c κs =
+    let c3 = c .before .before .before in
+    piece-room refusedWord _ (refused-begin (c3 .args .number) (c3 .args .out .now) (c3 .args .at) (c3 .pre))
 
 write-number-requires : tie.Need-write-number-requires
-write-number-requires c κs = last-room (numbered (c .before .before .before .before .before .before .before .args .number) 10) (piece-done refusedWord _ (refused-begin (c .before .before .before .before .before .before .before .args .number) (c .before .before .before .before .before .before .before .args .out .now) (c .before .before .before .before .before .before .before .args .at) (c .before .before .before .before .before .before .before .pre)) (c .before .before .before .write-bytes .ensures) (c .before .before .before .write-bytes .kept .0))
+write-number-requires c κs =
+    let c7 = c .before .before .before .before .before .before .before in
+    last-room (numbered (c7 .args .number) 10)
+    (piece-done refusedWord _ (refused-begin (c7 .args .number) (c7 .args .out .now) (c7 .args .at) (c7 .pre)) (c .before .before .before .write-bytes .ensures) (c .before .before .before .write-bytes .kept .0))
 
 same-length : tie.Need-same-length
 same-length c = c .before .before .write-number .kept .0 ∙ c .before .before .before .before .before .before .write-bytes .kept .0
 
 returns : tie.Need-returns
-returns c = piece-last (numbered (c .before .before .before .before .before .before .before .before .before .before .args .number) 10) (piece-done refusedWord _ (refused-begin (c .before .before .before .before .before .before .before .before .before .before .args .number) (c .before .before .before .before .before .before .before .before .before .before .args .out .now) (c .before .before .before .before .before .before .before .before .before .before .args .at) (c .before .before .before .before .before .before .before .before .before .before .pre)) (c .before .before .before .before .before .before .write-bytes .ensures) (c .before .before .before .before .before .before .write-bytes .kept .0)) (c .before .before .write-number .ensures)
+returns c =
+    let c10 = c .before .before .before .before .before .before .before .before .before .before in
+    let c6 = c .before .before .before .before .before .before in
+    piece-last (numbered (c10 .args .number) 10)
+    (piece-done refusedWord _ (refused-begin (c10 .args .number) (c10 .args .out .now) (c10 .args .at) (c10 .pre)) (c6 .write-bytes .ensures) (c6 .write-bytes .kept .0))
+    (c .before .before .write-number .ensures)
 
 pub write-refused-spec : {M : Type 1} → statement M
 write-refused-spec =
