@@ -11,7 +11,6 @@ use caller::GraphAnswer;
 use limits::GraphMaxima;
 use limits::LengthsTold;
 use limits::SearchMaxima;
-ghost use mathlib.Core.Path.{_≡_};
 ghost use Prim.Native.Nat.{_≤_};
 
 fn graph_maxima(call: &[u32], place: usize) -> GraphMaxima
@@ -114,6 +113,31 @@ fn value_left(refusal: u32) -> u32 {
     0
 }
 
+// Each slice of the workspace, and how much of it was told.
+fn workspace_left(
+    refusal: u32,
+    w_vertices: &[u32],
+    vertices: usize,
+    w_edges: &[u32],
+    edges: usize,
+    w_nodes: &[u32],
+    nodes: usize,
+    w_open: &[u32],
+    open: usize,
+) -> bool {
+    let value = value_left(refusal);
+    if !left(w_vertices, vertices, value) {
+        return false;
+    }
+    if !left(w_edges, edges, value) {
+        return false;
+    }
+    if !left(w_nodes, nodes, value) {
+        return false;
+    }
+    left(w_open, open, value)
+}
+
 fn graph_answered(call: &[u32], answer: GraphAnswer) -> bool {
     if answer.refusal != field(call, 5) {
         return false;
@@ -134,6 +158,7 @@ fn rows_written(call: &[u32], edges: &[u32], nodes: &[u32]) -> bool {
     written(nodes, &rows[n..])
 }
 
+// The call itself, in slices that hold LENT throughout.
 fn graph_agrees_in(
     call: &[u32],
     k: u32,
@@ -180,17 +205,17 @@ fn graph_agrees_in(
     if !rows_written(call, edges, nodes) {
         return false;
     }
-    let value = value_left(answer.refusal);
-    if !left(w_vertices, c, value) {
-        return false;
-    }
-    if !left(w_edges, d, value) {
-        return false;
-    }
-    if !left(w_nodes, e, value) {
-        return false;
-    }
-    left(w_open, f, value)
+    workspace_left(
+        answer.refusal,
+        w_vertices,
+        c,
+        w_edges,
+        d,
+        w_nodes,
+        e,
+        w_open,
+        f,
+    )
 }
 
 // Each call is made in slices of its own, as long as the limits allow, so that nothing of an earlier one can help it.

@@ -1,12 +1,10 @@
-use Prim.Native.Nat.{ℕ, _≤_, _<_, _-_}
+-- `agree::same_bytes` is safe and ends. The invariant: the lengths are equal. Assumes nothing.
+use Prim.Native.Nat.{_≤_, _-_}
 use mathlib.Core.Path.{_≡_}
 use lib.ListN.{length}
 use borrow.Author.Needs.{needs}
 use Rattle.replay.proofs.agree.same_bytes.Statement.{statement}
 use Rattle.replay.proofs.agree.same_bytes.Tie as tie
-use Rattle.replay.proofs.agree.same_bytes.Reads as reads
-use Rattle.replay.proofs.agree.same_bytes.Lts as lts
-use Rattle.replay.proofs.agree.widened.Reads as widened-reads
 
 abbrev Inv-loop : tie.InvT-loop
 Inv-loop bytes told place₀ place = (place ≤ length bytes) × (length bytes ≡ length told)
@@ -14,47 +12,36 @@ Inv-loop bytes told place₀ place = (place ≤ length bytes) × (length bytes �
 abbrev μ-loop : tie.MeasureT-loop
 μ-loop bytes told place₀ place = length bytes - place
 
--- src/agree.rt:69:9
 returns : tie.Need-returns Inv-loop μ-loop
 returns c = search needs
 
--- src/agree.rt:72:5
 loop-holds : tie.Need-loop-holds Inv-loop μ-loop
 loop-holds c = search needs
 
--- src/agree.rt:73:20
 shared-slice-read-widened : tie.Need-shared-slice-read-widened Inv-loop μ-loop
 shared-slice-read-widened c = search needs
 
--- src/agree.rt:73:12
 widened-requires : tie.Need-widened-requires Inv-loop μ-loop
 widened-requires c κs = search needs
 
--- src/agree.rt:73:37
 mul-if2 : tie.Need-mul-if2 Inv-loop μ-loop
 mul-if2 c = search needs
 
--- src/agree.rt:73:37
 shared-slice-read-if2 : tie.Need-shared-slice-read-if2 Inv-loop μ-loop
 shared-slice-read-if2 c = search needs
 
--- src/agree.rt:74:13
 returns-2 : tie.Need-returns-2 Inv-loop μ-loop
 returns-2 c = search needs
 
--- src/agree.rt:76:9
 add-place : tie.Need-add-place Inv-loop μ-loop
 add-place c = search needs
 
--- src/agree.rt:72:5
 loop-less : tie.Need-loop-less Inv-loop μ-loop
 loop-less c = search needs
 
--- src/agree.rt:72:5
 loop-again : tie.Need-loop-again Inv-loop μ-loop
 loop-again c = search needs
 
--- src/agree.rt:67:1
 returns-3 : tie.Need-returns-3 Inv-loop μ-loop
 returns-3 c = search needs
 

@@ -1,13 +1,10 @@
+-- `cases::replay` is safe and ends. The measure: a case's list ends behind the place where its length stands. Assumes nothing.
 use native.Mathlib.Omega.{arith}
 use Prim.Native.Nat.{_-_}
 use lib.ListN.{length}
 use borrow.Author.Needs.{needs}
 use Rattle.replay.proofs.cases.replay.Statement.{statement}
 use Rattle.replay.proofs.cases.replay.Tie as tie
-use Rattle.replay.proofs.cases.replay.Reads as reads
-use Rattle.replay.proofs.cases.replay.Lts as lts
-use Rattle.replay.proofs.cases.replay_case.Reads as replay-case-reads
-use Rattle.replay.proofs.numbers.list_at.Reads as list-at-reads
 
 abbrev Inv-loop : tie.InvT-loop
 Inv-loop numbers total₀ at₀ total at = Unit {0}
@@ -15,43 +12,33 @@ Inv-loop numbers total₀ at₀ total at = Unit {0}
 abbrev μ-loop : tie.MeasureT-loop
 μ-loop numbers total₀ at₀ total at = length numbers - at
 
--- src/cases.rt:156:5
 loop-holds : tie.Need-loop-holds Inv-loop μ-loop
 loop-holds c = search needs
 
--- src/cases.rt:157:13
 list-at-requires : tie.Need-list-at-requires Inv-loop μ-loop
 list-at-requires c κs = search needs
 
--- src/cases.rt:160:29
 mul-replay-case : tie.Need-mul-replay-case Inv-loop μ-loop
 mul-replay-case c = search needs
 
--- src/cases.rt:160:29
 sub-replay-case : tie.Need-sub-replay-case Inv-loop μ-loop
 sub-replay-case c = search needs
 
--- src/cases.rt:160:29
 part-replay-case-start : tie.Need-part-replay-case-start Inv-loop μ-loop
 part-replay-case-start c = search needs
 
--- src/cases.rt:160:29
 part-replay-case-end : tie.Need-part-replay-case-end Inv-loop μ-loop
 part-replay-case-end c = search needs
 
--- src/cases.rt:160:9
 replay-case-requires : tie.Need-replay-case-requires Inv-loop μ-loop
 replay-case-requires c κs = search needs
 
--- src/cases.rt:156:5
 loop-less : tie.Need-loop-less Inv-loop μ-loop
 loop-less c = omega (arith, c .before .before .list-at .ensures .goes-on (c .before .before .before .loop-test .taken))
 
--- src/cases.rt:156:5
 loop-again : tie.Need-loop-again Inv-loop μ-loop
 loop-again c = search needs
 
--- src/cases.rt:149:1
 returns : tie.Need-returns Inv-loop μ-loop
 returns c = search needs
 

@@ -1,14 +1,10 @@
-use Prim.Native.Nat.{ℕ, _≤_, _<_, _-_}
+-- `numbers::unpack` meets its contract. The invariant: the place lies within the slice. Assumes nothing.
+use Prim.Native.Nat.{_≤_, _-_}
 use mathlib.Core.Path.{_≡_}
 use lib.ListN.{length}
 use borrow.Author.Needs.{needs}
 use Rattle.replay.proofs.numbers.unpack.Statement.{statement}
 use Rattle.replay.proofs.numbers.unpack.Tie as tie
-use Rattle.replay.proofs.numbers.unpack.Reads as reads
-use Rattle.replay.proofs.numbers.unpack.Lts as lts
-use Rattle.replay.proofs.numbers.low_byte.Reads as low-byte-reads
-use Rattle.replay.proofs.numbers.repeat.Reads as repeat-reads
-use Rattle.replay.proofs.numbers.wide.Reads as wide-reads
 
 abbrev Inv-loop : tie.InvT-loop
 Inv-loop runs bytes₀ at₀ run₀ bytes at run = (run ≤ length runs) × (at ≤ length bytes) × (length bytes ≡ length bytes₀)
@@ -16,51 +12,39 @@ Inv-loop runs bytes₀ at₀ run₀ bytes at run = (run ≤ length runs) × (at 
 abbrev μ-loop : tie.MeasureT-loop
 μ-loop runs bytes₀ at₀ run₀ bytes at run = length runs - run
 
--- src/numbers.rt:153:5
 loop-holds : tie.Need-loop-holds Inv-loop μ-loop
 loop-holds c = search needs
 
--- src/numbers.rt:154:22
 mul-number : tie.Need-mul-number Inv-loop μ-loop
 mul-number c = search needs
 
--- src/numbers.rt:154:22
 shared-slice-read-number : tie.Need-shared-slice-read-number Inv-loop μ-loop
 shared-slice-read-number c = search needs
 
--- src/numbers.rt:155:32
 low-byte-requires : tie.Need-low-byte-requires Inv-loop μ-loop
 low-byte-requires c κs = search needs
 
--- src/numbers.rt:155:50
 wide-requires : tie.Need-wide-requires Inv-loop μ-loop
 wide-requires c κs = search needs
 
--- src/numbers.rt:155:50
 add-repeat : tie.Need-add-repeat Inv-loop μ-loop
 add-repeat c = search needs
 
--- src/numbers.rt:155:9
 repeat-requires : tie.Need-repeat-requires Inv-loop μ-loop
 repeat-requires c κs = search needs
 
--- src/numbers.rt:156:9
 add-run : tie.Need-add-run Inv-loop μ-loop
 add-run c = search needs
 
--- src/numbers.rt:153:5
 loop-less : tie.Need-loop-less Inv-loop μ-loop
 loop-less c = search needs
 
--- src/numbers.rt:153:5
 loop-again : tie.Need-loop-again Inv-loop μ-loop
 loop-again c = search needs
 
--- src/numbers.rt:148:1
 same-length : tie.Need-same-length Inv-loop μ-loop
 same-length c = search needs
 
--- src/numbers.rt:148:1
 returns : tie.Need-returns Inv-loop μ-loop
 returns c = search needs
 
