@@ -1,9 +1,7 @@
 // Whether what a call left behind is what is told.
-use crate::numbers::wide;
 ghost use mathlib.Core.Path.{_≡_};
 ghost use mathlib.Core.Bool.{true};
-ghost use Prim.Native.Nat.{ℕ, _<_};
-ghost use lib.ListN.{length, getD};
+ghost use Rattle.replay.specs.Agree.{All, Written, Left};
 
 // What every element holds that is lent: a call that should not touch it leaves it so.
 pub const LENT: u32 = 2863311530;
@@ -25,7 +23,7 @@ pub fn same(a: &[u32], b: &[u32]) -> bool
 }
 
 pub fn all_are(a: &[u32], value: u32) -> bool
-    ensures { λ r. ⌜ (r ≡ true → (i : ℕ) → i < length (now (a .entry)) → getD (now (a .entry)) i 0 ≡ value) ⌝ }
+    ensures { λ r. ⌜ (r ≡ true → All (now (a .entry)) value) ⌝ }
 {
     let mut place: usize = 0;
     while place < a.len() {
@@ -38,7 +36,9 @@ pub fn all_are(a: &[u32], value: u32) -> bool
 }
 
 // The rows told, and behind them nothing touched.
-pub fn written(slice: &[u32], rows: &[u32]) -> bool {
+pub fn written(slice: &[u32], rows: &[u32]) -> bool
+    ensures { λ r. ⌜ (r ≡ true → Written (now (slice .entry)) (now (rows .entry)) 2863311530) ⌝ }
+{
     let n = rows.len();
     if n > slice.len() {
         return false;
@@ -50,7 +50,9 @@ pub fn written(slice: &[u32], rows: &[u32]) -> bool {
 }
 
 // One value over the part that was used, and behind it nothing touched.
-pub fn left(slice: &[u32], used: usize, value: u32) -> bool {
+pub fn left(slice: &[u32], used: usize, value: u32) -> bool
+    ensures { λ r. ⌜ (r ≡ true → Left (now (slice .entry)) used value 2863311530) ⌝ }
+{
     if used > slice.len() {
         return false;
     }
@@ -60,11 +62,15 @@ pub fn left(slice: &[u32], used: usize, value: u32) -> bool {
     all_are(&slice[used..], LENT)
 }
 
-fn widened(byte: u8) -> u32 {
+fn widened(byte: u8) -> u32
+    ensures { λ r. ⌜ r ≡ byte ⌝ }
+{
     byte as u32
 }
 
-pub fn same_bytes(bytes: &[u8], told: &[u32]) -> bool {
+pub fn same_bytes(bytes: &[u8], told: &[u32]) -> bool
+    ensures { λ r. ⌜ (r ≡ true → now (bytes .entry) ≡ now (told .entry)) ⌝ }
+{
     if bytes.len() != told.len() {
         return false;
     }

@@ -1,19 +1,23 @@
--- `agree::same_bytes` is safe and ends. The invariant: the lengths are equal. Assumes nothing.
-use Prim.Native.Nat.{_≤_, _-_}
-use mathlib.Core.Path.{_≡_}
-use lib.ListN.{length}
+-- `agree::same_bytes` meets its contract. The invariant: the lengths are equal, and so is every element passed. Assumes nothing.
+use native.Mathlib.Omega.{arith}
+use lib.Seq.{ext-getD}
+use mathlib.Core.Bool.{false≢true}
+use Prim.Native.Nat.{ℕ, _≤_, _<_, _-_}
+use mathlib.Core.Path.{_≡_, sym, _∙_}
+use lib.ListN.{length, getD}
+use borrow.Author.Count.{below-more}
 use borrow.Author.Needs.{needs}
 use Rattle.replay.proofs.agree.same_bytes.Statement.{statement}
 use Rattle.replay.proofs.agree.same_bytes.Tie as tie
 
 abbrev Inv-loop : tie.InvT-loop
-Inv-loop bytes told place₀ place = (place ≤ length bytes) × (length bytes ≡ length told)
+Inv-loop bytes told place₀ place = (place ≤ length bytes) × (length bytes ≡ length told) × ((i : ℕ) → i < place → getD bytes i 0 ≡ getD told i 0)
 
 abbrev μ-loop : tie.MeasureT-loop
 μ-loop bytes told place₀ place = length bytes - place
 
 returns : tie.Need-returns Inv-loop μ-loop
-returns c = search needs
+returns c = λ e. absurd (false≢true e)
 
 loop-holds : tie.Need-loop-holds Inv-loop μ-loop
 loop-holds c = search needs
@@ -31,7 +35,7 @@ shared-slice-read-if2 : tie.Need-shared-slice-read-if2 Inv-loop μ-loop
 shared-slice-read-if2 c = search needs
 
 returns-2 : tie.Need-returns-2 Inv-loop μ-loop
-returns-2 c = search needs
+returns-2 c = λ e. absurd (false≢true e)
 
 add-place : tie.Need-add-place Inv-loop μ-loop
 add-place c = search needs
@@ -40,10 +44,10 @@ loop-less : tie.Need-loop-less Inv-loop μ-loop
 loop-less c = search needs
 
 loop-again : tie.Need-loop-again Inv-loop μ-loop
-loop-again c = search needs
+loop-again c = (search needs, search needs, below-more _ _ (c .before .before .before .before .before .loop .inv .2) (sym (c .before .before .widened .ensures) ∙ c .if2 .left))
 
 returns-3 : tie.Need-returns-3 Inv-loop μ-loop
-returns-3 c = search needs
+returns-3 c = λ _. ext-getD 0 _ _ (c .before .loop .inv .1) (λ i h. c .before .loop .inv .2 i (omega arith))
 
 pub same-bytes-spec : {M : Type 1} → statement M
 same-bytes-spec =
