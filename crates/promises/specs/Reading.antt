@@ -7,7 +7,7 @@ use lib.Ieee.{Float, nan}
 use Rattle.definition.specs.Limits.{Input}
 use Rattle.definition.specs.Threading.{Origin}
 use Rattle.definition.specs.Listing.{Row}
-use Rattle.definition.specs.Calls.{PathRow, ListSlices}
+use Rattle.definition.specs.Calls.{PathRow, ListSlices, ListOutcome}
 
 -- what is read beyond the last record of a slice; no row of an accepted list is
 abbrev pub noRecord : PathRow
@@ -42,6 +42,10 @@ unfoldable pub readFrom : Input → ListSlices → ℕ → ℕ → List (Row Flo
 readFrom i o r zero = []
 readFrom i o r (suc n) = readRow i o r ∷ readFrom i o (suc r) n
 
--- the first n rows: the list, where n are the paths that the answer tells
+-- the first n rows
 unfoldable pub readRows : Input → ListSlices → ℕ → List (Row Float)
 readRows i o n = readFrom i o 0 n
+
+-- the list of a call's outcome: as many rows as the answer tells paths
+abbrev pub readList : Input → ListOutcome → List (Row Float)
+readList i o = readRows i (o .slices) (o .answer .paths)
