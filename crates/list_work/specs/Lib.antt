@@ -1,0 +1,4 @@
+pub mod Outcome
+pub mod Works
+pub mod Clear
+pub mod Raise
