@@ -16,28 +16,13 @@ use Rattle.definition.specs.Threading.{threaded, withSymbolic}
 use Rattle.definition.specs.Evidence.{nodes, evidence}
 use Rattle.definition.specs.Building.{built, builtOf}
 use Rattle.definition.specs.Calls.{GraphOutcome, graphOf, graphCall, afterGraphChecks, workspaceAfter}
-use Rattle.limits.specs.Rules.{rule, Numbered, none-broken, first-broken, first-hold, sample-numbered, graph-rules}
+use Rattle.limits.specs.Rules.{rule, Numbered, low-broken, none-broken, first-broken, first-hold, sample-numbered, graph-rules}
 use Rattle.limits.specs.Workspaces.{vertexTable, edgeTable, kmerIndex, nodeTable, openTrees}
 use Rattle.caller.specs.declared.GraphAnswer.{GraphAnswer}
 use Rattle.caller.specs.Lent.{workspaceTold, Long, long-of, Lent}
 use Rattle.caller.specs.Outcome.{outcome, refusedAnswer, Graphed}
 use Rattle.caller.specs.Clear.{zeros, cleared-part}
 use Rattle.caller.specs.Made.{Made}
-
--- ---- the numbers of the rules
-
-abbrev Low : List Rule → Type 0
-Low [] = Unit {0}
-Low (r ∷ rs) = (r .number ≤ 7) × Low rs
-
-low-broken : (rs : List Rule) → Low rs → firstBroken rs ≤ 7
-unfolding firstBroken
-low-broken [] l = omega arith
-low-broken (r ∷ rs) l = go (r .holds) refl (low-broken rs (l .1))
-  where
-    go : (b : Bool) → r .holds ≡ b → firstBroken rs ≤ 7 → firstBroken (r ∷ rs) ≤ 7
-    go true e h = rw (e, firstBroken) h
-    go false e h = rw (e, firstBroken) (l .0)
 
 -- ---- the rules hold
 

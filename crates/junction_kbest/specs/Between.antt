@@ -26,15 +26,11 @@ use Rattle.search_state.specs.declared.Step.the-variants.{On, Refused}
 use Rattle.search_state.specs.Ground.{Ground, nameOf}
 use Rattle.search_state.specs.State.{pathOf, Idle, Holds, Apart, Made as Counted, Room, upFrom}
 use Rattle.path_queue.specs.Scene.{Scene, Stands, pathIn}
-use Rattle.path_queue.specs.Push as push
-use Rattle.path_queue.specs.Take.{Takes, First, oneLess}
-use Rattle.path_queue.specs.Take as take
-use Rattle.path_queue.specs.declared.Taking.{Taking}
 use Rattle.junction_kbest.specs.Turn.{mostWaiting, withWaiting, Stopped, fails, fills, turn-over, turn-takes, push-made, push-broken}
 use Rattle.junction_kbest.specs.Counts.{waiting-many, closed-many, most-waiting}
-use Rattle.junction_kbest.specs.Extend.{Roomy, firstNew, Further, Makes, MakesBy}
-use Rattle.junction_kbest.specs.Take.{Going, TakesPath, PathTaken}
-use Rattle.junction_kbest.specs.Answers.{stepRefusal}
+use Rattle.junction_kbest.specs.Extend.{Roomy}
+use Rattle.junction_kbest.specs.declared.Turned.{Turned}
+use Rattle.junction_kbest.specs.declared.Turned.the-variants as turned
 
 -- the stores as a search f has them between turns
 pub record At (f : SearchInput) (g : Setting) (vs es x only to : List ℕ) (column : List Float) (bs : ℕ → List Branches) (closing : ℕ → ℕ) (t : List ℕ) (sc : List Float) (ac queue shut order marks : List ℕ)
@@ -46,8 +42,35 @@ pub record At (f : SearchInput) (g : Setting) (vs es x only to : List ℕ) (colu
   pub good : GoodState NotNan f s
   pub room : Room g t sc ac queue shut
 
--- and there is a turn to make
-pub record Turns (g : Setting) (vs es x only to : List ℕ) (column : List Float) (t : List ℕ) (sc : List Float) (ac queue shut order marks walk : List ℕ) (p : Progress) : Type 0 where
+-- the definition's turn
+abbrev pub turnOf : List Float → SearchInput → Setting → State Float → Turn Float
+turnOf column f g s = turn (columnScoring column) f (g .asked) (g .pushes) s
+
+-- a turn that goes on
+pub record Onward (f : SearchInput) (g : Setting) (vs es x only to : List ℕ) (column : List Float) (order t′ : List ℕ) (sc′ : List Float) (ac′ queue′ shut′ marks′ : List ℕ) (p′ : Progress) (s : State Float) : Type 0 where
+  pub branches : ℕ → List Branches
+  pub closings : ℕ → ℕ
+  pub state : State Float
+  pub is : turnOf column f g s ≡ more state
+  pub at : At f g vs es x only to column branches closings t′ sc′ ac′ queue′ shut′ order marks′ p′ state
+
+-- the stores are as they were
+pub record Rests (t : List ℕ) (sc : List Float) (ac queue shut marks t′ : List ℕ) (sc′ : List Float) (ac′ queue′ shut′ marks′ : List ℕ) : Type 0 where
+  pub paths : t′ ≡ t
+  pub scores : sc′ ≡ sc
+  pub actives : ac′ ≡ ac
+  pub waiting : queue′ ≡ queue
+  pub closed : shut′ ≡ shut
+  pub marked : marks′ ≡ marks
+
+-- by what came of the turn
+abbrev pub TurnBy : SearchInput → Setting → List ℕ → List ℕ → List ℕ → List ℕ → List ℕ → List Float → List ℕ → State Float → List ℕ → List Float → List ℕ → List ℕ → List ℕ → List ℕ → Turned → List ℕ → List Float → List ℕ → List ℕ → List ℕ → List ℕ → Type 0
+TurnBy f g vs es x only to column order s t sc ac queue shut marks (turned.More p′) t′ sc′ ac′ queue′ shut′ marks′ = Onward f g vs es x only to column order t′ sc′ ac′ queue′ shut′ marks′ p′ s
+TurnBy f g vs es x only to column order s t sc ac queue shut marks turned.Ended t′ sc′ ac′ queue′ shut′ marks′ = (turnOf column f g s ≡ ended s) × Rests t sc ac queue shut marks t′ sc′ ac′ queue′ shut′ marks′
+TurnBy f g vs es x only to column order s t sc ac queue shut marks (turned.Refused k) t′ sc′ ac′ queue′ shut′ marks′ = Stopped (turnOf column f g s) k
+
+-- what a turn asks: the stores are those of some search, which is not to end yet
+pub record TurnAsks (g : Setting) (vs es x only to : List ℕ) (column : List Float) (t : List ℕ) (sc : List Float) (ac queue shut order marks walk : List ℕ) (p : Progress) : Type 0 where
   pub input : SearchInput
   pub branches : ℕ → List Branches
   pub closings : ℕ → ℕ
@@ -57,17 +80,17 @@ pub record Turns (g : Setting) (vs es x only to : List ℕ) (column : List Float
   pub walks : g .most ≤ length walk
   pub rows : 32 ≤ length walk
 
--- the definition's turn
-abbrev pub turned : List Float → SearchInput → Setting → State Float → Turn Float
-turned column f g s = turn (columnScoring column) f (g .asked) (g .pushes) s
+-- the same where paths wait, whatever the order of the pivotal edges
+pub record NextTurn (g : Setting) (vs es x only to : List ℕ) (column : List Float) (t : List ℕ) (sc : List Float) (ac queue shut marks walk : List ℕ) (p : Progress) : Type 0 where
+  pub order : List ℕ
+  pub asks : TurnAsks g vs es x only to column t sc ac queue shut order marks walk p
+  pub some : 0 < p .waiting
 
--- a turn that goes on
-pub record Going-on (f : SearchInput) (g : Setting) (vs es x only to : List ℕ) (column : List Float) (t′ : List ℕ) (sc′ : List Float) (ac′ queue′ shut′ order marks′ : List ℕ) (p′ : Progress) (s : State Float) : Type 0 where
-  pub branches : ℕ → List Branches
-  pub closings : ℕ → ℕ
-  pub state : State Float
-  pub is : turned column f g s ≡ more state
-  pub at : At f g vs es x only to column branches closings t′ sc′ ac′ queue′ shut′ order marks′ p′ state
+-- by the answer, for every search whose stores these are
+pub record TurnMade (g : Setting) (vs es x only to : List ℕ) (column : List Float) (t : List ℕ) (sc : List Float) (ac queue shut marks : List ℕ) (p : Progress) (r : Turned) (t′ : List ℕ) (sc′ : List Float)
+    (ac′ queue′ shut′ marks′ : List ℕ) : Type 0 where
+  pub is : (f : SearchInput) (bs : ℕ → List Branches) (closings : ℕ → ℕ) (order : List ℕ) (s : State Float) → At f g vs es x only to column bs closings t sc ac queue shut order marks p s
+      → p .closed < g .asked → TurnBy f g vs es x only to column order s t sc ac queue shut marks r t′ sc′ ac′ queue′ shut′ marks′
 
 module _ (f : SearchInput) (g : Setting) (vs es x only to : List ℕ) (column : List Float) (bs : ℕ → List Branches) (cl : ℕ → ℕ) (t : List ℕ) (sc : List Float) (ac queue shut order marks : List ℕ) (p : Progress)
     (s : State Float) (A : At f g vs es x only to column bs cl t sc ac queue shut order marks p s) (unmet : p .closed < g .asked) where
@@ -75,7 +98,7 @@ module _ (f : SearchInput) (g : Setting) (vs es x only to : List ℕ) (column : 
   closed-unmet = let z = closed-many (A .holds) in omega arith
 
   -- the number of records, and the room that there is
-  pub records-few : p .records ≤ g .pushes + p .closed
+  records-few : p .records ≤ g .pushes + p .closed
   records-few = let a = A .counted in let b = A .holds .pushes-fit in omega arith
 
   pub roomy : Roomy g t sc ac shut p
@@ -89,3 +112,18 @@ module _ (f : SearchInput) (g : Setting) (vs es x only to : List ℕ) (column : 
       let k = A .ground .asked-fits in
       let m : (p .records + 9) * g .active ≤ (g .pushes + g .asked + 8) * g .active = mul-le-mul-right (g .active) (omega arith) in
       record { paths = omega arith; scores = omega arith; actives = omega arith; number = omega arith; closed = omega arith }
+
+  -- a turn that goes on leaves a good state
+  pub good-on : (s′ : State Float) → turnOf column f g s ≡ more s′ → GoodState NotNan f s′
+  good-on s′ e = turn-more (column-keeps column (A .fits)) f (g .pushes) (g .asked) s s′ (A .good) e .good
+
+-- slices of the same lengths have the same room
+pub room-kept : (g : Setting) (t : List ℕ) (sc : List Float) (ac queue shut t′ : List ℕ) (sc′ : List Float) (ac′ queue′ shut′ : List ℕ) → length t′ ≡ length t → length sc′ ≡ length sc → length ac′ ≡ length ac
+    → length queue′ ≡ length queue → length shut′ ≡ length shut → Room g t sc ac queue shut → Room g t′ sc′ ac′ queue′ shut′
+room-kept g t sc ac queue shut t′ sc′ ac′ queue′ shut′ a b c d e R =
+    let u = R .paths in
+    let v = R .scores in
+    let w = R .actives in
+    let y = R .waiting in
+    let z = R .closed in
+    record { paths = omega arith; scores = omega arith; actives = omega arith; waiting = omega arith; closed = omega arith }

@@ -6,4 +6,7 @@ pub mod Extend
 pub mod Steps
 pub mod Take
 pub mod Between
+pub mod Next
+pub mod Pivot
 pub mod Find
+pub mod Loop

@@ -3,6 +3,11 @@ use path_closing::add_junction_tree;
 use path_closing::close_at_sink;
 use path_extensions::Extended;
 use path_extensions::process_vertex;
+use path_queue::Recovery;
+use path_queue::begin;
+use path_queue::enqueue_next_pivotal_edge;
+use path_queue::push_paths;
+use path_queue::take_first;
 use path_store::growth::PathAnswer;
 use path_store::growth::Taken;
 use path_store::growth::follow_chain;
@@ -11,13 +16,28 @@ use search_state::Progress;
 use search_state::Setting;
 use search_state::Step;
 ghost use mathlib.Core.Path.{_≡_};
-ghost use Rattle.junction_kbest.specs.Extend.{ExtendsTaken, TakenExtended};
+ghost use mathlib.Core.Bool.{cond};
+ghost use Prim.Native.Nat.{_≤_};
+ghost use lib.Dec.{eqb, ltb};
+ghost use Rattle.junction_kbest.specs.Extend.{ExtendsTaken, TakenExtended, firstNew};
 ghost use Rattle.junction_kbest.specs.Take.{TakesPath, PathTaken};
-ghost use Rattle.junction_kbest.specs.Answers.{joinRefusal, extendRefusal};
+ghost use Rattle.junction_kbest.specs.Answers.{joinRefusal, extendRefusal, stepRefusal};
+ghost use Rattle.path_queue.specs.Push.{Pushes};
+ghost use Rattle.junction_kbest.specs.Between.{NextTurn, TurnMade, TurnAsks};
+ghost use Rattle.junction_kbest.specs.Pivot.{PushedTurn, RecoveredAsks, RecoveredTurn, PivotTurn, PivotMade, TurnMadeIn};
+ghost use Rattle.junction_kbest.specs.Find.{Finds, Found};
+ghost use Rattle.junction_kbest.specs.Loop.{foundOf};
 
 // The answer of the search: how far it has come when it ends, or a refusal.
 pub enum Search {
     Paths(Progress),
+    Refused(u32),
+}
+
+// What comes of a turn: the search goes on, it ends as it is, or a refusal.
+pub enum Turned {
+    More(Progress),
+    Ended,
     Refused(u32),
 }
 
@@ -152,4 +172,273 @@ fn take_path(
         taken,
         p,
     )
+}
+
+// Whether more paths wait than may: 1,000 while nothing has closed, then 10,000.
+fn too_many(p: Progress) -> bool
+    ensures { λ r. ⌜ r ≡ ltb (cond (eqb (p .closed) 0) 1000 10000) (p .waiting) ⌝ }
+{
+    if p.closed == 0 {
+        return p.waiting > 1000;
+    }
+    p.waiting > 10000
+}
+
+fn step_refusal(a: Step) -> u32
+    ensures { λ n. ⌜ n ≡ stepRefusal a ⌝ }
+{
+    match a {
+        Step::On(_) => 0,
+        Step::Refused(n) => n,
+    }
+}
+
+// The first record that is still to be pushed: a path that has closed is not.
+fn first_new(p: Progress, q: Progress) -> u32
+    requires { ⌜ (p .closed ≤ q .closed) × (firstNew p q ≤ q .records) ⌝ }
+    ensures { λ r. ⌜ r ≡ firstNew p q ⌝ }
+{
+    let closed = q.closed - p.closed;
+    p.records + closed as u32
+}
+
+// A turn where paths wait: the first is taken, and what is made of it is pushed.
+fn next_path(
+    vertices: &[u32],
+    edges: &[u32],
+    nodes: &[u32],
+    only: &[u32],
+    to: &[u32],
+    column: &[f64],
+    paths: &mut [u32],
+    scores: &mut [f64],
+    active: &mut [u32],
+    queue: &mut [u32],
+    shut: &mut [u32],
+    marks: &mut [u32],
+    offers: &mut [u32],
+    g: Setting,
+    p: Progress,
+) -> Turned
+    requires { ⌜ NextTurn g (now vertices) (now edges) (now nodes) (now only) (now to) (now column) (now paths) (now scores) (now active) (now queue) (now shut) (now marks) (now offers) p ⌝ }
+    ensures { λ r. ⌜ TurnMade g (now (vertices .entry)) (now (edges .entry)) (now (nodes .entry)) (now (only .entry)) (now (to .entry)) (now (column .entry)) (now (paths .entry)) (now (scores .entry)) (now (active .entry)) (now (queue .entry)) (now (shut .entry)) (now (marks .entry)) p r (now (paths .exit)) (now (scores .exit)) (now (active .exit)) (now (queue .exit)) (now (shut .exit)) (now (marks .exit)) ⌝ }
+{
+    if too_many(p) {
+        return Turned::Ended;
+    }
+    let t = take_first(scores, queue, p);
+    let left = t.left;
+    let r = take_path(
+        vertices,
+        edges,
+        nodes,
+        only,
+        to,
+        column,
+        paths,
+        scores,
+        active,
+        shut,
+        marks,
+        offers,
+        g,
+        left,
+        t.path,
+    );
+    let Step::On(q) = r else {
+        return Turned::Refused(step_refusal(r));
+    };
+    let d = push_paths(scores, queue, g, q, first_new(left, q));
+    let Step::On(n) = d else {
+        return Turned::Refused(step_refusal(d));
+    };
+    Turned::More(n)
+}
+
+// The paths from `from` on are pushed, and the turn is over.
+fn push_turn(scores: &[f64], queue: &mut [u32], g: Setting, q: Progress, from: u32) -> Turned
+    requires { ⌜ Pushes (now scores) (now queue) g q from ⌝ }
+    ensures { λ r. ⌜ PushedTurn (now (scores .entry)) (now (queue .entry)) g q from (now (queue .exit)) r ⌝ }
+{
+    let d = push_paths(scores, queue, g, q, from);
+    let Step::On(n) = d else {
+        return Turned::Refused(step_refusal(d));
+    };
+    Turned::More(n)
+}
+
+// What was recovered, if anything, is pushed.
+fn push_recovered(scores: &[f64], queue: &mut [u32], g: Setting, p: Progress, r: Recovery) -> Turned
+    requires { ⌜ RecoveredAsks (now scores) (now queue) g p r ⌝ }
+    ensures { λ o. ⌜ RecoveredTurn (now (scores .entry)) (now (queue .entry)) g p r (now (queue .exit)) o ⌝ }
+{
+    match r {
+        Recovery::Ended => Turned::Ended,
+        Recovery::Made(q) => push_turn(scores, queue, g, q, p.records),
+        Recovery::Refused(k) => Turned::Refused(k),
+    }
+}
+
+// A turn where nothing waits: the next pivotal edge is tried, and what is recovered is pushed.
+fn try_pivotal(
+    edges: &[u32],
+    only: &[u32],
+    to: &[u32],
+    paths: &mut [u32],
+    scores: &mut [f64],
+    queue: &mut [u32],
+    shut: &[u32],
+    order: &[u32],
+    marks: &[u32],
+    walk: &mut [u32],
+    g: Setting,
+    p: Progress,
+) -> Turned
+    requires { ⌜ PivotTurn (now edges) (now only) (now to) (now paths) (now scores) (now queue) (now shut) (now order) (now marks) (now walk) g p ⌝ }
+    ensures { λ r. ⌜ PivotMade (now (edges .entry)) (now (only .entry)) (now (to .entry)) (now (paths .entry)) (now (scores .entry)) (now (queue .entry)) (now (shut .entry)) (now (order .entry)) (now (marks .entry)) g p r (now (paths .exit)) (now (scores .exit)) (now (queue .exit)) ⌝ }
+{
+    let r = enqueue_next_pivotal_edge(
+        edges,
+        only,
+        to,
+        paths,
+        scores,
+        shut,
+        order,
+        marks,
+        walk,
+        g,
+        p,
+    );
+    push_recovered(scores, queue, g, p, r)
+}
+
+// One turn: a waiting path is taken; where none waits, the next pivotal edge is tried.
+fn turn(
+    vertices: &[u32],
+    edges: &[u32],
+    nodes: &[u32],
+    only: &[u32],
+    to: &[u32],
+    column: &[f64],
+    paths: &mut [u32],
+    scores: &mut [f64],
+    active: &mut [u32],
+    queue: &mut [u32],
+    shut: &mut [u32],
+    order: &[u32],
+    marks: &mut [u32],
+    walk: &mut [u32],
+    g: Setting,
+    p: Progress,
+) -> Turned
+    requires { ⌜ TurnAsks g (now vertices) (now edges) (now nodes) (now only) (now to) (now column) (now paths) (now scores) (now active) (now queue) (now shut) (now order) (now marks) (now walk) p ⌝ }
+    ensures { λ r. ⌜ TurnMadeIn (now (order .entry)) g (now (vertices .entry)) (now (edges .entry)) (now (nodes .entry)) (now (only .entry)) (now (to .entry)) (now (column .entry)) (now (paths .entry)) (now (scores .entry)) (now (active .entry)) (now (queue .entry)) (now (shut .entry)) (now (marks .entry)) p r (now (paths .exit)) (now (scores .exit)) (now (active .exit)) (now (queue .exit)) (now (shut .exit)) (now (marks .exit)) ⌝ }
+{
+    if p.waiting > 0 {
+        return next_path(
+            vertices,
+            edges,
+            nodes,
+            only,
+            to,
+            column,
+            paths,
+            scores,
+            active,
+            queue,
+            shut,
+            marks,
+            walk,
+            g,
+            p,
+        );
+    }
+    try_pivotal(
+        edges,
+        only,
+        to,
+        paths,
+        scores,
+        queue,
+        shut,
+        order,
+        marks,
+        walk,
+        g,
+        p,
+    )
+}
+
+// The search's answer, where a turn does not go on.
+fn found(r: Turned, p: Progress) -> Search
+    ensures { λ a. ⌜ a ≡ foundOf r p ⌝ }
+{
+    match r {
+        Turned::More(_) => Search::Paths(p),
+        Turned::Ended => Search::Paths(p),
+        Turned::Refused(k) => Search::Refused(k),
+    }
+}
+
+// Turn after turn, until as many paths have closed as are asked for, the search ends, or a turn is refused. `walk` serves the pivotal edges that are
+// still to be looked at, the offers of a fork, and the edges of a path that is split, one after the other.
+pub fn find_junction_best_haplotypes(
+    vertices: &[u32],
+    edges: &[u32],
+    nodes: &[u32],
+    only: &[u32],
+    to: &[u32],
+    column: &[f64],
+    paths: &mut [u32],
+    scores: &mut [f64],
+    active: &mut [u32],
+    queue: &mut [u32],
+    shut: &mut [u32],
+    order: &mut [u32],
+    marks: &mut [u32],
+    walk: &mut [u32],
+    g: Setting,
+    recovery: bool,
+) -> Search
+    requires { ⌜ Finds g (now vertices) (now edges) (now nodes) (now only) (now to) (now column) (now paths) (now scores) (now active) (now queue) (now shut) (now order) (now marks) (now walk) ⌝ }
+    ensures { λ r. ⌜ Found g (now (vertices .entry)) (now (edges .entry)) (now (nodes .entry)) (now (only .entry)) (now (to .entry)) (now (column .entry)) recovery r (now (paths .exit)) (now (scores .exit)) (now (active .exit)) (now (queue .exit)) (now (shut .exit)) (now (order .exit)) (now (marks .exit)) ⌝ }
+{
+    let mut p = begin(
+        vertices,
+        edges,
+        paths,
+        scores,
+        queue,
+        walk,
+        order,
+        marks,
+        g,
+        recovery,
+    );
+    while p.closed < g.asked {
+        let r = turn(
+            vertices,
+            edges,
+            nodes,
+            only,
+            to,
+            column,
+            paths,
+            scores,
+            active,
+            queue,
+            shut,
+            order,
+            marks,
+            walk,
+            g,
+            p,
+        );
+        let Turned::More(q) = r else {
+            return found(r, p);
+        };
+        p = q;
+    }
+    Search::Paths(p)
 }

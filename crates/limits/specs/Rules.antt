@@ -68,6 +68,20 @@ none-broken (r ∷ rs) d e = go (r .holds) refl (none-broken rs (d .1))
     go true f ih = (f, ih (rw (f, firstBroken) at e))
     go false f ih = let z : r .number ≡ 0 = rw (f, firstBroken) at e in let y : 0 < r .number = d .0 in absurd (omega arith)
 
+-- no rule has a number above 7
+abbrev pub Low : List Rule → Type 0
+Low [] = Unit {0}
+Low (r ∷ rs) = (r .number ≤ 7) × Low rs
+
+pub low-broken : (rs : List Rule) → Low rs → firstBroken rs ≤ 7
+unfolding firstBroken
+low-broken [] l = omega arith
+low-broken (r ∷ rs) l = go (r .holds) refl (low-broken rs (l .1))
+  where
+    go : (b : Bool) → r .holds ≡ b → firstBroken rs ≤ 7 → firstBroken (r ∷ rs) ≤ 7
+    go true e h = rw (e, firstBroken) h
+    go false e h = rw (e, firstBroken) (l .0)
+
 -- ---- the rules of each call, parted as the code checks them
 
 pub reference-numbered : (k : ℕ) (reference : List ℕ) → Numbered (referenceRules k reference)

@@ -2,3 +2,6 @@ pub mod Lent
 pub mod Rules
 pub mod Outcome
 pub mod Within
+pub mod Parts
+pub mod Late
+pub mod Call

@@ -1,24 +1,15 @@
 -- The whole call for the list: refused by the rules with nothing touched, or the work over the parts told, which are zero afterwards. Assumes nothing.
-use mathlib.Core.Path.{_≡_, refl, sym, ap, subst, _∙_}
-use mathlib.Core.Bool.{Bool, true, false, _&&_}
-use mathlib.Core.List.{List, [], _∷_, _++_}
-use Prim.Native.Nat.{ℕ, zero, suc, _+_, _*_, _<_, _≤_}
-use native.Mathlib.Omega.{arith}
-use lib.Dec.{leb}
-use lib.ListN.{length, take, drop, replicate}
-use lib.Ieee.{Float}
-use borrow.Author.Tests.{le-leb}
-use Rattle.laws.specs.Numbers.{within}
-use Rattle.definition.specs.Refusal.{firstBroken}
-use Rattle.definition.specs.Limits.{GraphMaxima, SearchMaxima, Input, longEnough, listRules}
-use Rattle.definition.specs.Listing.{Answer, refusal, answer, afterChecks}
-use Rattle.definition.specs.Calls.{writtenAt, workspaceAfter}
-use Rattle.definition.proofs.Checks.{Checked, checked}
-use Rattle.limits.specs.Workspaces.{vertexTable, edgeTable, kmerIndex, nodeTable, targetTable, pathTable, pathScores, activeNodes, waitingQueue, closedPaths, pivotalOrder, pivotalMarks, pathWalks, rowColumns}
+use mathlib.Core.Path.{_≡_}
+use Prim.Native.Nat.{ℕ, _+_, _*_, _≤_}
+use lib.ListN.{length}
+use Rattle.definition.specs.Limits.{Input}
+use Rattle.definition.specs.Listing.{refusal, answer}
+use Rattle.definition.proofs.Checks.{Checked}
+use Rattle.limits.specs.Workspaces.{vertexTable, edgeTable, kmerIndex, nodeTable, targetTable, pathTable, pathScores, activeNodes, waitingQueue, closedPaths, pivotalOrder, pivotalMarks, pathWalks}
 use Rattle.list_call.specs.declared.ListAnswer.{ListAnswer}
 use Rattle.list_call.specs.declared.Lent as lent
-use Rattle.list_call.specs.Lent.{toldOf, lentOf, Long, long-of}
-use Rattle.list_call.specs.Outcome.{Outputs, Tables, Listed, found, clearedTables, tablesAfter, refusedAnswer, summary}
+use Rattle.list_call.specs.Lent.{toldOf, lentOf}
+use Rattle.list_call.specs.Outcome.{Outputs, Tables, Listed, found, clearedTables, tablesAfter}
 
 -- the lengths of all slices, and of the slice of rows
 abbrev pub lengthsOf : ℕ → Outputs → Tables → lent.Lent

@@ -9,20 +9,20 @@ use lib.ListN.{length, drop, set, length-append}
 use Rattle.laws.specs.Records.{putFrom}
 use Rattle.definition.specs.Calls.{writtenAt, flat}
 
-abbrev pub front : List ℕ → List ℕ → List ℕ
+abbrev pub front : {A : Type 0} → List A → List A → List A
 front xs old = xs ++ drop (length xs) old
 
 append-nil : {A : Type 0} (xs : List A) → xs ++ [] ≡ xs
 append-nil [] = refl
 append-nil {A} (x ∷ xs) = ap (λ (l : List A). x ∷ l) (append-nil xs)
 
-front-set : (xs old : List ℕ) (a : ℕ) → length xs < length old → set (front xs old) (length xs) a ≡ (xs ++ a ∷ []) ++ drop (suc (length xs)) old
+front-set : {A : Type 0} (xs old : List A) (a : A) → length xs < length old → set (front xs old) (length xs) a ≡ (xs ++ a ∷ []) ++ drop (suc (length xs)) old
 front-set [] [] a h = absurd (omega arith)
 front-set [] (y ∷ old) a h = refl
 front-set (x ∷ xs) [] a h = absurd (omega arith)
-front-set (x ∷ xs) (y ∷ old) a h = ap (λ (l : List ℕ). x ∷ l) (front-set xs old a (omega arith))
+front-set {A} (x ∷ xs) (y ∷ old) a h = ap (λ (l : List A). x ∷ l) (front-set xs old a (omega arith))
 
-front-store : (xs old : List ℕ) (i a : ℕ) → length xs ≡ i → i < length old → set (front xs old) i a ≡ front (xs ++ a ∷ []) old
+pub front-store : {A : Type 0} (xs old : List A) (i : ℕ) (a : A) → length xs ≡ i → i < length old → set (front xs old) i a ≡ front (xs ++ a ∷ []) old
 front-store xs old i a e h =
     let l : length (xs ++ a ∷ []) ≡ suc (length xs) = length-append xs (a ∷ []) ∙ add-one (length xs) in
     rw (← e, l) (front-set xs old a (omega arith))
@@ -37,7 +37,7 @@ front-row xs old W i j (y ∷ ys) e h =
     ∙ front-row (xs ++ y ∷ []) old W i (j + 1) ys (omega arith) (omega arith)
     ∙ ap (λ (l : List ℕ). front l old) (append-assoc xs (y ∷ []) ys)
 
-pub written-front : (xs old : List ℕ) → writtenAt 0 xs old ≡ front xs old
+pub written-front : {A : Type 0} (xs old : List A) → writtenAt 0 xs old ≡ front xs old
 unfolding writtenAt
 written-front xs old = rw zero-add
 
