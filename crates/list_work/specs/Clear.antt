@@ -5,7 +5,7 @@ use Prim.Native.Nat.{ℕ, zero, suc, _+_}
 use lib.ListN.{length, getD, drop, replicate, length-replicate}
 use lib.Seq.{drop-length}
 use Rattle.definition.specs.Calls.{writtenAt}
-use Rattle.threading_tree.specs.Front.{written-front}
+use Rattle.graph_rows.specs.Zeros.{written-zeros}
 
 zero-at : (n i : ℕ) → _≡_ {A = ℕ} (getD (replicate n 0) i 0) 0
 zero-at zero i = refl
@@ -22,8 +22,7 @@ zero-of {w} {w′} e =
     let n = length w in
     let z : w′ ≡ replicate n 0 =
     e
-    ∙ written-front (replicate n 0) w
-    ∙ ap (λ (k : ℕ). replicate n 0 ++ drop k w) (length-replicate n 0)
+    ∙ written-zeros 0 n w
     ∙ ap (λ (l : List ℕ). replicate n 0 ++ l) (drop-length w)
     ∙ append-nil (replicate n 0) in
     record { size = ap length z ∙ length-replicate n 0; zeros = λ i. rw z (zero-at n i) }

@@ -73,6 +73,17 @@ unfolding summary outputsAfter
 listed-refused i o n r old e f =
     rw (e, f) (record { refusal = refl; paths = refl; pushes = refl; mark-low = omega arith; mark-high = omega arith; outputs = refl })
 
+-- a list
+pub listed-done : (i : Input) (o : Answer Float) (rs : List (Row Float)) (pushes longest : ℕ) (r : declared.ListAnswer) (old new : Outputs) → o ≡ listed rs pushes longest → r .refusal ≡ 0
+    → r .paths ≡ length rs → r .pushes ≡ pushes → longest ≤ r .mark → r .mark ≤ pushes → new ≡ writtenList i rs old → Listed i o r old new
+unfolding summary outputsAfter
+listed-done i o rs pushes longest r old new e a b c d f h = rw e (record { refusal = a; paths = b; pushes = c; mark-low = d; mark-high = f; outputs = h })
+
+-- the empty list
+pub listed-none : (i : Input) (o : Answer Float) (r : declared.ListAnswer) (old : Outputs) → o ≡ listed [] 0 0 → r ≡ refusedAnswer 0 → Listed i o r old old
+unfolding writtenList writtenAt writtenRows
+listed-none i o r old e f = rw f (listed-done i o [] 0 0 (refusedAnswer 0) old old e refl refl refl (omega arith) (omega arith) refl)
+
 -- ---- the workspace
 
 pub record Tables : Type 0 where

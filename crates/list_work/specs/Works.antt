@@ -1,10 +1,16 @@
 -- What the work is handed: an input in order, output slices that are long enough, and a workspace of just the lengths told. Assumes nothing.
-use mathlib.Core.Path.{_≡_}
+use mathlib.Core.Path.{_≡_, refl}
+use mathlib.Core.Bool.{Bool, true, _&&_}
 use mathlib.Core.List.{List}
-use Prim.Native.Nat.{ℕ, _+_, _*_, _≤_}
+use Prim.Native.Nat.{ℕ, zero, suc, _+_, _*_, _≤_}
+use lib.Dec.{leb}
 use lib.ListN.{length}
 use lib.Ieee.{Float}
-use Rattle.definition.specs.Limits.{Input}
+use borrow.Author.Tests.{leb-true}
+use Rattle.laws.specs.ListLaws.{and-left, and-right}
+use Rattle.laws.specs.Numbers.{within}
+use Rattle.definition.specs.Refusal.{Rule, firstBroken}
+use Rattle.definition.specs.Limits.{Input, kFits, referenceFits, referenceBases, readsFit, graphMaximaFit, searchMaximaFit, settingsFit, sampleRules}
 use Rattle.definition.proofs.Checks.{Checked}
 use Rattle.limits.specs.Handed.{graphMaximaOf, searchMaximaOf, sampleOf, inputOf}
 use Rattle.limits.specs.Workspaces.{vertexTable, edgeTable, kmerIndex, nodeTable, targetTable, pathTable, pathScores, activeNodes, waitingQueue, closedPaths, pivotalOrder, pivotalMarks, pathWalks}
@@ -42,3 +48,23 @@ pub record Works (i : Input) (o : Outputs) (w : Tables) : Type 0 where
   pub order : length (w .order) ≡ pivotalOrder (i .graphMaxima)
   pub marks : length (w .marks) ≡ pivotalMarks (i .graphMaxima)
   pub walks : length (w .walks) ≡ pathWalks (i .asked) (i .graphMaxima) (i .searchMaxima)
+
+-- ---- what the checks give
+
+pub checked-rules : (i : Input) → Checked i → firstBroken (sampleRules (i .sample)) ≡ 0
+unfolding sampleRules firstBroken
+checked-rules i c = rw (c .k-fits, firstBroken, c .reference-fits, firstBroken, c .reference-bases, firstBroken, c .reads-fit, firstBroken)
+
+pub checked-maxima : (i : Input) → Checked i → graphMaximaFit (i .graphMaxima) ≡ true
+unfolding settingsFit
+checked-maxima i c =
+    and-right (leb (i .asked) 128) (graphMaximaFit (i .graphMaxima)) (and-left (leb (i .asked) 128 && graphMaximaFit (i .graphMaxima)) (searchMaximaFit (i .searchMaxima)) (c .settings-fit))
+
+pub active-some : (i : Input) → Checked i → 1 ≤ i .searchMaxima .active
+unfolding settingsFit searchMaximaFit
+active-some i c =
+    let x = i .searchMaxima in
+    let m : (within 1 4096 (x .pathEdges) && within 1 64 (x .active) && within 1 32768 (x .pushes)) ≡ true =
+    and-right (leb (i .asked) 128 && graphMaximaFit (i .graphMaxima)) _ (c .settings-fit) in
+    let n = and-right (within 1 4096 (x .pathEdges)) (within 1 64 (x .active)) (and-left (within 1 4096 (x .pathEdges) && within 1 64 (x .active)) (within 1 32768 (x .pushes)) m) in
+    leb-true 1 (x .active) (and-left (leb 1 (x .active)) (leb (x .active) 64) n)
