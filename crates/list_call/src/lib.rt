@@ -241,7 +241,7 @@ fn work(
 }
 
 // The first n scores become 0.
-fn clear_scores(scores: &mut [f64], n: usize)
+pub fn clear_scores(scores: &mut [f64], n: usize)
     requires { ⌜ n ≤ length (now scores) ⌝ }
     ensures { λ _. ⌜ now (scores .exit) ≡ writtenAt 0 (replicate n floatZero) (now (scores .entry)) ⌝ }
 {
