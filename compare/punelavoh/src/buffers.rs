@@ -90,7 +90,7 @@ impl GraphBuffers {
 }
 
 #[cfg(feature = "list")]
-pub use listing::{list_scores, list_workspace, ListBuffers, LIST_SCORES, LIST_WORKSPACE};
+pub use listing::{list_scores, list_workspace, ListBuffers, LIST_WORKSPACE};
 
 /// The slices of the call for the list.
 #[cfg(feature = "list")]
@@ -98,33 +98,19 @@ mod listing {
     use crate::ffi::{list, Lengths, ListAnswer, ListSettings, ListSlices, PathRow, Sample, Workspace};
     use crate::lent::Lent;
 
-    /// The number slices of the workspace, in the call's order; those of scores stand apart.
-    pub const LIST_WORKSPACE: [&str; 14] = [
-        "vertices",
-        "edges",
-        "index",
-        "nodes",
-        "targets",
-        "paths",
-        "active",
-        "queue",
-        "closed",
-        "order",
-        "marks",
-        "walks",
-        "row closings",
-        "row edges",
-    ];
+    /// The number slices of the workspace, in the call's order, the columns of numbers last; the scores stand apart.
+    pub const LIST_WORKSPACE: [&str; 14] =
+        ["vertices", "edges", "index", "nodes", "targets", "paths", "active", "queue", "closed", "order", "marks", "walks", "closings", "edge counts"];
 
-    /// Those of scores.
-    pub const LIST_SCORES: [&str; 2] = ["scores", "row scores"];
-
-    /// The lengths told of the number slices.
+    /// The lengths told of those.
     pub fn list_workspace(w: &Workspace) -> [usize; 14] {
-        [w.vertices, w.edges, w.index, w.nodes, w.targets, w.paths, w.active, w.queue, w.closed, w.order, w.marks, w.walks, w.columns, w.columns]
+        [
+            w.vertices, w.edges, w.index, w.nodes, w.targets, w.paths, w.active, w.queue, w.closed, w.order, w.marks, w.walks, w.columns,
+            w.columns,
+        ]
     }
 
-    /// The lengths told of those of scores.
+    /// The lengths told of the two slices of scores: those of all paths, and those of the rows.
     pub fn list_scores(w: &Workspace) -> [usize; 2] {
         [w.scores, w.columns]
     }
@@ -153,8 +139,7 @@ mod listing {
 
         /// Slices of exactly the lengths told.
         pub fn told(l: &Lengths) -> Self {
-            let w = &l.workspace;
-            Self::new([l.paths, l.bases, l.origins, l.origins], list_workspace(w), list_scores(w), 0)
+            Self::new([l.paths, l.bases, l.origins, l.origins], list_workspace(&l.workspace), list_scores(&l.workspace), 0)
         }
 
         pub fn call(&mut self, sample: Sample, settings: ListSettings) -> ListAnswer {

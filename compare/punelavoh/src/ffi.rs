@@ -17,7 +17,7 @@ pub struct SearchMaxima {
     pub pushes: u32,
 }
 
-/// Lengths of the workspace slices, in elements: u32 but for `scores`, f64. There are three slices of `columns` elements, the first f64.
+/// Lengths of the workspace slices, in elements: u32 but for `scores` and the first of the three `columns`, f64.
 #[repr(C)]
 #[derive(Clone, Copy, Debug, Default, PartialEq)]
 pub struct Workspace {
@@ -230,6 +230,18 @@ mod listing {
         pub column: &'a [f64],
     }
 
+    /// What a run is asked for, as the call takes it.
+    #[repr(C)]
+    struct Settings {
+        k: u32,
+        quality: u8,
+        asked: u32,
+        threshold: i32,
+        recovery: bool,
+        graph: GraphMaxima,
+        search: SearchMaxima,
+    }
+
     /// The slices that the call is lent.
     pub struct ListSlices<'a> {
         pub rows: &'a mut [PathRow],
@@ -254,18 +266,6 @@ mod listing {
         pub row_edges: &'a mut [u32],
     }
 
-    /// The call's first argument.
-    #[repr(C)]
-    struct Settings {
-        k: u32,
-        quality: u8,
-        asked: u32,
-        threshold: i32,
-        recovery: bool,
-        graph: GraphMaxima,
-        search: SearchMaxima,
-    }
-
     extern "C" {
         fn punelavoh_list(
             a: Settings,
@@ -281,8 +281,8 @@ mod listing {
             column_length: usize,
             rows: *mut PathRow,
             rows_length: usize,
-            out_bases: *mut u8,
-            out_bases_length: usize,
+            bases_out: *mut u8,
+            bases_out_length: usize,
             sequences: *mut u32,
             sequences_length: usize,
             places: *mut u32,

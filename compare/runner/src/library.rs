@@ -82,10 +82,9 @@ fn graph_told(k: u32, maxima: &GraphMaxima) -> Lengths {
 /// Bytes of all slices told.
 fn bytes_told(l: &Lengths) -> usize {
     let w = &l.workspace;
-    let outputs = l.edges + l.nodes + 2 * l.origins;
-    let graph = w.vertices + w.edges + w.index + w.nodes + w.open + w.targets;
-    let search = w.paths + w.active + w.queue + w.closed + w.order + w.marks + w.walks + 2 * w.columns;
-    4 * (outputs + graph + search) + 8 * (w.scores + w.columns) + l.bases + l.paths * size_of::<punelavoh::PathRow>()
+    let graph = w.vertices + w.edges + w.index + w.nodes + w.open;
+    let search = w.targets + w.paths + w.active + w.queue + w.closed + w.order + w.marks + w.walks + 2 * w.columns;
+    4 * (l.edges + l.nodes + 2 * l.origins + graph + search) + 8 * (w.scores + w.columns) + l.bases + l.paths * size_of::<punelavoh::PathRow>()
 }
 
 fn check_lengths(k: u32, paths: u32, graph: &GraphMaxima, search: &SearchMaxima, expected: &Outcome<Told>) -> Checked<()> {
@@ -193,10 +192,10 @@ impl Subject for Library {
 mod listing {
     use super::*;
     use crate::answers::PathWritten;
-    use punelavoh::buffers::{list_scores, list_workspace, ListBuffers, LIST_SCORES, LIST_WORKSPACE};
+    use punelavoh::buffers::{list_scores, list_workspace, ListBuffers, LIST_WORKSPACE};
     use punelavoh::{ListSettings, PathRow};
 
-    /// The number slices of the workspace as `Slice` numbers them, those of scores behind.
+    /// The number slices of the workspace as `Slice` numbers them, the two of scores behind.
     const SCORES: usize = LIST_WORKSPACE.len();
 
     pub fn check_list(sample: &Sample, input: &ListInput, lend: Lend, expected: &Outcome<ListWritten>) -> Option<Checked<()>> {
@@ -205,11 +204,11 @@ mod listing {
             told = Lengths { paths: UNTOLD, bases: UNTOLD, origins: UNTOLD, ..told };
         }
         let work = list_workspace(&told.workspace);
-        let scores = list_scores(&told.workspace);
         let outputs = [told.paths, told.bases, told.origins, told.origins];
         let lent = lent_lengths(outputs, [Slice::Paths, Slice::Bases, Slice::Sequences, Slice::Places], lend)?;
         let lent_work = lent_lengths(work, std::array::from_fn(Slice::Workspace), lend)?;
-        let lent_scores = lent_lengths(scores, std::array::from_fn(|n| Slice::Workspace(SCORES + n)), lend)?;
+        let scores = list_scores(&told.workspace);
+        let lent_scores = lent_lengths(scores, [Slice::Workspace(SCORES), Slice::Workspace(SCORES + 1)], lend)?;
         let handed = SampleBuffers::new(&borrowed(sample), lend.seed);
         let column = Lent::holding(&input.column, lend.seed);
         let mut buffers = ListBuffers::new(lent, lent_work, lent_scores, lend.seed);
@@ -240,7 +239,7 @@ mod listing {
             for ((slice, told), name) in buffers.workspace.iter().zip(work).zip(LIST_WORKSPACE) {
                 check_workspace(slice, told, refusal, name)?;
             }
-            for ((slice, told), name) in buffers.scores.iter().zip(scores).zip(LIST_SCORES) {
+            for ((slice, told), name) in buffers.scores.iter().zip(scores).zip(["scores", "row scores"]) {
                 check_workspace(slice, told, refusal, name)?;
             }
             require(column.still_holds(&input.column), || "the column has changed".into())?;

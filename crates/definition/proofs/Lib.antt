@@ -1,11 +1,12 @@
 -- Theorems over the definition, by layer.
--- Computed: Examples, Cases (the twelve of 01), Borders (the open points).
+-- Computed: Examples, Cases (the twelve of 01), Borders (the open points), Texts (the program `paths` on case 6).
 -- Threading: Kmers, Spelling, Maximal, Stretches, Tables, Visits, First, Degrees, Sizes, Supports. Trees: Trees, Counts.
 -- Search: Order, Column, Penalty, Runs, Walks, Turns, Waiting, Forks, Bounds, Allowance.
 -- An accepted list: Found, Origins, Checks, Fuel, Demand (demand 3), Rows (the order is total), Twice (no path is listed twice).
 pub mod Examples
 pub mod Cases
 pub mod Borders
+pub mod Texts
 pub mod Runs
 pub mod Order
 pub mod Column

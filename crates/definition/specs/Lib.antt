@@ -9,4 +9,5 @@ pub mod Building
 pub mod Listing
 pub mod Origins
 pub mod Calls
+pub mod Text
 pub mod Promises

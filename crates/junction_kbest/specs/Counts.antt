@@ -45,3 +45,10 @@ module _ {f : SearchInput} {g : Setting} {es x only to : List ℕ} {bs : ℕ →
       go : (l : List (Path Float)) → length l ≡ 0 → l ≡ []
       go [] e = refl
       go (x ∷ l) e = absurd (omega arith)
+
+-- the two limits, by the test that the code makes
+pub some-limit : (n w : ℕ) → n ≡ 0 → ltb 1000 w ≡ ltb (cond (eqb n 0) 1000 10000) w
+some-limit n w h = sym (rw (eq-eqb n 0 h))
+
+pub other-limit : (n w : ℕ) → (n ≡ 0 → ⊥) → ltb 10000 w ≡ ltb (cond (eqb n 0) 1000 10000) w
+other-limit n w h = sym (rw (ne-eqb n 0 h))

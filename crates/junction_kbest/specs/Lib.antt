@@ -7,4 +7,6 @@ pub mod Steps
 pub mod Take
 pub mod Between
 pub mod Next
+pub mod Pivot
 pub mod Find
+pub mod Loop

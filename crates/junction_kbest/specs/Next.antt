@@ -42,7 +42,7 @@ head-of [] h = absurd (omega arith)
 head-of (x ∷ xs) h = record { first = x; rest = xs; is = refl }
 
 -- what is not read by the queue, as its scene
-abbrev sceneOf : SearchInput → List ℕ → List ℕ → List ℕ → List ℕ → (ℕ → List Branches) → (ℕ → ℕ) → List ℕ → List ℕ → List ℕ → List ℕ → List ℕ → Scene
+abbrev pub sceneOf : SearchInput → List ℕ → List ℕ → List ℕ → List ℕ → (ℕ → List Branches) → (ℕ → ℕ) → List ℕ → List ℕ → List ℕ → List ℕ → List ℕ → Scene
 sceneOf f es x only to bs cl t ac shut order marks =
     record { f = f; es = es; x = x; only = only; to = to; bs = bs; closing = cl; t = t; ac = ac; shut = shut; order = order; marks = marks }
 

@@ -3,6 +3,9 @@ use path_closing::add_junction_tree;
 use path_closing::close_at_sink;
 use path_extensions::Extended;
 use path_extensions::process_vertex;
+use path_queue::Recovery;
+use path_queue::begin;
+use path_queue::enqueue_next_pivotal_edge;
 use path_queue::push_paths;
 use path_queue::take_first;
 use path_store::growth::PathAnswer;
@@ -19,7 +22,11 @@ ghost use lib.Dec.{eqb, ltb};
 ghost use Rattle.junction_kbest.specs.Extend.{ExtendsTaken, TakenExtended, firstNew};
 ghost use Rattle.junction_kbest.specs.Take.{TakesPath, PathTaken};
 ghost use Rattle.junction_kbest.specs.Answers.{joinRefusal, extendRefusal, stepRefusal};
-ghost use Rattle.junction_kbest.specs.Between.{NextTurn, TurnMade};
+ghost use Rattle.path_queue.specs.Push.{Pushes};
+ghost use Rattle.junction_kbest.specs.Between.{NextTurn, TurnMade, TurnAsks};
+ghost use Rattle.junction_kbest.specs.Pivot.{PushedTurn, RecoveredAsks, RecoveredTurn, PivotTurn, PivotMade, TurnMadeIn};
+ghost use Rattle.junction_kbest.specs.Find.{Finds, Found};
+ghost use Rattle.junction_kbest.specs.Loop.{foundOf};
 
 // The answer of the search: how far it has come when it ends, or a refusal.
 pub enum Search {
@@ -246,4 +253,192 @@ fn next_path(
         return Turned::Refused(step_refusal(d));
     };
     Turned::More(n)
+}
+
+// The paths from `from` on are pushed, and the turn is over.
+fn push_turn(scores: &[f64], queue: &mut [u32], g: Setting, q: Progress, from: u32) -> Turned
+    requires { ⌜ Pushes (now scores) (now queue) g q from ⌝ }
+    ensures { λ r. ⌜ PushedTurn (now (scores .entry)) (now (queue .entry)) g q from (now (queue .exit)) r ⌝ }
+{
+    let d = push_paths(scores, queue, g, q, from);
+    let Step::On(n) = d else {
+        return Turned::Refused(step_refusal(d));
+    };
+    Turned::More(n)
+}
+
+// What was recovered, if anything, is pushed.
+fn push_recovered(scores: &[f64], queue: &mut [u32], g: Setting, p: Progress, r: Recovery) -> Turned
+    requires { ⌜ RecoveredAsks (now scores) (now queue) g p r ⌝ }
+    ensures { λ o. ⌜ RecoveredTurn (now (scores .entry)) (now (queue .entry)) g p r (now (queue .exit)) o ⌝ }
+{
+    match r {
+        Recovery::Ended => Turned::Ended,
+        Recovery::Made(q) => push_turn(scores, queue, g, q, p.records),
+        Recovery::Refused(k) => Turned::Refused(k),
+    }
+}
+
+// A turn where nothing waits: the next pivotal edge is tried, and what is recovered is pushed.
+fn try_pivotal(
+    edges: &[u32],
+    only: &[u32],
+    to: &[u32],
+    paths: &mut [u32],
+    scores: &mut [f64],
+    queue: &mut [u32],
+    shut: &[u32],
+    order: &[u32],
+    marks: &[u32],
+    walk: &mut [u32],
+    g: Setting,
+    p: Progress,
+) -> Turned
+    requires { ⌜ PivotTurn (now edges) (now only) (now to) (now paths) (now scores) (now queue) (now shut) (now order) (now marks) (now walk) g p ⌝ }
+    ensures { λ r. ⌜ PivotMade (now (edges .entry)) (now (only .entry)) (now (to .entry)) (now (paths .entry)) (now (scores .entry)) (now (queue .entry)) (now (shut .entry)) (now (order .entry)) (now (marks .entry)) g p r (now (paths .exit)) (now (scores .exit)) (now (queue .exit)) ⌝ }
+{
+    let r = enqueue_next_pivotal_edge(
+        edges,
+        only,
+        to,
+        paths,
+        scores,
+        shut,
+        order,
+        marks,
+        walk,
+        g,
+        p,
+    );
+    push_recovered(scores, queue, g, p, r)
+}
+
+// One turn: a waiting path is taken; where none waits, the next pivotal edge is tried.
+fn turn(
+    vertices: &[u32],
+    edges: &[u32],
+    nodes: &[u32],
+    only: &[u32],
+    to: &[u32],
+    column: &[f64],
+    paths: &mut [u32],
+    scores: &mut [f64],
+    active: &mut [u32],
+    queue: &mut [u32],
+    shut: &mut [u32],
+    order: &[u32],
+    marks: &mut [u32],
+    walk: &mut [u32],
+    g: Setting,
+    p: Progress,
+) -> Turned
+    requires { ⌜ TurnAsks g (now vertices) (now edges) (now nodes) (now only) (now to) (now column) (now paths) (now scores) (now active) (now queue) (now shut) (now order) (now marks) (now walk) p ⌝ }
+    ensures { λ r. ⌜ TurnMadeIn (now (order .entry)) g (now (vertices .entry)) (now (edges .entry)) (now (nodes .entry)) (now (only .entry)) (now (to .entry)) (now (column .entry)) (now (paths .entry)) (now (scores .entry)) (now (active .entry)) (now (queue .entry)) (now (shut .entry)) (now (marks .entry)) p r (now (paths .exit)) (now (scores .exit)) (now (active .exit)) (now (queue .exit)) (now (shut .exit)) (now (marks .exit)) ⌝ }
+{
+    if p.waiting > 0 {
+        return next_path(
+            vertices,
+            edges,
+            nodes,
+            only,
+            to,
+            column,
+            paths,
+            scores,
+            active,
+            queue,
+            shut,
+            marks,
+            walk,
+            g,
+            p,
+        );
+    }
+    try_pivotal(
+        edges,
+        only,
+        to,
+        paths,
+        scores,
+        queue,
+        shut,
+        order,
+        marks,
+        walk,
+        g,
+        p,
+    )
+}
+
+// The search's answer, where a turn does not go on.
+fn found(r: Turned, p: Progress) -> Search
+    ensures { λ a. ⌜ a ≡ foundOf r p ⌝ }
+{
+    match r {
+        Turned::More(_) => Search::Paths(p),
+        Turned::Ended => Search::Paths(p),
+        Turned::Refused(k) => Search::Refused(k),
+    }
+}
+
+// Turn after turn, until as many paths have closed as are asked for, the search ends, or a turn is refused. `walk` serves the pivotal edges that are
+// still to be looked at, the offers of a fork, and the edges of a path that is split, one after the other.
+pub fn find_junction_best_haplotypes(
+    vertices: &[u32],
+    edges: &[u32],
+    nodes: &[u32],
+    only: &[u32],
+    to: &[u32],
+    column: &[f64],
+    paths: &mut [u32],
+    scores: &mut [f64],
+    active: &mut [u32],
+    queue: &mut [u32],
+    shut: &mut [u32],
+    order: &mut [u32],
+    marks: &mut [u32],
+    walk: &mut [u32],
+    g: Setting,
+    recovery: bool,
+) -> Search
+    requires { ⌜ Finds g (now vertices) (now edges) (now nodes) (now only) (now to) (now column) (now paths) (now scores) (now active) (now queue) (now shut) (now order) (now marks) (now walk) ⌝ }
+    ensures { λ r. ⌜ Found g (now (vertices .entry)) (now (edges .entry)) (now (nodes .entry)) (now (only .entry)) (now (to .entry)) (now (column .entry)) recovery r (now (paths .exit)) (now (scores .exit)) (now (active .exit)) (now (queue .exit)) (now (shut .exit)) (now (order .exit)) (now (marks .exit)) ⌝ }
+{
+    let mut p = begin(
+        vertices,
+        edges,
+        paths,
+        scores,
+        queue,
+        walk,
+        order,
+        marks,
+        g,
+        recovery,
+    );
+    while p.closed < g.asked {
+        let r = turn(
+            vertices,
+            edges,
+            nodes,
+            only,
+            to,
+            column,
+            paths,
+            scores,
+            active,
+            queue,
+            shut,
+            order,
+            marks,
+            walk,
+            g,
+            p,
+        );
+        let Turned::More(q) = r else {
+            return found(r, p);
+        };
+        p = q;
+    }
+    Search::Paths(p)
 }

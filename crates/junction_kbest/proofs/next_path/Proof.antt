@@ -1,3 +1,6 @@
+-- `next_path` meets its contract: the laws of Next, by what the callees answer. Assumes nothing.
+use mathlib.Core.Path.{_∙_}
+use Rattle.junction_kbest.specs.Next.{next-over, next-takes, next-path-asks, next-refused, next-counts, next-pushes, next-full, next-more}
 use borrow.Author.Needs.{needs}
 use Rattle.junction_kbest.proofs.next_path.Statement.{statement}
 use Rattle.junction_kbest.proofs.next_path.Tie as tie
@@ -16,15 +19,15 @@ too-many-requires c κs = search needs
 
 -- src/lib.rt:220:9
 returns : tie.Need-returns
-returns c = ?
+returns c = next-over _ _ _ _ _ _ _ _ _ _ _ _ _ _ _ (c .before .too-many .ensures) (c .if1 .taken) (c .before .before .before .before .before .before .before .before .before .before .before .before .before .before .before .pre .some)
 
 -- src/lib.rt:222:9
 take-first-requires : tie.Need-take-first-requires
-take-first-requires c κs = ?
+take-first-requires c κs = next-takes _ _ _ _ _ _ _ _ _ _ _ _ _ _ _ (c .before .before .before .before .before .before .before .before .before .before .before .before .before .before .before .before .before .pre)
 
 -- src/lib.rt:224:9
 take-path-requires : tie.Need-take-path-requires
-take-path-requires c κs = ?
+take-path-requires c κs = next-path-asks _ _ _ _ _ _ _ _ _ _ _ _ _ _ _ (c .before .before .before .before .before .before .before .before .before .before .before .before .before .too-many .ensures) (c .before .before .before .before .before .before .before .before .before .before .before .before .if1 .left) _ _ (c .before .before .before .before .before .before .before .before .before .take-first .ensures) (c .before .before .before .before .before .before .before .before .before .take-first .kept .1 .0) _ (c .before .before .before .before .before .before .before .before .before .before .before .before .before .before .before .before .before .before .before .before .before .before .before .before .before .before .before .pre)
 
 -- src/lib.rt:228:18
 enum-known-r : tie.Need-enum-known-r
@@ -68,15 +71,15 @@ same-length-7 c = search needs
 
 -- src/lib.rt:229:9
 returns-2 : tie.Need-returns-2
-returns-2 c = ?
+returns-2 c = next-refused _ _ _ _ _ _ _ _ _ _ _ _ _ _ _ (c .before .before .before .before .before .before .before .before .before .before .before .before .before .before .before .before .before .before .before .before .before .before .before .before .before .before .before .before .before .too-many .ensures) (c .before .before .before .before .before .before .before .before .before .before .before .before .before .before .before .before .before .before .before .before .before .before .before .before .before .before .before .before .if1 .left) _ _ (c .before .before .before .before .before .before .before .before .before .before .before .before .before .before .before .before .before .before .before .before .before .before .before .before .before .take-first .ensures) (c .before .before .before .before .before .before .before .before .before .before .before .before .before .before .before .before .before .before .before .before .before .before .before .before .before .take-first .kept .1 .0) _ _ _ _ _ _ (c .before .before .before .before .before .before .before .before .before .before .before .before .before .before .before .take-path .ensures) _ (c .before .enum-told .given .1) _ (c .step-refusal .ensures) _
 
 -- src/lib.rt:231:45
 first-new-requires : tie.Need-first-new-requires
-first-new-requires c κs = ?
+first-new-requires c κs = next-counts _ _ _ _ _ _ _ _ _ _ _ _ _ _ _ (c .before .before .before .before .before .before .before .before .before .before .before .before .before .before .before .before .before .before .before .before .before .before .before .before .before .before .before .before .before .before .before .too-many .ensures) (c .before .before .before .before .before .before .before .before .before .before .before .before .before .before .before .before .before .before .before .before .before .before .before .before .before .before .before .before .before .before .if1 .left) _ _ (c .before .before .before .before .before .before .before .before .before .before .before .before .before .before .before .before .before .before .before .before .before .before .before .before .before .before .before .take-first .ensures) (c .before .before .before .before .before .before .before .before .before .before .before .before .before .before .before .before .before .before .before .before .before .before .before .before .before .before .before .take-first .kept .1 .0) _ _ _ _ _ _ (c .before .before .before .before .before .before .before .before .before .before .before .before .before .before .before .before .before .take-path .ensures) _ (c .before .before .before .r .given .1) _ (c .before .before .before .before .before .before .before .before .before .before .before .before .before .before .before .before .before .before .before .before .before .before .before .before .before .before .before .before .before .before .before .before .before .before .before .before .before .before .before .before .before .before .before .before .before .pre)
 
 -- src/lib.rt:231:9
 push-paths-requires : tie.Need-push-paths-requires
-push-paths-requires c κs = ?
+push-paths-requires c κs = next-pushes _ _ _ _ _ _ _ _ _ _ _ _ _ _ _ (c .before .before .before .before .before .before .before .before .before .before .before .before .before .before .before .before .before .before .before .before .before .before .before .before .before .before .before .before .before .before .before .before .too-many .ensures) (c .before .before .before .before .before .before .before .before .before .before .before .before .before .before .before .before .before .before .before .before .before .before .before .before .before .before .before .before .before .before .before .if1 .left) _ _ (c .before .before .before .before .before .before .before .before .before .before .before .before .before .before .before .before .before .before .before .before .before .before .before .before .before .before .before .before .take-first .ensures) (c .before .before .before .before .before .before .before .before .before .before .before .before .before .before .before .before .before .before .before .before .before .before .before .before .before .before .before .before .take-first .kept .1 .0) _ _ _ _ _ _ (c .before .before .before .before .before .before .before .before .before .before .before .before .before .before .before .before .before .before .take-path .ensures) _ (c .before .before .before .before .r .given .1) _ (c .first-new .ensures) _ (c .before .before .before .before .before .before .before .before .before .before .before .before .before .before .before .before .before .before .before .before .before .before .before .before .before .before .before .before .before .before .before .before .before .before .before .before .before .before .before .before .before .before .before .before .before .before .pre)
 
 -- src/lib.rt:232:18
 enum-known-d : tie.Need-enum-known-d
@@ -104,7 +107,7 @@ same-length-10 c = search needs
 
 -- src/lib.rt:233:9
 same-length-11 : tie.Need-same-length-11
-same-length-11 c = ?
+same-length-11 c = c .before .before .before .before .before .push-paths .kept .1 .0 ∙ c .before .before .before .before .before .before .before .before .before .before .before .before .before .before .before .before .before .before .before .before .before .before .before .before .before .before .before .before .before .before .before .before .before .before .take-first .kept .1 .0
 
 -- src/lib.rt:233:9
 same-length-12 : tie.Need-same-length-12
@@ -120,7 +123,7 @@ same-length-14 c = search needs
 
 -- src/lib.rt:233:9
 returns-3 : tie.Need-returns-3
-returns-3 c = ?
+returns-3 c = next-full _ _ _ _ _ _ _ _ _ _ _ _ _ _ _ (c .before .before .before .before .before .before .before .before .before .before .before .before .before .before .before .before .before .before .before .before .before .before .before .before .before .before .before .before .before .before .before .before .before .before .before .before .before .before .too-many .ensures) (c .before .before .before .before .before .before .before .before .before .before .before .before .before .before .before .before .before .before .before .before .before .before .before .before .before .before .before .before .before .before .before .before .before .before .before .before .before .if1 .left) _ _ (c .before .before .before .before .before .before .before .before .before .before .before .before .before .before .before .before .before .before .before .before .before .before .before .before .before .before .before .before .before .before .before .before .before .before .take-first .ensures) (c .before .before .before .before .before .before .before .before .before .before .before .before .before .before .before .before .before .before .before .before .before .before .before .before .before .before .before .before .before .before .before .before .before .before .take-first .kept .1 .0) _ _ _ _ _ _ (c .before .before .before .before .before .before .before .before .before .before .before .before .before .before .before .before .before .before .before .before .before .before .before .before .take-path .ensures) _ (c .before .before .before .before .before .before .before .before .before .before .r .given .1) _ (c .before .before .before .before .before .before .first-new .ensures) _ _ (c .before .before .before .before .before .push-paths .ensures) _ (c .before .enum-told2 .given .1) _ (c .step-refusal2 .ensures)
 
 -- src/lib.rt:199:1
 same-length-15 : tie.Need-same-length-15
@@ -136,7 +139,7 @@ same-length-17 c = search needs
 
 -- src/lib.rt:199:1
 same-length-18 : tie.Need-same-length-18
-same-length-18 c = ?
+same-length-18 c = c .before .before .before .before .before .push-paths .kept .1 .0 ∙ c .before .before .before .before .before .before .before .before .before .before .before .before .before .before .before .before .before .before .before .before .before .before .before .before .before .before .before .before .before .before .before .before .before .before .take-first .kept .1 .0
 
 -- src/lib.rt:199:1
 same-length-19 : tie.Need-same-length-19
@@ -152,7 +155,7 @@ same-length-21 c = search needs
 
 -- src/lib.rt:199:1
 returns-4 : tie.Need-returns-4
-returns-4 c = ?
+returns-4 c = next-more _ _ _ _ _ _ _ _ _ _ _ _ _ _ _ (c .before .before .before .before .before .before .before .before .before .before .before .before .before .before .before .before .before .before .before .before .before .before .before .before .before .before .before .before .before .before .before .before .before .before .before .before .before .before .too-many .ensures) (c .before .before .before .before .before .before .before .before .before .before .before .before .before .before .before .before .before .before .before .before .before .before .before .before .before .before .before .before .before .before .before .before .before .before .before .before .before .if1 .left) _ _ (c .before .before .before .before .before .before .before .before .before .before .before .before .before .before .before .before .before .before .before .before .before .before .before .before .before .before .before .before .before .before .before .before .before .before .take-first .ensures) (c .before .before .before .before .before .before .before .before .before .before .before .before .before .before .before .before .before .before .before .before .before .before .before .before .before .before .before .before .before .before .before .before .before .before .take-first .kept .1 .0) _ _ _ _ _ _ (c .before .before .before .before .before .before .before .before .before .before .before .before .before .before .before .before .before .before .before .before .before .before .before .before .take-path .ensures) _ (c .before .before .before .before .before .before .before .before .before .before .r .given .1) _ (c .before .before .before .before .before .before .first-new .ensures) _ _ (c .before .before .before .before .before .push-paths .ensures) _ (c .before .d .given .1) (c .before .before .before .before .before .before .before .before .before .before .before .before .before .before .before .before .before .before .before .before .before .before .before .before .take-path .kept .1 .1 .1 .1 .1 .1 .0) (c .before .before .before .before .before .before .before .before .before .before .before .before .before .before .before .before .before .before .before .before .before .before .before .before .take-path .kept .1 .1 .1 .1 .1 .1 .1 .0) (c .before .before .before .before .before .before .before .before .before .before .before .before .before .before .before .before .before .before .before .before .before .before .before .before .take-path .kept .1 .1 .1 .1 .1 .1 .1 .1 .0) (c .before .before .before .before .before .before .before .before .before .before .before .before .before .before .before .before .before .before .before .before .before .before .before .before .take-path .kept .1 .1 .1 .1 .1 .1 .1 .1 .1 .0) (c .before .before .before .before .before .push-paths .kept .1 .0)
 
 pub next-path-spec : {M : Type 1} → statement M
 next-path-spec =

@@ -1,0 +1,264 @@
+// The calls, each made as told and compared with the answer told.
+use crate::agree::LENT;
+use crate::agree::left;
+use crate::agree::same_bytes;
+use crate::agree::written;
+use crate::numbers::behind;
+use crate::numbers::field;
+use crate::numbers::least;
+use crate::numbers::wide;
+use caller::GraphAnswer;
+use limits::GraphMaxima;
+use limits::LengthsTold;
+use limits::SearchMaxima;
+ghost use Prim.Native.Nat.{_≤_};
+
+fn graph_maxima(call: &[u32], place: usize) -> GraphMaxima
+    requires { ⌜ place ≤ 16 ⌝ }
+{
+    GraphMaxima {
+        vertices: field(call, place),
+        edges: field(call, place + 1),
+        nodes: field(call, place + 2),
+    }
+}
+
+fn search_maxima(call: &[u32], place: usize) -> SearchMaxima
+    requires { ⌜ place ≤ 16 ⌝ }
+{
+    SearchMaxima {
+        path_edges: field(call, place),
+        active: field(call, place + 1),
+        pushes: field(call, place + 2),
+    }
+}
+
+// ---- lengths: k, paths, maxima; refusal, rows of edges and nodes, paths, bases, origins
+
+pub fn lengths_agree(call: &[u32]) -> bool {
+    let told = limits::lengths(
+        field(call, 1),
+        field(call, 2),
+        graph_maxima(call, 3),
+        search_maxima(call, 6),
+    );
+    if told.refusal != field(call, 9) {
+        return false;
+    }
+    if told.edges != wide(field(call, 10)) * 6 {
+        return false;
+    }
+    if told.nodes != wide(field(call, 11)) * 4 {
+        return false;
+    }
+    if told.paths != wide(field(call, 12)) {
+        return false;
+    }
+    if told.bases != wide(field(call, 13)) {
+        return false;
+    }
+    told.origins == wide(field(call, 14))
+}
+
+// ---- origin: sequence, place; refusal, bytes
+
+pub fn origin_agrees<'a>(
+    call: &[u32],
+    k: u32,
+    reference: &'a [u8],
+    ends: &[u32],
+    bases: &'a [u8],
+) -> bool {
+    let sequence = field(call, 1);
+    let place = field(call, 2);
+    let part = origins::origin_part(k, reference, ends, bases, sequence, place);
+    if part.refusal != field(call, 3) {
+        return false;
+    }
+    let bytes = origins::origin_bytes(k, reference, ends, bases, sequence, place);
+    if part.length != bytes.len() {
+        return false;
+    }
+    same_bytes(bytes, behind(call, 4))
+}
+
+// ---- graph: maxima, which slice is short; refusal, numbers of edges and nodes, their rows
+
+// How much of a slice is lent: as much as told, and one element fewer where it is to be short.
+fn lent(told: usize, room: usize, short: bool) -> usize
+    ensures { λ r. ⌜ r ≤ room ⌝ }
+{
+    let n = least(told, room);
+    if short && n > 0 {
+        return n - 1;
+    }
+    n
+}
+
+// The lengths told for a call for edges and trees, which has no search.
+fn told_for(k: u32, maxima: GraphMaxima) -> LengthsTold {
+    let search = SearchMaxima {
+        path_edges: 1,
+        active: 1,
+        pushes: 1,
+    };
+    limits::lengths(k, 0, maxima, search)
+}
+
+// What the workspace holds where it was told: a call refused by 1 to 7 touches nothing, any other leaves it zero.
+fn value_left(refusal: u32) -> u32 {
+    if 0 < refusal && refusal < 8 {
+        return LENT;
+    }
+    0
+}
+
+// Each slice of the workspace, and how much of it was told.
+fn workspace_left(
+    refusal: u32,
+    w_vertices: &[u32],
+    vertices: usize,
+    w_edges: &[u32],
+    edges: usize,
+    w_index: &[u32],
+    index: usize,
+    w_nodes: &[u32],
+    nodes: usize,
+    w_open: &[u32],
+    open: usize,
+) -> bool {
+    let value = value_left(refusal);
+    if !left(w_vertices, vertices, value) {
+        return false;
+    }
+    if !left(w_edges, edges, value) {
+        return false;
+    }
+    if !left(w_index, index, value) {
+        return false;
+    }
+    if !left(w_nodes, nodes, value) {
+        return false;
+    }
+    left(w_open, open, value)
+}
+
+fn graph_answered(call: &[u32], answer: GraphAnswer) -> bool {
+    if answer.refusal != field(call, 5) {
+        return false;
+    }
+    if answer.edges != field(call, 6) {
+        return false;
+    }
+    answer.nodes == field(call, 7)
+}
+
+// The rows of the edges, of six numbers each, and behind them those of the nodes.
+fn rows_written(call: &[u32], edges: &[u32], nodes: &[u32]) -> bool {
+    let rows = behind(call, 8);
+    let n = least(wide(field(call, 6)) * 6, rows.len());
+    if !written(edges, &rows[0..n]) {
+        return false;
+    }
+    written(nodes, &rows[n..])
+}
+
+// The call itself, in slices that hold LENT throughout.
+fn graph_agrees_in(
+    call: &[u32],
+    k: u32,
+    quality: u8,
+    reference: &[u8],
+    ends: &[u32],
+    bases: &[u8],
+    qualities: &[u8],
+    edges: &mut [u32],
+    nodes: &mut [u32],
+    w_vertices: &mut [u32],
+    w_edges: &mut [u32],
+    w_index: &mut [u32],
+    w_nodes: &mut [u32],
+    w_open: &mut [u32],
+) -> bool {
+    let maxima = graph_maxima(call, 1);
+    let short = field(call, 4);
+    let told = told_for(k, maxima);
+    let a = lent(told.edges, edges.len(), short == 1);
+    let b = lent(told.nodes, nodes.len(), short == 2);
+    let w = told.workspace;
+    let c = least(w.vertices, w_vertices.len());
+    let d = least(w.edges, w_edges.len());
+    let e = least(w.index, w_index.len());
+    let f = least(w.nodes, w_nodes.len());
+    let g = least(w.open, w_open.len());
+    let answer = caller::graph(
+        k,
+        quality,
+        reference,
+        ends,
+        bases,
+        qualities,
+        maxima,
+        &mut edges[0..a],
+        &mut nodes[0..b],
+        &mut w_vertices[0..c],
+        &mut w_edges[0..d],
+        &mut w_index[0..e],
+        &mut w_nodes[0..f],
+        &mut w_open[0..g],
+    );
+    if !graph_answered(call, answer) {
+        return false;
+    }
+    if !rows_written(call, edges, nodes) {
+        return false;
+    }
+    workspace_left(
+        answer.refusal,
+        w_vertices,
+        c,
+        w_edges,
+        d,
+        w_index,
+        e,
+        w_nodes,
+        f,
+        w_open,
+        g,
+    )
+}
+
+// Each call is made in slices of its own, as long as the limits allow, so that nothing of an earlier one can help it.
+pub fn graph_agrees(
+    call: &[u32],
+    k: u32,
+    quality: u8,
+    reference: &[u8],
+    ends: &[u32],
+    bases: &[u8],
+    qualities: &[u8],
+) -> bool {
+    let mut edges = [LENT; 49152];
+    let mut nodes = [LENT; 65536];
+    let mut w_vertices = [LENT; 49152];
+    let mut w_edges = [LENT; 49152];
+    let mut w_index = [LENT; 8192];
+    let mut w_nodes = [LENT; 81925];
+    let mut w_open = [LENT; 32768];
+    graph_agrees_in(
+        call,
+        k,
+        quality,
+        reference,
+        ends,
+        bases,
+        qualities,
+        &mut edges,
+        &mut nodes,
+        &mut w_vertices,
+        &mut w_edges,
+        &mut w_index,
+        &mut w_nodes,
+        &mut w_open,
+    )
+}

@@ -1,0 +1,168 @@
+// The cases: a sample, and the calls that are made on it.
+use crate::calls::graph_agrees;
+use crate::calls::lengths_agree;
+use crate::calls::origin_agrees;
+use crate::numbers::field;
+use crate::numbers::list_at;
+use crate::numbers::low_byte;
+use crate::numbers::unpack;
+use std::num::wrapping_add_u64;
+
+pub enum Verdict {
+    Passed,
+    Failed,
+    Skipped,
+}
+
+pub struct Total {
+    pub passed: u64,
+    pub failed: u64,
+    pub skipped: u64,
+}
+
+fn judged(agrees: bool) -> Verdict {
+    if agrees {
+        return Verdict::Passed;
+    }
+    Verdict::Failed
+}
+
+// Tells the number of a call that failed, counted from 1 over all files.
+fn report(total: Total) {
+    let before = wrapping_add_u64(total.passed, wrapping_add_u64(total.failed, total.skipped));
+    io::write_all(1, b"not as told: call ");
+    io::print_decimal(1, wrapping_add_u64(before, 1));
+    io::write_all(1, b"\n");
+}
+
+fn counted(total: Total, verdict: Verdict) -> Total {
+    match verdict {
+        Verdict::Passed => Total {
+            passed: wrapping_add_u64(total.passed, 1),
+            failed: total.failed,
+            skipped: total.skipped,
+        },
+        Verdict::Failed => {
+            report(total);
+            Total {
+                passed: total.passed,
+                failed: wrapping_add_u64(total.failed, 1),
+                skipped: total.skipped,
+            }
+        }
+        Verdict::Skipped => Total {
+            passed: total.passed,
+            failed: total.failed,
+            skipped: wrapping_add_u64(total.skipped, 1),
+        },
+    }
+}
+
+// A call's first number is its kind. A call for the list, 4, is skipped until there is one to make.
+fn replay_call<'a>(
+    call: &[u32],
+    k: u32,
+    quality: u8,
+    reference: &'a [u8],
+    ends: &[u32],
+    bases: &'a [u8],
+    qualities: &[u8],
+) -> Verdict {
+    let kind = field(call, 0);
+    match kind {
+        1 => judged(graph_agrees(call, k, quality, reference, ends, bases, qualities)),
+        2 => judged(origin_agrees(call, k, reference, ends, bases)),
+        3 => judged(lengths_agree(call)),
+        4 => Verdict::Skipped,
+        _ => Verdict::Failed,
+    }
+}
+
+// All calls of a case, the lists from a place on.
+fn replay_calls<'a>(
+    case: &[u32],
+    place: usize,
+    k: u32,
+    quality: u8,
+    reference: &'a [u8],
+    ends: &[u32],
+    bases: &'a [u8],
+    qualities: &[u8],
+    total: Total,
+) -> Total {
+    let mut sum = total;
+    let mut at = place;
+    while at < case.len() {
+        let call = list_at(case, at);
+        let start = call.start;
+        let end = call.end;
+        let verdict = replay_call(
+            &case[start..end],
+            k,
+            quality,
+            reference,
+            ends,
+            bases,
+            qualities,
+        );
+        sum = counted(sum, verdict);
+        at = end;
+    }
+    sum
+}
+
+// The lists from a place on: where reads end, bases, qualities; then the calls.
+fn replay_reads(case: &[u32], place: usize, reference: &[u8], total: Total) -> Total {
+    let mut bases = [0u8; 40960];
+    let mut qualities = [0u8; 40960];
+    let part = list_at(case, place);
+    let a = part.start;
+    let b = part.end;
+    let part = list_at(case, b);
+    let c = part.start;
+    let d = part.end;
+    let base_count = unpack(&case[c..d], &mut bases);
+    let part = list_at(case, d);
+    let e = part.start;
+    let f = part.end;
+    let quality_count = unpack(&case[e..f], &mut qualities);
+    replay_calls(
+        case,
+        f,
+        field(case, 0),
+        low_byte(field(case, 1)),
+        reference,
+        &case[a..b],
+        &bases[0..base_count],
+        &qualities[0..quality_count],
+        total,
+    )
+}
+
+// A case: k, the minimum quality, the reference as a list, the reads and the calls.
+fn replay_case(case: &[u32], total: Total) -> Total {
+    let mut reference = [0u8; 2048];
+    let part = list_at(case, 2);
+    let a = part.start;
+    let b = part.end;
+    let length = unpack(&case[a..b], &mut reference);
+    replay_reads(case, b, &reference[0..length], total)
+}
+
+// All cases, the lists of the data.
+pub fn replay(numbers: &[u32]) -> Total {
+    let mut total = Total {
+        passed: 0,
+        failed: 0,
+        skipped: 0,
+    };
+    let mut at: usize = 0;
+    while at < numbers.len() {
+        let case = list_at(numbers, at);
+        let start = case.start;
+        let end = case.end;
+        total = replay_case(&numbers[start..end], total);
+        at = end;
+    }
+    total
+}
