@@ -39,6 +39,7 @@ settingOf a b least =
       asked = a .asked;
     }
 
+-- the sizes of the graph fit the fields of the settings
 pub record Small (b : Raise) : Type 0 where
   pub edges : b .edges < 2 ^ 32
   pub vertices : b .vertices < 2 ^ 32

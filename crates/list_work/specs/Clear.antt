@@ -1,8 +1,8 @@
 -- The tables that the build asks to be zero. Assumes nothing.
-use mathlib.Core.Path.{_≡_, refl, sym, ap, _∙_}
+use mathlib.Core.Path.{_≡_, refl, ap, _∙_}
 use mathlib.Core.List.{List, _++_, append-nil}
-use Prim.Native.Nat.{ℕ, zero, suc, _+_}
-use lib.ListN.{length, getD, drop, replicate, length-replicate}
+use Prim.Native.Nat.{ℕ, zero, suc}
+use lib.ListN.{length, getD, replicate, length-replicate}
 use lib.Seq.{drop-length}
 use Rattle.definition.specs.Calls.{writtenAt}
 use Rattle.graph_rows.specs.Zeros.{written-zeros}

@@ -2,14 +2,14 @@
 use mathlib.Core.Path.{_≡_, sym, ap, _∙_}
 use mathlib.Core.Bool.{true, _&&_}
 use mathlib.Core.List.{List}
-use Prim.Native.Nat.{ℕ, _+_, _*_, _<_, _≤_}
+use Prim.Native.Nat.{ℕ, _≤_}
 use native.Mathlib.Omega.{arith}
 use lib.Dec.{leb}
 use lib.ListN.{length}
 use borrow.Author.Tests.{leb-true}
 use Rattle.laws.specs.ListLaws.{and-right}
 use Rattle.laws.specs.Numbers.{within}
-use Rattle.definition.specs.Refusal.{Result, ok, refused, firstBroken}
+use Rattle.definition.specs.Refusal.{ok, refused, firstBroken}
 use Rattle.definition.specs.Limits.{Sample, GraphMaxima, graphMaximaFit, sampleRules}
 use Rattle.definition.specs.Building.{built}
 use Rattle.assembly.specs.Index.{Finding}

@@ -1,25 +1,23 @@
 -- The search and the list over a raised graph: what each part asks, and what the answer is to the definition. Assumes nothing.
 use mathlib.Core.Path.{_≡_, refl, sym, ap, subst, _∙_}
-use mathlib.Core.Bool.{Bool, true, false, _&&_}
-use mathlib.Core.List.{List, [], _∷_, _++_, map}
-use mathlib.Core.Option.{none, some}
-use Prim.Native.Nat.{ℕ, zero, suc, _+_, _*_, _^_, _<_, _≤_, max}
+use mathlib.Core.Bool.{false}
+use mathlib.Core.List.{List, _++_, map}
+use mathlib.Core.Option.{some}
+use Prim.Native.Nat.{ℕ, _+_, _*_, _^_, _<_, _≤_, max}
 use native.Mathlib.Omega.{arith}
 use native.Mathlib.Nat.{mul-le-mul, mul-le-mul-right}
-use lib.Dec.{leb, eqb}
+use lib.Dec.{eqb}
 use lib.ListN.{length, take, length-map, length-append}
 use lib.Seq.{length-take-le}
 use lib.Ieee.{Float}
 use borrow.Author.Tests.{ne-eqb, eq-eqb}
 use Rattle.laws.specs.Records.{field, field-other}
-use Rattle.definition.specs.Refusal.{Result, ok, refused, firstBroken}
-use Rattle.definition.specs.Limits.{Sample, Input, basesStride, sampleRules, settingsFit}
-use Rattle.definition.specs.Score.{Scoring, columnScoring}
-use Rattle.definition.specs.Threading.{Origin, threaded, withSymbolic}
-use Rattle.definition.specs.Search.{SearchInput, State, Turn, more, ended, failed, full, search}
+use Rattle.definition.specs.Refusal.{Result, ok, firstBroken}
+use Rattle.definition.specs.Limits.{Input, basesStride, sampleRules}
+use Rattle.definition.specs.Score.{columnScoring}
+use Rattle.definition.specs.Search.{SearchInput, Turn, search}
 use Rattle.definition.specs.Building.{Built, built}
-use Rattle.definition.specs.Listing.{Row, rowOf, listOrder, searchInput, Answer, refusal, listed, listOf, answerOf, afterBuild}
-use Rattle.definition.specs.Calls.{writtenAt, writtenRows}
+use Rattle.definition.specs.Listing.{Row, rowOf, listOrder, searchInput, refusal, listed, listOf, answerOf, afterBuild}
 use Rattle.definition.proofs.Column.{NotNan, column-keeps}
 use Rattle.definition.proofs.Walks.{GoodState, Numbered}
 use Rattle.definition.proofs.Turns.{lastOf, search-reached}
@@ -33,13 +31,12 @@ use Rattle.fork_offers.specs.Actives.{Least}
 use Rattle.search_state.specs.declared.Setting.{Setting}
 use Rattle.search_state.specs.declared.Progress.{Progress}
 use Rattle.search_state.specs.Ground.{Ground}
-use Rattle.search_state.specs.State.{Room}
 use Rattle.search_ground.specs.Ground.{builtFor, settingFor, Lies, ground-tables, ground-of}
 use Rattle.junction_kbest.specs.declared.Search.{Search}
-use Rattle.junction_kbest.specs.declared.Search.the-variants as search
+use Rattle.junction_kbest.specs.declared.Search.the-variants.{Paths, Refused}
 use Rattle.junction_kbest.specs.Turn.{Stopped, fails, fills}
 use Rattle.junction_kbest.specs.Find.{searched, Finds, Ended, Found}
-use Rattle.path_list.specs.Told.{Shows, Told}
+use Rattle.path_list.specs.Told.{Shows}
 use Rattle.path_list.specs.List as list
 use Rattle.path_list.specs.Ended.{ended-listable, ended-shows}
 use Rattle.list_work.specs.declared.ListAnswer.{ListAnswer}
@@ -51,13 +48,14 @@ use Rattle.list_work.specs.Raise.{RaisedAt, raised-built}
 use Rattle.list_work.specs.Chains.{Chains, Chained, Small}
 
 abbrev pub searchRefusal : Search → ℕ
-searchRefusal (search.Paths p) = 0
-searchRefusal (search.Refused n) = n
+searchRefusal (Paths p) = 0
+searchRefusal (Refused n) = n
 
 -- the answer of a search that has ended
 abbrev pub foundAnswer : Progress → ListAnswer
 foundAnswer p = record { refusal = 0; paths = p .closed; pushes = p .pushes; mark = p .mark }
 
+-- its numbers fit the fields of the answer
 pub record Told32 (p : Progress) : Type 0 where
   pub closed : p .closed < 2 ^ 32
   pub pushes : p .pushes < 2 ^ 32
@@ -221,14 +219,14 @@ module _ {i : Input} {o : Outputs} {w : Tables} {b : Raise} (q : Searches i o w 
       searched-is : search (columnScoring (i .column)) (searchInput i (builtFor (i .sample))) (i .asked) (i .searchMaxima .pushes) (i .recovery) ≡ searched (i .column) f g (i .recovery)
       searched-is = sym (ap (λ (h : Setting). searched (i .column) f h (i .recovery)) ge)
 
-      pub search-stop : {n : ℕ} → r ≡ search.Refused n → {m : ℕ} → m ≡ searchRefusal r → {a : ListAnswer} → a ≡ refusedAnswer m → Listed i (found i) a o o
+      pub search-stop : {n : ℕ} → r ≡ Refused n → {m : ℕ} → m ≡ searchRefusal r → {a : ListAnswer} → a ≡ refusedAnswer m → Listed i (found i) a o o
       search-stop {n} d e {a} h =
           let s : Stopped (searched (i .column) f g (i .recovery)) n = rw d at (F .is f ground) in
           listed-refused i (found i) n a o
           (found-is i (q .some) (raised-built (q .raised)) _ searched-is ∙ none-stopped i (searched (i .column) f g (i .recovery)) n s)
           (h ∙ ap refusedAnswer (e ∙ ap searchRefusal d))
 
-      module _ {p : Progress} (d : r ≡ search.Paths p) where
+      module _ {p : Progress} (d : r ≡ Paths p) where
         there : Ended f g (w .edges) (w .nodes) only₁ to₁ (i .column) (i .recovery) t′ sc′ ac′ queue′ shut′ order′ marks′ p
         there = rw d at (F .is f ground)
 

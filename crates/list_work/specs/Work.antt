@@ -1,16 +1,16 @@
 -- The whole work: the graph and its trees, then the search over the parts of the tables that they fill. Assumes nothing.
-use mathlib.Core.Path.{_≡_, refl, sym, ap, _∙_}
+use mathlib.Core.Path.{_≡_, ap, _∙_}
 use mathlib.Core.Logic.{_≢_}
 use mathlib.Core.List.{List}
 use Prim.Native.Nat.{ℕ, _+_, _*_, _<_, _≤_, max}
 use native.Mathlib.Omega.{arith}
 use lib.ListN.{length, take}
 use lib.Seq.{length-take-le}
-use Rattle.definition.specs.Refusal.{Result, ok, refused}
+use Rattle.definition.specs.Refusal.{Result, refused}
 use Rattle.definition.specs.Limits.{Input}
 use Rattle.definition.specs.Score.{columnScoring}
 use Rattle.definition.specs.Building.{Built, built}
-use Rattle.definition.specs.Listing.{refusal, afterBuild}
+use Rattle.definition.specs.Listing.{afterBuild}
 use Rattle.limits.specs.Workspaces.{openTrees}
 use Rattle.limits.specs.Bounds.{settings-most}
 use Rattle.search_ground.specs.Exact.{built-exact}

@@ -3,9 +3,6 @@ use Rattle.list_work.specs.Clear.{zero-of}
 use borrow.Author.Needs.{needs}
 use Rattle.list_work.proofs.clear_tables.Statement.{statement}
 use Rattle.list_work.proofs.clear_tables.Tie as tie
-use Rattle.list_work.proofs.clear_tables.Reads as reads
-use Rattle.list_work.proofs.clear_tables.Lts as lts
-use Rattle.graph_rows.proofs.clear.Reads as clear-reads
 
 -- src/lib.rt:86:5
 clear-requires : tie.Need-clear-requires

@@ -3,10 +3,6 @@ use Rattle.list_work.specs.Chains.{chain-tables}
 use borrow.Author.Needs.{needs}
 use Rattle.list_work.proofs.lay_chains.Statement.{statement}
 use Rattle.list_work.proofs.lay_chains.Tie as tie
-use Rattle.list_work.proofs.lay_chains.Reads as reads
-use Rattle.list_work.proofs.lay_chains.Lts as lts
-use Rattle.assembly.proofs.link_symbolic_edge.Reads as link-symbolic-edge-reads
-use Rattle.search_ground.proofs.chain_tables.Reads as chain-tables-reads
 
 -- src/lib.rt:220:5
 link-symbolic-edge-requires : tie.Need-link-symbolic-edge-requires

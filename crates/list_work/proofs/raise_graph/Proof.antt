@@ -4,13 +4,6 @@ use Rattle.list_work.specs.Raise.{raise-builds, raise-fresh, raise-eight
 use borrow.Author.Needs.{needs}
 use Rattle.list_work.proofs.raise_graph.Statement.{statement}
 use Rattle.list_work.proofs.raise_graph.Tie as tie
-use Rattle.list_work.proofs.raise_graph.Reads as reads
-use Rattle.list_work.proofs.raise_graph.Lts as lts
-use Rattle.junction_tree_graph.proofs.build_graph.Reads as build-graph-reads
-use Rattle.junction_trees.proofs.build_trees.Reads as build-trees-reads
-use Rattle.list_work.proofs.clear_tables.Reads as clear-tables-reads
-use Rattle.list_work.proofs.graph_refusal.Reads as graph-refusal-reads
-use Rattle.list_work.proofs.trees_refusal.Reads as trees-refusal-reads
 
 -- src/lib.rt:107:16
 cast-size : tie.Need-cast-size

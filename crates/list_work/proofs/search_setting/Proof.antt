@@ -7,9 +7,6 @@ use Rattle.fork_offers.specs.Actives.{Least}
 use borrow.Author.Needs.{needs}
 use Rattle.list_work.proofs.search_setting.Statement.{statement}
 use Rattle.list_work.proofs.search_setting.Tie as tie
-use Rattle.list_work.proofs.search_setting.Reads as reads
-use Rattle.list_work.proofs.search_setting.Lts as lts
-use Rattle.fork_offers.proofs.least_total.Reads as least-total-reads
 
 -- src/lib.rt:198:9
 least-total-requires : tie.Need-least-total-requires
