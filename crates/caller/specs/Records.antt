@@ -12,8 +12,9 @@ use Rattle.laws.specs.Numbers.{within}
 use Rattle.definition.specs.Limits.{Input}
 use Rattle.definition.specs.Calls.{writtenAt, workspaceAfter, ListSlices, ListOutcome, listCall}
 use Rattle.limits.specs.Workspaces.{rowColumns}
-use Rattle.list_call.specs.declared.ListAnswer.{ListAnswer}
-use Rattle.list_call.specs.Outcome.{Outputs, Tables, tablesAfter, floatZero}
+use Rattle.list_work.specs.declared.ListAnswer.{ListAnswer}
+use Rattle.list_work.specs.Outcome.{Outputs, Tables}
+use Rattle.list_call.specs.Outcome.{tablesAfter, floatZero}
 use Rattle.list_call.specs.Lent.{workspaceTold, workspaceLent}
 use Rattle.list_call.specs.Within.{lengthsOf}
 use Rattle.path_rows.specs.declared.PathRow.{PathRow}

@@ -12,10 +12,10 @@ use limits::GraphMaxima;
 use limits::LengthsTold;
 use limits::SearchMaxima;
 use limits::check_graph;
-use list_call::ListAnswer;
-use list_call::Settings;
 use list_call::clear_scores;
 use list_call::list_columns;
+use list_work::ListAnswer;
+use list_work::Settings;
 use origins::OriginAnswer;
 use path_rows::PathRow;
 use threading_tree::write_nodes;
@@ -32,8 +32,8 @@ ghost use Rattle.caller.specs.Outcome.{outcome, refusedAnswer, graphRefu
 ghost use Rattle.caller.specs.Clear.{Zeroed};
 ghost use Rattle.caller.specs.Fill.{Fills, Writes, Wrote};
 ghost use Rattle.caller.specs.Made.{Made};
-ghost use Rattle.list_call.specs.Rules.{inputFor};
-ghost use Rattle.list_call.specs.Outcome.{outputsOf, tablesOf};
+ghost use Rattle.list_work.specs.Works.{inputFor};
+ghost use Rattle.list_work.specs.Outcome.{outputsOf, tablesOf};
 ghost use Rattle.caller.specs.Records.{columnsTold, ColumnsFit, Cleared, ListCalled};
 
 // The answer of `graph`: a refusal, or how many rows of edges and of nodes were written.

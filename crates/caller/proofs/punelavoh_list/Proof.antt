@@ -46,17 +46,17 @@ use denote.Exit.{yes}
 use Rattle.caller.proofs.Again.{LentAgain, lends-again, comes-back}
 use Rattle.caller.proofs.Sharing.{shares-on}
 use Rattle.caller.proofs.Leaving.{resumes, frees-all}
-use Rattle.list_call.specs.declared.Settings.{Settings}
-use Rattle.list_call.proofs.Settings as S
-use Rattle.list_call.proofs.Settings.Laws as S′
-use Rattle.list_call.specs.declared.ListAnswer.{ListAnswer}
-use Rattle.list_call.proofs.ListAnswer as O
-use Rattle.list_call.proofs.ListAnswer.Laws as O′
+use Rattle.list_work.specs.declared.Settings.{Settings}
+use Rattle.list_work.proofs.Settings as S
+use Rattle.list_work.proofs.Settings.Laws as S′
+use Rattle.list_work.specs.declared.ListAnswer.{ListAnswer}
+use Rattle.list_work.proofs.ListAnswer as O
+use Rattle.list_work.proofs.ListAnswer.Laws as O′
 use Rattle.path_rows.specs.declared.PathRow.{PathRow}
 use Rattle.path_rows.proofs.PathRow as T
 use Rattle.path_rows.proofs.PathRow.Laws as T′
-use Rattle.list_call.specs.Rules.{inputFor}
-use Rattle.list_call.specs.Outcome.{outputsOf, tablesOf as workspaceOf}
+use Rattle.list_work.specs.Works.{inputFor}
+use Rattle.list_work.specs.Outcome.{outputsOf, tablesOf as workspaceOf}
 use Rattle.list_call.specs.Within.{Called}
 use Rattle.path_rows.specs.Rows.{Filled}
 use Rattle.caller.specs.Records.{columnsTold, ColumnsFit, Cleared, ListCalled}
