@@ -7,7 +7,7 @@
 int main(void) {
     const uint8_t reference[] = "CAACTGG", bases[] = "CAAGTGGCAACTGGCAACTGG", qualities[] = "IIIIIIIIIIIIIIIIIIIII";
     const uint32_t ends[] = {7, 14, 21};
-    Settings a = {3, 10, 2, 3, false, {128, 256, 256}, {16, 8, 64}};
+    Settings a = {3, 10, 2, 9, false, {128, 256, 256}, {16, 8, 64}};
     LengthsTold told = punelavoh_lengths(a.k, a.asked, a.graph, a.search);
     double column[64] = {0};
     for (int i = 1; i < 64; i++)
