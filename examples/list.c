@@ -1,0 +1,37 @@
+/* The list of CAACTGG with the reads CAAGTGG, CAACTGG and CAACTGG, two paths asked: score, bases, and each edge's origin. Link with -lm. */
+#include "punelavoh.h"
+#include <math.h>
+#include <stdio.h>
+#include <stdlib.h>
+
+int main(void) {
+    const uint8_t reference[] = "CAACTGG", bases[] = "CAAGTGGCAACTGGCAACTGG", qualities[] = "IIIIIIIIIIIIIIIIIIIII";
+    const uint32_t ends[] = {7, 14, 21};
+    Settings a = {3, 10, 2, 9, false, {128, 256, 256}, {16, 8, 64}};
+    LengthsTold told = punelavoh_lengths(a.k, a.asked, a.graph, a.search);
+    double column[64] = {0};
+    for (int i = 1; i < 64; i++)
+        column[i] = log10(i);
+    PathRow *rows = calloc(told.paths, sizeof(PathRow));
+    uint8_t *path_bases = calloc(told.bases, 1);
+    uint32_t *sequences = calloc(told.origins, 4), *places = calloc(told.origins, 4);
+    Workspace w = told.workspace;
+    size_t lengths[] = {w.vertices, w.edges, w.index, w.nodes, w.targets, w.paths, w.active, w.queue, w.closed, w.order, w.marks, w.walks,
+        w.columns, w.columns};
+    uint32_t *s[14];
+    for (int i = 0; i < 14; i++)
+        s[i] = calloc(lengths[i], 4);
+    double *scores = calloc(w.scores, 8), *row_scores = calloc(w.columns, 8);
+    ListAnswer l = punelavoh_list(a, reference, 7, ends, 3, bases, 21, qualities, 21, column, 64, rows, told.paths, path_bases, told.bases, sequences,
+        told.origins, places, told.origins, s[0], w.vertices, s[1], w.edges, s[2], w.index, s[3], w.nodes, s[4], w.targets, s[5], w.paths,
+        scores, w.scores, s[6], w.active, s[7], w.queue, s[8], w.closed, s[9], w.order, s[10], w.marks, s[11], w.walks, row_scores, w.columns,
+        s[12], w.columns, s[13], w.columns);
+    printf("refusal %u paths %u pushes %u\n", l.refusal, l.paths, l.pushes);
+    for (uint32_t r = 0; r < l.paths; r++) {
+        printf("%f %.*s", rows[r].score, (int)(a.k + rows[r].edges), (char *)path_bases + r * (a.k + a.search.path_edges));
+        for (uint32_t e = 0; e < rows[r].edges; e++)
+            printf(" %u:%u", sequences[r * a.search.path_edges + e], places[r * a.search.path_edges + e]);
+        printf("\n");
+    }
+    return 0;
+}
