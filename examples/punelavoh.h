@@ -7,8 +7,9 @@
 typedef struct { uint32_t vertices, edges, nodes; } GraphMaxima;
 typedef struct { uint32_t path_edges, active, pushes; } SearchMaxima;
 
-/* Elements of each workspace slice: uint32_t, but double for scores. */
-typedef struct { size_t vertices, edges, index, nodes, open, paths, scores, active, queue, pivotal; } Workspace;
+/* Elements of each workspace slice: uint32_t, but double for scores and for the first of the three columns. The call for edges and trees is lent the
+   first five; the call for the list all but open. */
+typedef struct { size_t vertices, edges, index, nodes, open, targets, paths, scores, active, queue, closed, order, marks, walks, columns; } Workspace;
 
 /* Elements of each output slice; there are two slices of `origins` numbers. */
 typedef struct { uint32_t refusal; size_t edges, nodes, paths, bases, origins; Workspace workspace; } LengthsTold;

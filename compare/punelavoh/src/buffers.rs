@@ -90,7 +90,7 @@ impl GraphBuffers {
 }
 
 #[cfg(feature = "list")]
-pub use listing::{list_workspace, ListBuffers, LIST_WORKSPACE};
+pub use listing::{list_scores, list_workspace, ListBuffers, LIST_WORKSPACE};
 
 /// The slices of the call for the list.
 #[cfg(feature = "list")]
@@ -98,12 +98,21 @@ mod listing {
     use crate::ffi::{list, Lengths, ListAnswer, ListSettings, ListSlices, PathRow, Sample, Workspace};
     use crate::lent::Lent;
 
-    /// The number slices of the workspace, in the call's order; the scores stand apart.
-    pub const LIST_WORKSPACE: [&str; 9] = ["vertices", "edges", "index", "nodes", "open", "paths", "active", "queue", "pivotal"];
+    /// The number slices of the workspace, in the call's order, the columns of numbers last; the scores stand apart.
+    pub const LIST_WORKSPACE: [&str; 14] =
+        ["vertices", "edges", "index", "nodes", "targets", "paths", "active", "queue", "closed", "order", "marks", "walks", "closings", "edge counts"];
 
     /// The lengths told of those.
-    pub fn list_workspace(w: &Workspace) -> [usize; 9] {
-        [w.vertices, w.edges, w.index, w.nodes, w.open, w.paths, w.active, w.queue, w.pivotal]
+    pub fn list_workspace(w: &Workspace) -> [usize; 14] {
+        [
+            w.vertices, w.edges, w.index, w.nodes, w.targets, w.paths, w.active, w.queue, w.closed, w.order, w.marks, w.walks, w.columns,
+            w.columns,
+        ]
+    }
+
+    /// The lengths told of the two slices of scores: those of all paths, and those of the rows.
+    pub fn list_scores(w: &Workspace) -> [usize; 2] {
+        [w.scores, w.columns]
     }
 
     pub struct ListBuffers {
@@ -111,12 +120,12 @@ mod listing {
         pub bases: Lent<u8>,
         pub sequences: Lent<u32>,
         pub places: Lent<u32>,
-        pub workspace: [Lent<u32>; 9],
-        pub scores: Lent<f64>,
+        pub workspace: [Lent<u32>; 14],
+        pub scores: [Lent<f64>; 2],
     }
 
     impl ListBuffers {
-        pub fn new(outputs: [usize; 4], workspace: [usize; 9], scores: usize, seed: u32) -> Self {
+        pub fn new(outputs: [usize; 4], workspace: [usize; 14], scores: [usize; 2], seed: u32) -> Self {
             let [rows, bases, sequences, places] = outputs;
             Self {
                 rows: Lent::new(rows, seed),
@@ -124,17 +133,19 @@ mod listing {
                 sequences: Lent::new(sequences, seed),
                 places: Lent::new(places, seed),
                 workspace: workspace.map(|n| Lent::new(n, seed)),
-                scores: Lent::new(scores, seed),
+                scores: scores.map(|n| Lent::new(n, seed)),
             }
         }
 
         /// Slices of exactly the lengths told.
         pub fn told(l: &Lengths) -> Self {
-            Self::new([l.paths, l.bases, l.origins, l.origins], list_workspace(&l.workspace), l.workspace.scores, 0)
+            Self::new([l.paths, l.bases, l.origins, l.origins], list_workspace(&l.workspace), list_scores(&l.workspace), 0)
         }
 
         pub fn call(&mut self, sample: Sample, settings: ListSettings) -> ListAnswer {
-            let [w_vertices, w_edges, w_index, w_nodes, w_open, w_paths, w_active, w_queue, w_pivotal] = &mut self.workspace;
+            let [w_vertices, w_edges, w_index, w_nodes, w_targets, w_paths, w_active, w_queue, w_closed, w_order, w_marks, w_walks, row_closings, row_edges] =
+                &mut self.workspace;
+            let [w_scores, row_scores] = &mut self.scores;
             let slices = ListSlices {
                 rows: self.rows.slice_mut(),
                 bases: self.bases.slice_mut(),
@@ -144,12 +155,18 @@ mod listing {
                 w_edges: w_edges.slice_mut(),
                 w_index: w_index.slice_mut(),
                 w_nodes: w_nodes.slice_mut(),
-                w_open: w_open.slice_mut(),
+                w_targets: w_targets.slice_mut(),
                 w_paths: w_paths.slice_mut(),
-                w_scores: self.scores.slice_mut(),
+                w_scores: w_scores.slice_mut(),
                 w_active: w_active.slice_mut(),
                 w_queue: w_queue.slice_mut(),
-                w_pivotal: w_pivotal.slice_mut(),
+                w_closed: w_closed.slice_mut(),
+                w_order: w_order.slice_mut(),
+                w_marks: w_marks.slice_mut(),
+                w_walks: w_walks.slice_mut(),
+                row_scores: row_scores.slice_mut(),
+                row_closings: row_closings.slice_mut(),
+                row_edges: row_edges.slice_mut(),
             };
             list(sample, settings, slices)
         }

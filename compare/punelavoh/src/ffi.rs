@@ -17,7 +17,7 @@ pub struct SearchMaxima {
     pub pushes: u32,
 }
 
-/// Lengths of the workspace slices, in elements: u32 but for `scores`, f64.
+/// Lengths of the workspace slices, in elements: u32 but for `scores` and the first of the three `columns`, f64.
 #[repr(C)]
 #[derive(Clone, Copy, Debug, Default, PartialEq)]
 pub struct Workspace {
@@ -26,11 +26,16 @@ pub struct Workspace {
     pub index: usize,
     pub nodes: usize,
     pub open: usize,
+    pub targets: usize,
     pub paths: usize,
     pub scores: usize,
     pub active: usize,
     pub queue: usize,
-    pub pivotal: usize,
+    pub closed: usize,
+    pub order: usize,
+    pub marks: usize,
+    pub walks: usize,
+    pub columns: usize,
 }
 
 #[repr(C)]
@@ -68,7 +73,7 @@ pub struct PathRow {
     pub score: f64,
     pub closing: u32,
     pub edges: u32,
-    pub is_ref: u32,
+    pub is_ref: u8,
 }
 
 #[repr(C)]
@@ -224,6 +229,18 @@ mod listing {
         pub column: &'a [f64],
     }
 
+    /// What a run is asked for, as the call takes it.
+    #[repr(C)]
+    struct Settings {
+        k: u32,
+        quality: u8,
+        asked: u32,
+        threshold: i32,
+        recovery: bool,
+        graph: GraphMaxima,
+        search: SearchMaxima,
+    }
+
     /// The slices that the call is lent.
     pub struct ListSlices<'a> {
         pub rows: &'a mut [PathRow],
@@ -234,23 +251,23 @@ mod listing {
         pub w_edges: &'a mut [u32],
         pub w_index: &'a mut [u32],
         pub w_nodes: &'a mut [u32],
-        pub w_open: &'a mut [u32],
+        pub w_targets: &'a mut [u32],
         pub w_paths: &'a mut [u32],
         pub w_scores: &'a mut [f64],
         pub w_active: &'a mut [u32],
         pub w_queue: &'a mut [u32],
-        pub w_pivotal: &'a mut [u32],
+        pub w_closed: &'a mut [u32],
+        pub w_order: &'a mut [u32],
+        pub w_marks: &'a mut [u32],
+        pub w_walks: &'a mut [u32],
+        pub row_scores: &'a mut [f64],
+        pub row_closings: &'a mut [u32],
+        pub row_edges: &'a mut [u32],
     }
 
     extern "C" {
         fn punelavoh_list(
-            k: u32,
-            quality: u8,
-            paths: u32,
-            threshold: i32,
-            recover: bool,
-            g: GraphMaxima,
-            s: SearchMaxima,
+            a: Settings,
             reference: *const u8,
             reference_length: usize,
             ends: *const u32,
@@ -277,8 +294,8 @@ mod listing {
             w_index_length: usize,
             w_nodes: *mut u32,
             w_nodes_length: usize,
-            w_open: *mut u32,
-            w_open_length: usize,
+            w_targets: *mut u32,
+            w_targets_length: usize,
             w_paths: *mut u32,
             w_paths_length: usize,
             w_scores: *mut f64,
@@ -287,22 +304,37 @@ mod listing {
             w_active_length: usize,
             w_queue: *mut u32,
             w_queue_length: usize,
-            w_pivotal: *mut u32,
-            w_pivotal_length: usize,
+            w_closed: *mut u32,
+            w_closed_length: usize,
+            w_order: *mut u32,
+            w_order_length: usize,
+            w_marks: *mut u32,
+            w_marks_length: usize,
+            w_walks: *mut u32,
+            w_walks_length: usize,
+            row_scores: *mut f64,
+            row_scores_length: usize,
+            row_closings: *mut u32,
+            row_closings_length: usize,
+            row_edges: *mut u32,
+            row_edges_length: usize,
         ) -> ListAnswer;
     }
 
     pub fn list(sample: Sample, settings: ListSettings, slices: ListSlices) -> ListAnswer {
+        let a = Settings {
+            k: sample.k,
+            quality: sample.quality,
+            asked: settings.paths,
+            threshold: settings.threshold,
+            recovery: settings.recover,
+            graph: settings.graph,
+            search: settings.search,
+        };
         // SAFETY: as for the call for edges and trees. A path row is numbers only, so that whatever is written there is one.
         unsafe {
             punelavoh_list(
-                sample.k,
-                sample.quality,
-                settings.paths,
-                settings.threshold,
-                settings.recover,
-                settings.graph,
-                settings.search,
+                a,
                 sample.reference.as_ptr(),
                 sample.reference.len(),
                 sample.ends.as_ptr(),
@@ -329,8 +361,8 @@ mod listing {
                 slices.w_index.len(),
                 slices.w_nodes.as_mut_ptr(),
                 slices.w_nodes.len(),
-                slices.w_open.as_mut_ptr(),
-                slices.w_open.len(),
+                slices.w_targets.as_mut_ptr(),
+                slices.w_targets.len(),
                 slices.w_paths.as_mut_ptr(),
                 slices.w_paths.len(),
                 slices.w_scores.as_mut_ptr(),
@@ -339,8 +371,20 @@ mod listing {
                 slices.w_active.len(),
                 slices.w_queue.as_mut_ptr(),
                 slices.w_queue.len(),
-                slices.w_pivotal.as_mut_ptr(),
-                slices.w_pivotal.len(),
+                slices.w_closed.as_mut_ptr(),
+                slices.w_closed.len(),
+                slices.w_order.as_mut_ptr(),
+                slices.w_order.len(),
+                slices.w_marks.as_mut_ptr(),
+                slices.w_marks.len(),
+                slices.w_walks.as_mut_ptr(),
+                slices.w_walks.len(),
+                slices.row_scores.as_mut_ptr(),
+                slices.row_scores.len(),
+                slices.row_closings.as_mut_ptr(),
+                slices.row_closings.len(),
+                slices.row_edges.as_mut_ptr(),
+                slices.row_edges.len(),
             )
         }
     }

@@ -82,8 +82,9 @@ fn graph_told(k: u32, maxima: &GraphMaxima) -> Lengths {
 /// Bytes of all slices told.
 fn bytes_told(l: &Lengths) -> usize {
     let w = &l.workspace;
-    let numbers = l.edges + l.nodes + 2 * l.origins + w.vertices + w.edges + w.index + w.nodes + w.open + w.paths + w.active + w.queue + w.pivotal;
-    4 * numbers + 8 * w.scores + l.bases + l.paths * size_of::<punelavoh::PathRow>()
+    let graph = w.vertices + w.edges + w.index + w.nodes + w.open;
+    let search = w.targets + w.paths + w.active + w.queue + w.closed + w.order + w.marks + w.walks + 2 * w.columns;
+    4 * (l.edges + l.nodes + 2 * l.origins + graph + search) + 8 * (w.scores + w.columns) + l.bases + l.paths * size_of::<punelavoh::PathRow>()
 }
 
 fn check_lengths(k: u32, paths: u32, graph: &GraphMaxima, search: &SearchMaxima, expected: &Outcome<Told>) -> Checked<()> {
@@ -191,10 +192,10 @@ impl Subject for Library {
 mod listing {
     use super::*;
     use crate::answers::PathWritten;
-    use punelavoh::buffers::{list_workspace, ListBuffers, LIST_WORKSPACE};
+    use punelavoh::buffers::{list_scores, list_workspace, ListBuffers, LIST_WORKSPACE};
     use punelavoh::{ListSettings, PathRow};
 
-    /// The number slices of the workspace as `Slice` numbers them, the scores behind.
+    /// The number slices of the workspace as `Slice` numbers them, the two of scores behind.
     const SCORES: usize = LIST_WORKSPACE.len();
 
     pub fn check_list(sample: &Sample, input: &ListInput, lend: Lend, expected: &Outcome<ListWritten>) -> Option<Checked<()>> {
@@ -206,7 +207,8 @@ mod listing {
         let outputs = [told.paths, told.bases, told.origins, told.origins];
         let lent = lent_lengths(outputs, [Slice::Paths, Slice::Bases, Slice::Sequences, Slice::Places], lend)?;
         let lent_work = lent_lengths(work, std::array::from_fn(Slice::Workspace), lend)?;
-        let [lent_scores] = lent_lengths([told.workspace.scores], [Slice::Workspace(SCORES)], lend)?;
+        let scores = list_scores(&told.workspace);
+        let lent_scores = lent_lengths(scores, [Slice::Workspace(SCORES), Slice::Workspace(SCORES + 1)], lend)?;
         let handed = SampleBuffers::new(&borrowed(sample), lend.seed);
         let column = Lent::holding(&input.column, lend.seed);
         let mut buffers = ListBuffers::new(lent, lent_work, lent_scores, lend.seed);
@@ -237,7 +239,9 @@ mod listing {
             for ((slice, told), name) in buffers.workspace.iter().zip(work).zip(LIST_WORKSPACE) {
                 check_workspace(slice, told, refusal, name)?;
             }
-            check_workspace(&buffers.scores, told.workspace.scores, refusal, "scores")?;
+            for ((slice, told), name) in buffers.scores.iter().zip(scores).zip(["scores", "row scores"]) {
+                check_workspace(slice, told, refusal, name)?;
+            }
             require(column.still_holds(&input.column), || "the column has changed".into())?;
             require(handed.still_holds(&borrowed(sample)), || "what was handed in has changed".into())
         };
@@ -247,7 +251,7 @@ mod listing {
     fn check_path_rows(slice: &Lent<PathRow>, rows: &[PathWritten]) -> Checked<()> {
         for (i, row) in rows.iter().enumerate() {
             let wanted =
-                PathRow { score: f64::from_bits(row.score), closing: row.closing, edges: row.origins.len() as u32, is_ref: u32::from(row.is_ref) };
+                PathRow { score: f64::from_bits(row.score), closing: row.closing, edges: row.origins.len() as u32, is_ref: u8::from(row.is_ref) };
             let found = slice.slice()[i];
             require(found.same(wanted), || format!("path row {i} is {found:?}, expected {wanted:?}"))?;
         }

@@ -19,7 +19,7 @@ use Rattle.definition.specs.Evidence.{Branches, hasBranch, treeAt, nodes, evide
 use Rattle.definition.specs.Building.{Built, built, builtOf}
 use Rattle.definition.specs.Search.{SearchInput, Path, Closed, State, Made, atEnd, broken, made, Turn, more, ended, failed, full, Offer, verticesFrom, endFrom, times, chain, offers, hasStoppingEvidence, push, pushAll, lengthen, extend, repeatRule, extensions, joinTree, closeAt, madeOf, extendAt, takePath, greatest, recover, advance, pushMade, turn, run, pivotalEdges, firstState, search}
 use Rattle.definition.specs.Listing.{Answer, refusal, listed, searchInput, listOf, answerOf, afterBuild}
-use Rattle.list_call.specs.Outcome.{found, summary}
+use Rattle.list_work.specs.Outcome.{found, summary}
 
 abbrev Late : {A : Type 0} → Result A → Type 0
 Late (ok a) = Unit {0}

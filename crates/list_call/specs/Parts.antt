@@ -11,8 +11,10 @@ use Rattle.definition.proofs.Checks.{Checked}
 use Rattle.limits.specs.Bounds.{InLimits, settings-most}
 use Rattle.limits.specs.Workspaces.{vertexTable, edgeTable, kmerIndex, nodeTable, targetTable, pathTable, pathScores, activeNodes, waitingQueue, closedPaths, pivotalOrder, pivotalMarks, pathWalks}
 use Rattle.graph_rows.specs.Zeros.{cleared-over}
-use Rattle.list_call.specs.Outcome.{Outputs, Tables, zeroedTo, floatZero, clearedTables}
-use Rattle.list_call.specs.Within.{Works, Within}
+use Rattle.list_work.specs.Outcome.{Outputs, Tables}
+use Rattle.list_call.specs.Outcome.{zeroedTo, floatZero, clearedTables}
+use Rattle.list_work.specs.Works.{Works}
+use Rattle.list_call.specs.Within.{Within}
 
 pub in-limits : (i : Input) → Checked i → InLimits (i .asked) (i .graphMaxima) (i .searchMaxima)
 in-limits i c = settings-most (i .asked) (i .graphMaxima) (i .searchMaxima) (c .settings-fit)

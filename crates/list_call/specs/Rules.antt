@@ -12,14 +12,9 @@ use Rattle.definition.proofs.Checks.{Checked, checked}
 use Rattle.limits.specs.Handed.{graphMaximaOf, searchMaximaOf, sampleOf, inputOf}
 use Rattle.limits.specs.Bounds.{InLimits, settings-most, k-most}
 use Rattle.limits.specs.Rules.{rule, Numbered, first-broken, first-hold, broken, holds, all-hold, sample-numbered}
-use Rattle.list_call.specs.declared.Settings.{Settings}
+use Rattle.list_work.specs.declared.Settings.{Settings}
 use Rattle.list_call.specs.declared.Lent as lent
 use Rattle.list_call.specs.Lent.{toldOf, lentOf, outputsTold, outputsLent, graphTold, graphLent, searchTold, searchLent, long-is}
-
--- what the call is handed, as the definition has it
-abbrev pub inputFor : Settings → List ℕ → List ℕ → List ℕ → List ℕ → List Float → Input
-inputFor a reference ends bases qualities column =
-    inputOf (sampleOf (a .k) (a .quality) reference ends bases qualities) (a .asked) (a .threshold) (a .recovery) (graphMaximaOf (a .graph)) (searchMaximaOf (a .search)) column
 
 -- 1 to 6
 early : Input → List Rule

@@ -6,10 +6,12 @@ use Rattle.definition.specs.Limits.{Input}
 use Rattle.definition.specs.Listing.{refusal, answer}
 use Rattle.definition.proofs.Checks.{Checked}
 use Rattle.limits.specs.Workspaces.{vertexTable, edgeTable, kmerIndex, nodeTable, targetTable, pathTable, pathScores, activeNodes, waitingQueue, closedPaths, pivotalOrder, pivotalMarks, pathWalks}
-use Rattle.list_call.specs.declared.ListAnswer.{ListAnswer}
+use Rattle.list_work.specs.declared.ListAnswer.{ListAnswer}
+use Rattle.list_work.specs.Works.{Outs}
 use Rattle.list_call.specs.declared.Lent as lent
 use Rattle.list_call.specs.Lent.{toldOf, lentOf}
-use Rattle.list_call.specs.Outcome.{Outputs, Tables, Listed, found, clearedTables, tablesAfter}
+use Rattle.list_work.specs.Outcome.{Outputs, Tables, Listed, found}
+use Rattle.list_call.specs.Outcome.{clearedTables, tablesAfter}
 
 -- the lengths of all slices, and of the slice of rows
 abbrev pub lengthsOf : ℕ → Outputs → Tables → lent.Lent
@@ -36,33 +38,6 @@ lengthsOf rows o w =
       «row_closings» = length (o .closings);
       «row_edges» = length (o .edges);
     }
-
--- the output slices are long enough
-pub record Outs (i : Input) (o : Outputs) : Type 0 where
-  pub scores : i .asked ≤ length (o .scores)
-  pub closings : i .asked ≤ length (o .closings)
-  pub edges : i .asked ≤ length (o .edges)
-  pub bases : i .asked * (i .sample .k + i .searchMaxima .pathEdges) ≤ length (o .bases)
-  pub sequences : i .asked * i .searchMaxima .pathEdges ≤ length (o .sequences)
-  pub places : i .asked * i .searchMaxima .pathEdges ≤ length (o .places)
-
--- all is in order, and the workspace has just the lengths told
-pub record Works (i : Input) (o : Outputs) (w : Tables) : Type 0 where
-  pub checks : Checked i
-  pub outs : Outs i o
-  pub vertices : length (w .vertices) ≡ vertexTable (i .graphMaxima)
-  pub edges : length (w .edges) ≡ edgeTable (i .graphMaxima)
-  pub index : length (w .index) ≡ kmerIndex (i .graphMaxima)
-  pub nodes : length (w .nodes) ≡ nodeTable (i .graphMaxima)
-  pub targets : length (w .targets) ≡ targetTable (i .graphMaxima)
-  pub paths : length (w .paths) ≡ pathTable (i .asked) (i .searchMaxima)
-  pub scores : length (w .scores) ≡ pathScores (i .asked) (i .searchMaxima)
-  pub active : length (w .active) ≡ activeNodes (i .asked) (i .searchMaxima)
-  pub queue : length (w .queue) ≡ waitingQueue (i .searchMaxima)
-  pub closed : length (w .closed) ≡ closedPaths (i .asked)
-  pub order : length (w .order) ≡ pivotalOrder (i .graphMaxima)
-  pub marks : length (w .marks) ≡ pivotalMarks (i .graphMaxima)
-  pub walks : length (w .walks) ≡ pathWalks (i .asked) (i .graphMaxima) (i .searchMaxima)
 
 -- all is in order, and the workspace has at least the lengths told
 pub record Within (i : Input) (o : Outputs) (w : Tables) : Type 0 where

@@ -4,6 +4,9 @@ use limits::GraphMaxima;
 use limits::SearchMaxima;
 use limits::check_list;
 use limits::walks_told;
+use list_work::ListAnswer;
+use list_work::Settings;
+use list_work::work;
 ghost use mathlib.Core.Path.{_≡_};
 ghost use mathlib.Core.List.{[], _∷_};
 ghost use Prim.Native.Nat.{_≤_};
@@ -11,24 +14,14 @@ ghost use Rattle.definition.specs.Refusal.{firstBroken};
 ghost use Rattle.definition.specs.Limits.{longEnough, listRules};
 ghost use Rattle.limits.specs.Handed.{graphMaximaOf, searchMaximaOf};
 ghost use Rattle.limits.specs.Bounds.{InLimits};
-ghost use Rattle.list_call.specs.Rules.{inputFor};
+ghost use Rattle.list_work.specs.Works.{inputFor};
 ghost use lib.ListN.{length, replicate};
 ghost use Rattle.definition.specs.Calls.{writtenAt};
-ghost use Rattle.list_call.specs.Outcome.{refusedAnswer, floatZero, Listed, outputsOf, tablesOf, found};
-ghost use Rattle.list_call.specs.Within.{Works, Within, Done, Called};
+ghost use Rattle.list_work.specs.Outcome.{refusedAnswer, Listed, outputsOf, tablesOf, found};
+ghost use Rattle.list_call.specs.Outcome.{floatZero};
+ghost use Rattle.list_work.specs.Works.{Works};
+ghost use Rattle.list_call.specs.Within.{Within, Done, Called};
 ghost use Rattle.list_call.specs.Lent.{toldOf, lentOf, outputsTold, outputsLent, graphTold, graphLent, searchTold, searchLent};
-
-// What a run is asked for: k, the minimum quality, the paths asked, the threshold, recovery, and the maxima.
-#[repr(C)]
-pub struct Settings {
-    pub k: u32,
-    pub quality: u8,
-    pub asked: u32,
-    pub threshold: i32,
-    pub recovery: bool,
-    pub graph: GraphMaxima,
-    pub search: SearchMaxima,
-}
 
 // The lengths of the slices lent.
 pub struct Lent {
@@ -182,15 +175,6 @@ fn check(
     0
 }
 
-// The answer of the call for the list: a refusal, or how many paths are listed, the pushes made, and the waiting mark.
-#[repr(C)]
-pub struct ListAnswer {
-    pub refusal: u32,
-    pub paths: u32,
-    pub pushes: u32,
-    pub mark: u32,
-}
-
 // A refused answer holds 0 in every other field.
 fn refused(number: u32) -> ListAnswer
     ensures { λ r. ⌜ r ≡ refusedAnswer number ⌝ }
@@ -201,43 +185,6 @@ fn refused(number: u32) -> ListAnswer
         pushes: 0,
         mark: 0,
     }
-}
-
-// ---- the work
-
-// The graph, its trees, the search and the list, over tables of just the lengths told, whatever they hold; the output is written once nothing can be
-// refused any more.
-fn work(
-    a: Settings,
-    reference: &[u8],
-    ends: &[u32],
-    bases: &[u8],
-    qualities: &[u8],
-    column: &[f64],
-    row_scores: &mut [f64],
-    row_closings: &mut [u32],
-    row_edges: &mut [u32],
-    out_bases: &mut [u8],
-    sequences: &mut [u32],
-    places: &mut [u32],
-    w_vertices: &mut [u32],
-    w_edges: &mut [u32],
-    w_index: &mut [u32],
-    w_nodes: &mut [u32],
-    w_targets: &mut [u32],
-    w_paths: &mut [u32],
-    w_scores: &mut [f64],
-    w_active: &mut [u32],
-    w_queue: &mut [u32],
-    w_closed: &mut [u32],
-    w_order: &mut [u32],
-    w_marks: &mut [u32],
-    w_walks: &mut [u32],
-) -> ListAnswer
-    requires { ⌜ Works (inputFor a (now reference) (now ends) (now bases) (now qualities) (now column)) (outputsOf (now «row_scores») (now «row_closings») (now «row_edges») (now «out_bases») (now sequences) (now places)) (tablesOf (now «w_vertices») (now «w_edges») (now «w_index») (now «w_nodes») (now «w_targets») (now «w_paths») (now «w_scores») (now «w_active») (now «w_queue») (now «w_closed») (now «w_order») (now «w_marks») (now «w_walks»)) ⌝ }
-    ensures { λ r. ⌜ Listed (inputFor a (now (reference .entry)) (now (ends .entry)) (now (bases .entry)) (now (qualities .entry)) (now (column .entry))) (found (inputFor a (now (reference .entry)) (now (ends .entry)) (now (bases .entry)) (now (qualities .entry)) (now (column .entry)))) r (outputsOf (now («row_scores» .entry)) (now («row_closings» .entry)) (now («row_edges» .entry)) (now («out_bases» .entry)) (now (sequences .entry)) (now (places .entry))) (outputsOf (now («row_scores» .exit)) (now («row_closings» .exit)) (now («row_edges» .exit)) (now («out_bases» .exit)) (now (sequences .exit)) (now (places .exit))) ⌝ }
-{
-    refused(8)
 }
 
 // The first n scores become 0.

@@ -27,7 +27,7 @@ use Rattle.path_rows.specs.Rows.{told, rowAt, finished, finished-is, Filled}
 use Rattle.path_list.specs.Laid.{Laid, row-low}
 use Rattle.path_list.specs.Walked.{recordAt, walkOf, Walkable, Walked, walk-length, walk-inside, walked-read}
 use Rattle.path_list.specs.Ranks.{Lists, lists, Ready, countAt, walkAt, aboveAt, Ranked, ranked-known}
-use Rattle.path_list.specs.Rows.{Placed, Known, Columns, Filed, basesAt, fieldsAt}
+use Rattle.path_list.specs.Rows.{Placed, Known, Columns, scoreRow, closingRow, edgesRow, Filed, basesAt, fieldsAt}
 use Rattle.path_list.specs.Told.{Drawn, Shows, Told, row, row-score, row-closing, row-isRef, row-edges, row-bases, row-origins, order-is, part-is}
 
 -- ---- what is asked: the closed paths, the graph that spells them, and the lengths of the slices written
@@ -130,10 +130,10 @@ module _ (text vs es only to t : List ℕ) (sc : List Float) (shut : List ℕ) (
 
 -- ---- what is left: for all that the tables show, the definition's list
 
-abbrev pub Listed : List ℕ → List ℕ → List ℕ → List ℕ → List ℕ → List ℕ → List Float → List ℕ → ℕ → ℕ → ℕ → List Float → List ℕ → List ℕ → List ℕ → List ℕ → List ℕ → List ℕ → List ℕ → List ℕ → Type 0
-Listed text vs es only to t sc shut k most count ss cs ls bases sequences places bases′ sequences′ places′ =
+abbrev pub Listed : List ℕ → List ℕ → List ℕ → List ℕ → List ℕ → List ℕ → List Float → List ℕ → ℕ → ℕ → ℕ → List Float → List ℕ → List ℕ → List Float → List ℕ → List ℕ → List ℕ → List ℕ → List ℕ → List ℕ → List ℕ → List ℕ → Type 0
+Listed text vs es only to t sc shut k most count ss₀ cs₀ ls₀ ss cs ls bases sequences places bases′ sequences′ places′ =
     (b : Built) (closed : List (Closed Float)) (column : List Float) → Shows text vs es only to t sc shut k count b closed
-    → Told b closed column k most count ss cs ls bases sequences places bases′ sequences′ places′
+    → Told b closed column k most count ss₀ cs₀ ls₀ ss cs ls bases sequences places bases′ sequences′ places′
 
 module _ (text vs es only to t : List ℕ) (sc : List Float) (shut : List ℕ) (k most count room rank scored closings lengths spellings sequences places : ℕ)
     (L : Listable text vs es only to t sc shut k most count room rank scored closings lengths spellings sequences places)
@@ -152,19 +152,29 @@ module _ (text vs es only to t : List ℕ) (sc : List Float) (shut : List ℕ) (
     abbrev row-of : ℕ → Row Float
     row-of i = row l only to count b closed S (L .walkable .shut-room) same i
 
-    row-told : (ss : List Float) (cs ls : List ℕ) → Columns t sc shut ranks count ss cs ls → (r : ℕ) → r < count
-        → told (rowAt ss cs ls r) ≡ pathRow (row-of (getD ranks r 0))
-    unfolding pathRow
-    row-told ss cs ls C r h =
-        let i = getD ranks r 0 in
-        let m : i < count = placed .known r h in
-        let p : getD ss r nan ≡ row-of i .score = C .scores r h ∙ sym (row-score l only to count b closed S (L .walkable .shut-room) same i) in
-        let q : getD cs r 0 ≡ row-of i .closing = C .closings r h ∙ sym (row-closing l only to count b closed S (L .walkable .shut-room) same i m) in
-        let w : getD ls r 0 ≡ row-of i .edges =
-        C .edges r h ∙ sym (row-edges l only to count b closed S (L .walkable .shut-room) same i m (walk-length only to t sc shut count most room (L .walkable) i m))
-        in
-        let z : false ≡ row-of i .isRef = sym (row-isRef l only to count b closed S (L .walkable .shut-room) same i) in
-        λ j. record { score = p j; closing = q j; edges = w j; isRef = z j }
+    module _ (ss₀ : List Float) (cs₀ ls₀ : List ℕ) (ss : List Float) (cs ls : List ℕ) (C : Columns t sc shut ranks count ss₀ cs₀ ls₀ ss cs ls) (r : ℕ) (h : r < count) where
+      abbrev at : ℕ
+      at = getD ranks r 0
+
+      score-told : scoreRow sc shut ranks r ≡ row-of at .score
+      score-told = sym (row-score l only to count b closed S (L .walkable .shut-room) same at)
+
+      closing-told : closingRow ranks r ≡ row-of at .closing
+      closing-told = sym (row-closing l only to count b closed S (L .walkable .shut-room) same at (placed .known r h))
+
+      edges-told : edgesRow t shut ranks r ≡ row-of at .edges
+      edges-told =
+          sym (row-edges l only to count b closed S (L .walkable .shut-room) same at (placed .known r h)
+          (walk-length only to t sc shut count most room (L .walkable) at (placed .known r h)))
+
+      row-told : told (rowAt ss cs ls r) ≡ pathRow (row-of (getD ranks r 0))
+      unfolding pathRow
+      row-told =
+          let p : getD ss r nan ≡ row-of at .score = C .scores r h ∙ score-told in
+          let q : getD cs r 0 ≡ row-of at .closing = C .closings r h ∙ closing-told in
+          let w : getD ls r 0 ≡ row-of at .edges = C .edges r h ∙ edges-told in
+          let z : false ≡ row-of at .isRef = sym (row-isRef l only to count b closed S (L .walkable .shut-room) same at) in
+          λ j. record { score = p j; closing = q j; edges = w j; isRef = z j }
 
     bases-told : (r : ℕ) → r < count → basesAt l ranks r ≡ row-of (getD ranks r 0) .bases
     bases-told r h = sym (row-bases l only to count b closed S (L .walkable .shut-room) same (getD ranks r 0) (placed .known r h))
@@ -183,17 +193,29 @@ module _ (text vs es only to t : List ℕ) (sc : List Float) (shut : List ℕ) (
           ∙ length-map (take count ranks) row-of
           ∙ length-take-le count ranks (placed .room)
 
-  pub list-of : (ss : List Float) (cs ls : List ℕ) → Columns t sc shut ranks count ss cs ls
+  pub list-of : (ss₀ : List Float) (cs₀ ls₀ : List ℕ) (ss : List Float) (cs ls : List ℕ) → Columns t sc shut ranks count ss₀ cs₀ ls₀ ss cs ls
       → (bs bs′ : List ℕ) → Laid (k + most) (basesAt (lists text vs es t sc shut walks k most) ranks) bs count bs′
       → (qs qs′ : List ℕ) → Laid most (fieldsAt es t shut walks most 4 ranks) qs count qs′
       → (ps ps′ : List ℕ) → Laid most (fieldsAt es t shut walks most 5 ranks) ps count ps′
-      → Listed text vs es only to t sc shut k most count ss cs ls bs qs ps bs′ qs′ ps′
-  list-of ss cs ls C bs bs′ B qs qs′ Q ps ps′ P b closed column S =
+      → Listed text vs es only to t sc shut k most count ss₀ cs₀ ls₀ ss cs ls bs qs ps bs′ qs′ ps′
+  list-of ss₀ cs₀ ls₀ ss cs ls C bs bs′ B qs qs′ Q ps ps′ P b closed column S =
       record {
         paths = how-many b closed S column;
         rows =
-            finished-is ss cs ls count (λ r. pathRow (row-of b closed S (getD ranks r 0))) (row-told b closed S ss cs ls C)
+            finished-is ss cs ls count (λ r. pathRow (row-of b closed S (getD ranks r 0))) (row-told b closed S ss₀ cs₀ ls₀ ss cs ls C)
             ∙ part b closed S column pathRow (λ r. pathRow (row-of b closed S (getD ranks r 0))) (λ r h. refl);
+        scores-are =
+            C .scores-are
+            ∙ ap (λ (x : List Float). writtenAt 0 x ss₀)
+            (part b closed S column (λ (r : Row Float). r .score) (scoreRow sc shut ranks) (score-told b closed S ss₀ cs₀ ls₀ ss cs ls C));
+        closings-are =
+            C .closings-are
+            ∙ ap (λ (x : List ℕ). writtenAt 0 x cs₀)
+            (part b closed S column (λ (r : Row Float). r .closing) (closingRow ranks) (closing-told b closed S ss₀ cs₀ ls₀ ss cs ls C));
+        edges-are =
+            C .edges-are
+            ∙ ap (λ (x : List ℕ). writtenAt 0 x ls₀)
+            (part b closed S column (λ (r : Row Float). r .edges) (edgesRow t shut ranks) (edges-told b closed S ss₀ cs₀ ls₀ ss cs ls C));
         bases-are =
             B .is
             ∙ ap (λ (x : List (List ℕ)). writtenRows (k + most) 0 x bs)
@@ -213,12 +235,12 @@ module _ (text vs es only to t : List ℕ) (sc : List Float) (shut : List ℕ) (
 -- ---- with the rows copied into the lent records, the four slices of the call
 
 pub slices-are : (i : Input) (b : Built) (closed : List (Closed Float)) (k most count : ℕ) → i .sample .k ≡ k → i .searchMaxima .pathEdges ≡ most
-    → (ss : List Float) (cs ls bases sequences places bases′ sequences′ places′ : List ℕ) → Told b closed (i .column) k most count ss cs ls bases sequences places bases′ sequences′ places′
+    → (ss₀ : List Float) (cs₀ ls₀ : List ℕ) (ss : List Float) (cs ls bases sequences places bases′ sequences′ places′ : List ℕ) → Told b closed (i .column) k most count ss₀ cs₀ ls₀ ss cs ls bases sequences places bases′ sequences′ places′
     → (lent lent′ : List PathRow) → Filled ss cs ls count lent lent′
     → _≡_ {A = ListSlices} (record { rows = map told lent′; bases = bases′; sequences = sequences′; places = places′ })
     (listedSlices i (listOrder (columnScoring (i .column)) (map (rowOf b) closed)) (record { rows = map told lent; bases = bases; sequences = sequences; places = places }))
 unfolding listedSlices basesStride
-slices-are i b closed k most count ek em ss cs ls bases sequences places bases′ sequences′ places′ T lent lent′ F =
+slices-are i b closed k most count ek em ss₀ cs₀ ls₀ ss cs ls bases sequences places bases′ sequences′ places′ T lent lent′ F =
     let p : map told lent′ ≡ writtenAt 0 (map pathRow (listOrder (columnScoring (i .column)) (map (rowOf b) closed))) (map told lent) =
     F .is ∙ ap (λ (x : List defs.PathRow). writtenAt 0 x (map told lent)) (T .rows)
     in

@@ -1,14 +1,16 @@
 -- The rows of the list in the order of the ranks: what the columns hold, and the bases and origins laid out row by row.
-use mathlib.Core.Path.{_≡_, refl, sym, ap, _∙_}
+use mathlib.Core.Path.{_≡_, refl, sym, ap, subst, _∙_}
 use mathlib.Core.Logic.{_⊎_, inl, inr}
 use mathlib.Core.List.{List, [], _∷_, _++_, append-assoc, map}
 use Prim.Native.Nat.{ℕ, zero, suc, _+_, _-_, _*_, _<_, _≤_}
 use native.Mathlib.Numerals.{add-one}
 use native.Mathlib.Omega.{arith}
-use lib.ListN.{length, getD, set, take, drop, length-set, length-drop, length-map}
-use lib.Seq.{sets, getD-set-same, getD-set-other, length-take-le, take-all, paste}
+use native.Mathlib.Decide.{decLt}
+use lib.ListN.{length, getD, set, take, drop, length-set, length-drop, length-map, length-append, List·getD-append}
+use lib.Seq.{sets, getD-set-same, getD-set-other, getD-append-add, getD-drop, ext-getD, length-take-le, take-all, paste}
 use lib.Ieee.{Float, nan}
 use Rattle.laws.specs.Records.{field}
+use Rattle.laws.specs.Rows.{rows, length-rows, getD-rows}
 use Rattle.laws.specs.Sorting.{same-or}
 use Rattle.definition.specs.Calls.{writtenAt}
 use Rattle.assembly.specs.Paths.{endBase, Spells, basesOf, bases-length}
@@ -37,50 +39,109 @@ module _ (count : ℕ) (rank : List ℕ) (P : Placed count rank) (t : List ℕ) 
 
 -- ---- the columns
 
--- the first i places of a column
-pub record Column {A : Type 0} (none : A) (value : ℕ → A) (i size : ℕ) (column : List A) : Type 0 where
+-- the first i places of a column; what is beyond is as it was
+pub record Column {A : Type 0} (none : A) (value : ℕ → A) (i : ℕ) (old column : List A) : Type 0 where
   pub at : (r : ℕ) → r < i → getD column r none ≡ value r
-  pub long : length column ≡ size
+  pub beyond : (r : ℕ) → i ≤ r → getD column r none ≡ getD old r none
+  pub long : length column ≡ length old
 
 module _ {A : Type 0} (none : A) (value : ℕ → A) where
-  pub column-start : (column : List A) → Column none value 0 (length column) column
-  column-start column = record { at = λ r h. absurd (omega arith); long = refl }
+  pub column-start : (column : List A) → Column none value 0 column column
+  column-start column = record { at = λ r h. absurd (omega arith); beyond = λ r h. refl; long = refl }
 
-  pub column-next : (i size : ℕ) (column : List A) (x : A) → Column none value i size column → i < size → x ≡ value i → Column none value (i + 1) size (set column i x)
-  column-next i size column x C h e =
-      record { at = λ r l. go r (same-or r i (let z = add-one i in omega arith)); long = length-set column i x ∙ C .long }
+  pub column-next : (i : ℕ) (old column : List A) (x : A) → Column none value i old column → i < length old → x ≡ value i → Column none value (i + 1) old (set column i x)
+  column-next i old column x C h e =
+      record {
+        at = λ r l. go r (same-or r i (let z = add-one i in omega arith));
+        beyond = λ r l. getD-set-other column i r x none (omega arith) ∙ C .beyond r (omega arith);
+        long = length-set column i x ∙ C .long;
+      }
     where
       go : (r : ℕ) → (r ≡ i) ⊎ (r < i) → getD (set column i x) r none ≡ value r
       go r (inl q) = rw q (getD-set-same column i x none (let z = C .long in omega arith) ∙ e)
       go r (inr k) = getD-set-other column i r x none (omega arith) ∙ C .at r k
 
--- the three columns, up to row i
-pub record ColumnsTo (t : List ℕ) (sc : List Float) (shut rank : List ℕ) (i : ℕ) (s₀ c₀ e₀ : ℕ) (ss : List Float) (cs es : List ℕ) : Type 0 where
-  pub scores : Column nan (λ r. scoreOf sc (recordAt shut (getD rank r 0))) i s₀ ss
-  pub closings : Column 0 (λ r. getD rank r 0 + 1) i c₀ cs
-  pub edges : Column 0 (λ r. countOf t (recordAt shut (getD rank r 0))) i e₀ es
+  -- so the rows are written over the front of the column
+  pub column-is : (n : ℕ) (old column : List A) → n ≤ length old → Column none value n old column → column ≡ writtenAt 0 (rows value n) old
+  unfolding writtenAt
+  column-is n old column h C =
+      ext-getD none column (rows value n ++ drop (0 + length (rows value n)) old) size (λ r k. each r (decLt r n))
+    where
+      long-rows : length (rows value n) ≡ n
+      long-rows = length-rows value n
 
-pub record Columns (t : List ℕ) (sc : List Float) (shut rank : List ℕ) (count : ℕ) (ss : List Float) (cs es : List ℕ) : Type 0 where
+      size : length column ≡ length (rows value n ++ drop (0 + length (rows value n)) old)
+      size =
+          let a = length-append (rows value n) (drop (0 + length (rows value n)) old) in
+          let b = length-drop (0 + length (rows value n)) old in
+          let c = long-rows in
+          let d = C .long in
+          omega arith
+
+      each : (r : ℕ) → Dec (r < n) → getD column r none ≡ getD (rows value n ++ drop (0 + length (rows value n)) old) r none
+      each r (yes l) =
+          C .at r l
+          ∙ sym (getD-rows value n r none l)
+          ∙ sym (List·getD-append (rows value n) (drop (0 + length (rows value n)) old) none r (let c = long-rows in omega arith))
+      each r (no l) =
+          let k = length (rows value n) in
+          let e : k + (r - k) ≡ r = (let c = long-rows in omega arith) in
+          let d : 0 + k + (r - k) ≡ r = (let c = long-rows in omega arith) in
+          let a : getD (rows value n ++ drop (0 + k) old) r none ≡ getD (drop (0 + k) old) (r - k) none =
+          ap (λ (j : ℕ). getD (rows value n ++ drop (0 + k) old) j none) (sym e) ∙ getD-append-add (rows value n) (drop (0 + k) old) (r - k) none in
+          let b : getD (drop (0 + k) old) (r - k) none ≡ getD old r none = getD-drop (0 + k) old (r - k) none ∙ ap (λ (j : ℕ). getD old j none) d in
+          C .beyond r (omega arith) ∙ sym (a ∙ b)
+
+-- what the columns tell of row r
+abbrev pub scoreRow : List Float → List ℕ → List ℕ → ℕ → Float
+scoreRow sc shut rank r = scoreOf sc (recordAt shut (getD rank r 0))
+
+abbrev pub closingRow : List ℕ → ℕ → ℕ
+closingRow rank r = getD rank r 0 + 1
+
+abbrev pub edgesRow : List ℕ → List ℕ → List ℕ → ℕ → ℕ
+edgesRow t shut rank r = countOf t (recordAt shut (getD rank r 0))
+
+-- the three columns, up to row i of `count`
+pub record ColumnsTo (t : List ℕ) (sc : List Float) (shut rank : List ℕ) (count i : ℕ) (ss₀ : List Float) (cs₀ es₀ : List ℕ) (ss : List Float) (cs es : List ℕ) : Type 0 where
+  pub low : i ≤ count
+  pub scores : Column nan (scoreRow sc shut rank) i ss₀ ss
+  pub closings : Column 0 (closingRow rank) i cs₀ cs
+  pub edges : Column 0 (edgesRow t shut rank) i es₀ es
+
+pub record Columns (t : List ℕ) (sc : List Float) (shut rank : List ℕ) (count : ℕ) (ss₀ : List Float) (cs₀ es₀ : List ℕ) (ss : List Float) (cs es : List ℕ) : Type 0 where
   pub scores : (r : ℕ) → r < count → getD ss r nan ≡ scoreOf sc (recordAt shut (getD rank r 0))
   pub closings : (r : ℕ) → r < count → getD cs r 0 ≡ getD rank r 0 + 1
   pub edges : (r : ℕ) → r < count → getD es r 0 ≡ countOf t (recordAt shut (getD rank r 0))
+  pub scores-are : ss ≡ writtenAt 0 (rows (scoreRow sc shut rank) count) ss₀
+  pub closings-are : cs ≡ writtenAt 0 (rows (closingRow rank) count) cs₀
+  pub edges-are : es ≡ writtenAt 0 (rows (edgesRow t shut rank) count) es₀
 
-module _ (t : List ℕ) (sc : List Float) (shut rank : List ℕ) where
-  pub columns-start : (ss : List Float) (cs es : List ℕ) → ColumnsTo t sc shut rank 0 (length ss) (length cs) (length es) ss cs es
-  columns-start ss cs es = record { scores = column-start nan _ ss; closings = column-start 0 _ cs; edges = column-start 0 _ es }
+module _ (t : List ℕ) (sc : List Float) (shut rank : List ℕ) (count : ℕ) where
+  pub columns-start : (ss : List Float) (cs es : List ℕ) → ColumnsTo t sc shut rank count 0 ss cs es ss cs es
+  columns-start ss cs es = record { low = omega arith; scores = column-start nan _ ss; closings = column-start 0 _ cs; edges = column-start 0 _ es }
 
-  module _ (i s₀ c₀ e₀ : ℕ) (ss : List Float) (cs es : List ℕ) (C : ColumnsTo t sc shut rank i s₀ c₀ e₀ ss cs es) where
-    pub columns-next : i < s₀ → i < c₀ → i < e₀ → (x : Float) (y z : ℕ) → x ≡ scoreOf sc (recordAt shut (getD rank i 0)) → y ≡ getD rank i 0 + 1
-        → z ≡ countOf t (recordAt shut (getD rank i 0)) → ColumnsTo t sc shut rank (i + 1) s₀ c₀ e₀ (set ss i x) (set cs i y) (set es i z)
-    columns-next a b c x y z p q w =
-        record { scores = column-next nan _ i s₀ ss x (C .scores) a p; closings = column-next 0 _ i c₀ cs y (C .closings) b q; edges = column-next 0 _ i e₀ es z (C .edges) c w }
+  module _ (i : ℕ) (ss₀ : List Float) (cs₀ es₀ : List ℕ) (ss : List Float) (cs es : List ℕ) (C : ColumnsTo t sc shut rank count i ss₀ cs₀ es₀ ss cs es) where
+    pub columns-next : i < count → count ≤ length ss₀ → count ≤ length cs₀ → count ≤ length es₀ → (x : Float) (y z : ℕ) → x ≡ scoreOf sc (recordAt shut (getD rank i 0)) → y ≡ getD rank i 0 + 1
+        → z ≡ countOf t (recordAt shut (getD rank i 0)) → ColumnsTo t sc shut rank count (i + 1) ss₀ cs₀ es₀ (set ss i x) (set cs i y) (set es i z)
+    columns-next h a b c x y z p q w =
+        record {
+          low = omega arith;
+          scores = column-next nan _ i ss₀ ss x (C .scores) (omega arith) p;
+          closings = column-next 0 _ i cs₀ cs y (C .closings) (omega arith) q;
+          edges = column-next 0 _ i es₀ es z (C .edges) (omega arith) w;
+        }
 
-    pub columns-end : (count : ℕ) → count ≤ i → Columns t sc shut rank count ss cs es
-    columns-end count h =
+    pub columns-end : count ≤ i → count ≤ length ss₀ → count ≤ length cs₀ → count ≤ length es₀ → Columns t sc shut rank count ss₀ cs₀ es₀ ss cs es
+    columns-end h a b c =
+        let e : i ≡ count = (let l = C .low in omega arith) in
         record {
           scores = λ r l. C .scores .at r (omega arith);
           closings = λ r l. C .closings .at r (omega arith);
           edges = λ r l. C .edges .at r (omega arith);
+          scores-are = column-is nan _ count ss₀ ss a (subst (λ (j : ℕ). Column nan (scoreRow sc shut rank) j ss₀ ss) e (C .scores));
+          closings-are = column-is 0 _ count cs₀ cs b (subst (λ (j : ℕ). Column 0 (closingRow rank) j cs₀ cs) e (C .closings));
+          edges-are = column-is 0 _ count es₀ es c (subst (λ (j : ℕ). Column 0 (edgesRow t shut rank) j es₀ es) e (C .edges));
         }
 
 -- ---- the bases

@@ -23,7 +23,7 @@ use Rattle.definition.specs.Threading.{Ends, Origin, Edge, Graph, eqEnds}
 use Rattle.definition.specs.Search.{Closed}
 use Rattle.definition.specs.Building.{Built}
 use Rattle.definition.specs.Listing.{Row, rowOf, pathBases, originAt, above, listOrder}
-use Rattle.definition.specs.Calls.{pathRow, writtenRows}
+use Rattle.definition.specs.Calls.{pathRow, writtenAt, writtenRows}
 use Rattle.definition.proofs.Walks.{Numbered, eqEnds-true}
 use Rattle.assembly.specs.Table.{table, Distinct, find-table-some}
 use Rattle.assembly.specs.Store.{edgeAt, edgesOf, kmerAt, graphOf}
@@ -102,9 +102,12 @@ numbered-at n f (x ∷ l) N (suc i) h = let z : suc n + suc i ≡ suc (suc n) + 
 -- ---- the list
 
 -- the outputs are the definition's list
-pub record Told (b : Built) (closed : List (Closed Float)) (column : List Float) (k most count : ℕ) (ss : List Float) (cs ls : List ℕ) (bases sequences places bases′ sequences′ places′ : List ℕ) : Type 0 where
+pub record Told (b : Built) (closed : List (Closed Float)) (column : List Float) (k most count : ℕ) (ss₀ : List Float) (cs₀ ls₀ : List ℕ) (ss : List Float) (cs ls : List ℕ) (bases sequences places bases′ sequences′ places′ : List ℕ) : Type 0 where
   pub paths : length (listOrder (columnScoring column) (map (rowOf b) closed)) ≡ count
   pub rows : finished ss cs ls count ≡ map pathRow (listOrder (columnScoring column) (map (rowOf b) closed))
+  pub scores-are : ss ≡ writtenAt 0 (map (λ (r : Row Float). r .score) (listOrder (columnScoring column) (map (rowOf b) closed))) ss₀
+  pub closings-are : cs ≡ writtenAt 0 (map (λ (r : Row Float). r .closing) (listOrder (columnScoring column) (map (rowOf b) closed))) cs₀
+  pub edges-are : ls ≡ writtenAt 0 (map (λ (r : Row Float). r .edges) (listOrder (columnScoring column) (map (rowOf b) closed))) ls₀
   pub bases-are : bases′ ≡ writtenRows (k + most) 0 (map (λ (r : Row Float). r .bases) (listOrder (columnScoring column) (map (rowOf b) closed))) bases
   pub sequences-are : sequences′ ≡ writtenRows most 0 (map (λ (r : Row Float). map (λ (o : Origin). o .sequence) (r .origins)) (listOrder (columnScoring column) (map (rowOf b) closed))) sequences
   pub places-are : places′ ≡ writtenRows most 0 (map (λ (r : Row Float). map (λ (o : Origin). o .place) (r .origins)) (listOrder (columnScoring column) (map (rowOf b) closed))) places

@@ -43,7 +43,7 @@ pub fn write_list(
     places: &mut [u32],
 )
     requires { ⌜ Listable (now reference ++ now bases) (now vertices) (now edges) (now only) (now to) (now paths) (now scores) (now shut) k most count (length (now walks)) (length (now rank)) (length (now scored)) (length (now closings)) (length (now lengths)) (length (now spellings)) (length (now sequences)) (length (now places)) ⌝ }
-    ensures { λ _. ⌜ Listed (now (reference .entry) ++ now (bases .entry)) (now (vertices .entry)) (now (edges .entry)) (now (only .entry)) (now (to .entry)) (now (paths .entry)) (now (scores .entry)) (now (shut .entry)) k most count (now (scored .exit)) (now (closings .exit)) (now (lengths .exit)) (now (spellings .entry)) (now (sequences .entry)) (now (places .entry)) (now (spellings .exit)) (now (sequences .exit)) (now (places .exit)) ⌝ }
+    ensures { λ _. ⌜ Listed (now (reference .entry) ++ now (bases .entry)) (now (vertices .entry)) (now (edges .entry)) (now (only .entry)) (now (to .entry)) (now (paths .entry)) (now (scores .entry)) (now (shut .entry)) k most count (now (scored .entry)) (now (closings .entry)) (now (lengths .entry)) (now (scored .exit)) (now (closings .exit)) (now (lengths .exit)) (now (spellings .entry)) (now (sequences .entry)) (now (places .entry)) (now (spellings .exit)) (now (sequences .exit)) (now (places .exit)) ⌝ }
 {
     write_walks(paths, scores, only, to, shut, count, most, walks);
     rank_paths(

@@ -24,7 +24,7 @@ pub fn write_columns(
     lengths: &mut [u32],
 )
     requires { ⌜ Placed count (now rank) × Known (now paths) (now scores) (now shut) count × (count ≤ length (now scored)) × (count ≤ length (now closings)) × (count ≤ length (now lengths)) ⌝ }
-    ensures { λ _. ⌜ Columns (now (paths .entry)) (now (scores .entry)) (now (shut .entry)) (now (rank .entry)) count (now (scored .exit)) (now (closings .exit)) (now (lengths .exit)) ⌝ }
+    ensures { λ _. ⌜ Columns (now (paths .entry)) (now (scores .entry)) (now (shut .entry)) (now (rank .entry)) count (now (scored .entry)) (now (closings .entry)) (now (lengths .entry)) (now (scored .exit)) (now (closings .exit)) (now (lengths .exit)) ⌝ }
 {
     let mut r: usize = 0;
     while r < count {

@@ -120,6 +120,8 @@ fn workspace_left(
     vertices: usize,
     w_edges: &[u32],
     edges: usize,
+    w_index: &[u32],
+    index: usize,
     w_nodes: &[u32],
     nodes: usize,
     w_open: &[u32],
@@ -130,6 +132,9 @@ fn workspace_left(
         return false;
     }
     if !left(w_edges, edges, value) {
+        return false;
+    }
+    if !left(w_index, index, value) {
         return false;
     }
     if !left(w_nodes, nodes, value) {
@@ -171,6 +176,7 @@ fn graph_agrees_in(
     nodes: &mut [u32],
     w_vertices: &mut [u32],
     w_edges: &mut [u32],
+    w_index: &mut [u32],
     w_nodes: &mut [u32],
     w_open: &mut [u32],
 ) -> bool {
@@ -182,8 +188,9 @@ fn graph_agrees_in(
     let w = told.workspace;
     let c = least(w.vertices, w_vertices.len());
     let d = least(w.edges, w_edges.len());
-    let e = least(w.nodes, w_nodes.len());
-    let f = least(w.open, w_open.len());
+    let e = least(w.index, w_index.len());
+    let f = least(w.nodes, w_nodes.len());
+    let g = least(w.open, w_open.len());
     let answer = caller::graph(
         k,
         quality,
@@ -196,8 +203,9 @@ fn graph_agrees_in(
         &mut nodes[0..b],
         &mut w_vertices[0..c],
         &mut w_edges[0..d],
-        &mut w_nodes[0..e],
-        &mut w_open[0..f],
+        &mut w_index[0..e],
+        &mut w_nodes[0..f],
+        &mut w_open[0..g],
     );
     if !graph_answered(call, answer) {
         return false;
@@ -211,10 +219,12 @@ fn graph_agrees_in(
         c,
         w_edges,
         d,
-        w_nodes,
+        w_index,
         e,
-        w_open,
+        w_nodes,
         f,
+        w_open,
+        g,
     )
 }
 
@@ -232,6 +242,7 @@ pub fn graph_agrees(
     let mut nodes = [LENT; 65536];
     let mut w_vertices = [LENT; 49152];
     let mut w_edges = [LENT; 49152];
+    let mut w_index = [LENT; 8192];
     let mut w_nodes = [LENT; 81925];
     let mut w_open = [LENT; 32768];
     graph_agrees_in(
@@ -246,6 +257,7 @@ pub fn graph_agrees(
         &mut nodes,
         &mut w_vertices,
         &mut w_edges,
+        &mut w_index,
         &mut w_nodes,
         &mut w_open,
     )

@@ -5,7 +5,7 @@ use lib.Seq.{length-take-le, length-front}
 use Rattle.limits.specs.Handed.{graphMaximaOf, searchMaximaOf}
 use Rattle.limits.specs.Bounds.{active-fits}
 use Rattle.limits.specs.Workspaces.{vertexTable, edgeTable, kmerIndex, nodeTable, targetTable, pathTable, pathScores, activeNodes, waitingQueue, closedPaths, pivotalOrder, pivotalMarks}
-use Rattle.list_call.specs.Rules.{inputFor}
+use Rattle.list_work.specs.Works.{inputFor}
 use Rattle.list_call.specs.Outcome.{floatZero, zeroedTo}
 use Rattle.list_call.specs.Parts.{in-limits, told-by, part-kept, part-cleared, parts-lent, all-cleared}
 use borrow.Author.Needs.{needs}

@@ -13,13 +13,13 @@ use Rattle.path_store.specs.declared.records.PathRecord.{PathRecord}
 use Rattle.path_list.specs.Rows.{ColumnsTo, known-at, known-inside, columns-start, columns-next, columns-end}
 
 abbrev Inv-loop : tie.InvT-loop
-Inv-loop paths scores shut rank count scored₀ closings₀ lengths₀ r₀ scored closings lengths r = ColumnsTo paths scores shut rank r (length scored₀) (length closings₀) (length lengths₀) scored closings lengths
+Inv-loop paths scores shut rank count scored₀ closings₀ lengths₀ r₀ scored closings lengths r = ColumnsTo paths scores shut rank count r scored₀ closings₀ lengths₀ scored closings lengths
 
 abbrev μ-loop : tie.MeasureT-loop
 μ-loop paths scores shut rank count scored₀ closings₀ lengths₀ r₀ scored closings lengths r = count - r
 
 loop-holds : tie.Need-loop-holds Inv-loop μ-loop
-loop-holds c = columns-start _ _ _ _ _ _ _
+loop-holds c = columns-start _ _ _ _ _ _ _ _
 
 mul-i : tie.Need-mul-i Inv-loop μ-loop
 mul-i c = omega (arith, (c .before .before .before .before .before .before .before .before .before .pre) .0 .few, (c .loop-test) .taken)
@@ -61,7 +61,7 @@ loop-less : tie.Need-loop-less Inv-loop μ-loop
 loop-less c = omega (arith, (c .before .before .before .loop-test) .taken)
 
 loop-again : tie.Need-loop-again Inv-loop μ-loop
-loop-again c = columns-next _ _ _ _ _ _ _ _ _ _ _ ((c .before .before .before .before .loop) .inv) (omega (arith, (c .before .before .before .before .before .before .before .before .before .before .before .before .pre) .2, (c .before .before .before .loop-test) .taken)) (omega (arith, (c .before .before .before .before .before .before .before .before .before .before .before .before .pre) .3, (c .before .before .before .loop-test) .taken)) (omega (arith, (c .before .before .before .before .before .before .before .before .before .before .before .before .pre) .4, (c .before .before .before .loop-test) .taken)) _ _ _ (ap (λ (x : PathRecord). x .score) ((c .path-at) .ensures) ∙ ap (λ q. scoreOf ((c .before .before .before .before .before .before .before .before .before .before .before .before .args) .scores .now) q) ((c .before .at) .ensures)) refl (ap (λ (x : PathRecord). x .edges) ((c .path-at) .ensures) ∙ ap (λ q. countOf ((c .before .before .before .before .before .before .before .before .before .before .before .before .args) .paths .now) q) ((c .before .at) .ensures))
+loop-again c = columns-next _ _ _ _ _ _ _ _ _ _ _ _ ((c .before .before .before .before .loop) .inv) ((c .before .before .before .loop-test) .taken) ((c .before .before .before .before .before .before .before .before .before .before .before .before .pre) .2) ((c .before .before .before .before .before .before .before .before .before .before .before .before .pre) .3) ((c .before .before .before .before .before .before .before .before .before .before .before .before .pre) .4) _ _ _ (ap (λ (x : PathRecord). x .score) ((c .path-at) .ensures) ∙ ap (λ q. scoreOf ((c .before .before .before .before .before .before .before .before .before .before .before .before .args) .scores .now) q) ((c .before .at) .ensures)) refl (ap (λ (x : PathRecord). x .edges) ((c .path-at) .ensures) ∙ ap (λ q. countOf ((c .before .before .before .before .before .before .before .before .before .before .before .before .args) .paths .now) q) ((c .before .at) .ensures))
 
 same-length : tie.Need-same-length Inv-loop μ-loop
 same-length c = (c .before .loop) .inv .scores .long
@@ -73,7 +73,7 @@ same-length-3 : tie.Need-same-length-3 Inv-loop μ-loop
 same-length-3 c = (c .before .loop) .inv .edges .long
 
 returns : tie.Need-returns Inv-loop μ-loop
-returns c = columns-end _ _ _ _ _ _ _ _ _ _ _ ((c .before .loop) .inv) _ ((c .loop-test) .left)
+returns c = columns-end _ _ _ _ _ _ _ _ _ _ _ _ ((c .before .loop) .inv) ((c .loop-test) .left) ((c .before .before .before .before .before .before .before .before .before .pre) .2) ((c .before .before .before .before .before .before .before .before .before .pre) .3) ((c .before .before .before .before .before .before .before .before .before .pre) .4)
 
 pub write-columns-spec : {M : Type 1} → statement M
 write-columns-spec =

@@ -1,0 +1,404 @@
+// The work of the call for the list: the graph, its trees, the search and the list in columns, over tables of just the lengths told.
+use assembly::link_symbolic_edge;
+use fork_offers::least_total;
+use graph_rows::clear;
+use junction_kbest::Search;
+use junction_kbest::find_junction_best_haplotypes;
+use junction_tree_graph::Answer;
+use junction_tree_graph::Most;
+use junction_tree_graph::build_graph;
+use junction_trees::Evidence;
+use junction_trees::build_trees;
+use limits::GraphMaxima;
+use limits::SearchMaxima;
+use path_list::write_list;
+use search_ground::chain_tables;
+use search_state::Progress;
+use search_state::Setting;
+ghost use mathlib.Core.Path.{_≡_};
+ghost use Rattle.limits.specs.Handed.{sampleOf, graphMaximaOf};
+ghost use Rattle.list_work.specs.Clear.{Cleared};
+ghost use Rattle.list_work.specs.Raise.{graphRefusal, treesRefusal, Raises, RaisedOf};
+ghost use Rattle.list_work.specs.Outcome.{refusedAnswer, found, Listed, outputsOf, tablesOf};
+ghost use Rattle.list_work.specs.Works.{inputFor, Works};
+ghost use Rattle.list_work.specs.Work.{raiseRefusal};
+ghost use Rattle.list_work.specs.Chains.{Chains, Chained, Small, SettingFor};
+ghost use Rattle.list_work.specs.Search.{searchRefusal, foundAnswer, Told32, Seeks, Sought};
+
+// What a run is asked for: k, the minimum quality, the paths asked, the threshold, recovery, and the maxima.
+#[repr(C)]
+pub struct Settings {
+    pub k: u32,
+    pub quality: u8,
+    pub asked: u32,
+    pub threshold: i32,
+    pub recovery: bool,
+    pub graph: GraphMaxima,
+    pub search: SearchMaxima,
+}
+
+// The answer of the call for the list: a refusal, or how many paths are listed, the pushes made, and the waiting mark.
+#[repr(C)]
+pub struct ListAnswer {
+    pub refusal: u32,
+    pub paths: u32,
+    pub pushes: u32,
+    pub mark: u32,
+}
+
+// A graph with its trees in the tables: how many kmers, threaded edges and tree nodes, and which kmer is the sink.
+pub struct Raise {
+    pub vertices: usize,
+    pub edges: usize,
+    pub sink: usize,
+    pub nodes: usize,
+}
+
+pub enum Raised {
+    Graph(Raise),
+    Refused(u32),
+}
+
+// A refused answer holds 0 in every other field.
+fn refused(number: u32) -> ListAnswer
+    ensures { λ r. ⌜ r ≡ refusedAnswer number ⌝ }
+{
+    ListAnswer {
+        refusal: number,
+        paths: 0,
+        pushes: 0,
+        mark: 0,
+    }
+}
+
+fn graph_refusal(r: Answer) -> u32
+    ensures { λ n. ⌜ n ≡ graphRefusal r ⌝ }
+{
+    match r {
+        Answer::Done(_) => 0,
+        Answer::Refused(n) => n,
+    }
+}
+
+fn trees_refusal(r: Evidence) -> u32
+    ensures { λ n. ⌜ n ≡ treesRefusal r ⌝ }
+{
+    match r {
+        Evidence::Trees(_) => 0,
+        Evidence::Refused(n) => n,
+    }
+}
+
+fn raise_refusal(r: Raised) -> u32
+    ensures { λ n. ⌜ n ≡ raiseRefusal r ⌝ }
+{
+    match r {
+        Raised::Graph(_) => 0,
+        Raised::Refused(n) => n,
+    }
+}
+
+fn search_refusal(r: Search) -> u32
+    ensures { λ n. ⌜ n ≡ searchRefusal r ⌝ }
+{
+    match r {
+        Search::Paths(_) => 0,
+        Search::Refused(n) => n,
+    }
+}
+
+// The answer of a search that has ended.
+fn found_answer(p: Progress) -> ListAnswer
+    requires { ⌜ Told32 p ⌝ }
+    ensures { λ r. ⌜ r ≡ foundAnswer p ⌝ }
+{
+    ListAnswer {
+        refusal: 0,
+        paths: p.closed as u32,
+        pushes: p.pushes as u32,
+        mark: p.mark as u32,
+    }
+}
+
+// ---- the graph and its trees
+
+// The tables that the build asks to be zero.
+fn clear_tables(w_vertices: &mut [u32], w_index: &mut [u32], w_nodes: &mut [u32])
+    ensures { λ _. ⌜ Cleared (now («w_vertices» .entry)) (now («w_vertices» .exit)) (now («w_index» .entry)) (now («w_index» .exit)) (now («w_nodes» .entry)) (now («w_nodes» .exit)) ⌝ }
+{
+    clear(w_vertices, w_vertices.len());
+    clear(w_index, w_index.len());
+    clear(w_nodes, w_nodes.len());
+}
+
+// The graph and its trees, with the walks' slice for the trees that are open; or 8 or 9.
+fn raise_graph(
+    a: Settings,
+    reference: &[u8],
+    ends: &[u32],
+    bases: &[u8],
+    qualities: &[u8],
+    w_vertices: &mut [u32],
+    w_edges: &mut [u32],
+    w_index: &mut [u32],
+    w_nodes: &mut [u32],
+    w_walks: &mut [u32],
+) -> Raised
+    requires { ⌜ Raises (sampleOf (a .k) (a .quality) (now reference) (now ends) (now bases) (now qualities)) (graphMaximaOf (a .graph)) (now «w_vertices») (now «w_edges») (now «w_index») (now «w_nodes») (now «w_walks») ⌝ }
+    ensures { λ r. ⌜ RaisedOf (sampleOf (a .k) (a .quality) (now (reference .entry)) (now (ends .entry)) (now (bases .entry)) (now (qualities .entry))) (graphMaximaOf (a .graph)) (now («w_vertices» .exit)) (now («w_edges» .exit)) (now («w_nodes» .exit)) (now («w_walks» .exit)) r ⌝ }
+{
+    let size = a.k as usize;
+    let quality = a.quality;
+    let maxima = a.graph;
+    let cap = maxima.nodes as usize;
+    let most = Most {
+        vertices: maxima.vertices as usize,
+        edges: maxima.edges as usize,
+    };
+    clear_tables(w_vertices, w_index, w_nodes);
+    let r = build_graph(
+        size,
+        quality,
+        reference,
+        ends,
+        bases,
+        qualities,
+        w_vertices,
+        w_edges,
+        w_index,
+        most,
+    );
+    let Answer::Done(b) = r else {
+        return Raised::Refused(graph_refusal(r));
+    };
+    let t = build_trees(
+        size,
+        quality,
+        reference,
+        ends,
+        bases,
+        qualities,
+        w_vertices,
+        w_edges,
+        w_index,
+        w_nodes,
+        w_walks,
+        b,
+        cap,
+    );
+    let Evidence::Trees(n) = t else {
+        return Raised::Refused(trees_refusal(t));
+    };
+    Raised::Graph(Raise {
+        vertices: b.vertices,
+        edges: b.edges,
+        sink: b.sink,
+        nodes: n,
+    })
+}
+
+// ---- the search and the list
+
+// What the search goes by: the sizes of the raised graph, and the caller's numbers.
+fn search_setting(a: Settings, b: Raise) -> Setting
+    requires { ⌜ Small b ⌝ }
+    ensures { λ r. ⌜ SettingFor a b r ⌝ }
+{
+    let graph = a.graph;
+    let most = a.search;
+    let least = least_total(a.threshold);
+    Setting {
+        edges: b.edges + 1,
+        nodes: b.nodes,
+        cap: graph.nodes as usize,
+        sink: b.sink as u32,
+        symbolic: b.vertices as u32,
+        least: least,
+        most: most.path_edges,
+        active: most.active as usize,
+        pushes: most.pushes as usize,
+        asked: a.asked as usize,
+    }
+}
+
+// The symbolic edge joins the out-edges, and the tables of the chains are filled.
+fn lay_chains(b: Raise, vertices: &mut [u32], edges: &[u32], only: &mut [u32], to: &mut [u32])
+    requires { ⌜ Chains (now vertices) (now edges) (now only) (now to) b ⌝ }
+    ensures { λ _. ⌜ Chained (now (vertices .entry)) (now (edges .entry)) b (now (vertices .exit)) (now (only .exit)) (now (to .exit)) ⌝ }
+{
+    let sink = b.sink;
+    let real = b.edges;
+    link_symbolic_edge(vertices, sink, real);
+    chain_tables(vertices, edges, real + 1, sink, only, to);
+}
+
+// The search over a raised graph, whose edge table ends behind the symbolic edge, and the list of the paths found; or a refusal, and no output is
+// touched.
+fn search_list(
+    a: Settings,
+    b: Raise,
+    reference: &[u8],
+    bases: &[u8],
+    column: &[f64],
+    row_scores: &mut [f64],
+    row_closings: &mut [u32],
+    row_edges: &mut [u32],
+    out_bases: &mut [u8],
+    sequences: &mut [u32],
+    places: &mut [u32],
+    vertices: &mut [u32],
+    edges: &[u32],
+    only: &mut [u32],
+    nodes: &[u32],
+    to: &mut [u32],
+    paths: &mut [u32],
+    scores: &mut [f64],
+    active: &mut [u32],
+    queue: &mut [u32],
+    shut: &mut [u32],
+    order: &mut [u32],
+    marks: &mut [u32],
+    walks: &mut [u32],
+) -> ListAnswer
+    requires { ⌜ Seeks a (now reference) (now bases) (now column) (outputsOf (now «row_scores») (now «row_closings») (now «row_edges») (now «out_bases») (now sequences) (now places)) (tablesOf (now vertices) (now edges) (now only) (now nodes) (now to) (now paths) (now scores) (now active) (now queue) (now shut) (now order) (now marks) (now walks)) b ⌝ }
+    ensures { λ r. ⌜ Sought a (now (reference .entry)) (now (bases .entry)) (now (column .entry)) (tablesOf (now (vertices .entry)) (now (edges .entry)) (now (only .entry)) (now (nodes .entry)) (now (to .entry)) (now (paths .entry)) (now (scores .entry)) (now (active .entry)) (now (queue .entry)) (now (shut .entry)) (now (order .entry)) (now (marks .entry)) (now (walks .entry))) b r (outputsOf (now («row_scores» .entry)) (now («row_closings» .entry)) (now («row_edges» .entry)) (now («out_bases» .entry)) (now (sequences .entry)) (now (places .entry))) (outputsOf (now («row_scores» .exit)) (now («row_closings» .exit)) (now («row_edges» .exit)) (now («out_bases» .exit)) (now (sequences .exit)) (now (places .exit))) ⌝ }
+{
+    let size = a.k as usize;
+    let most = a.search;
+    let stride = most.path_edges as usize;
+    let g = search_setting(a, b);
+    lay_chains(b, vertices, edges, only, to);
+    let r = find_junction_best_haplotypes(
+        vertices,
+        edges,
+        nodes,
+        only,
+        to,
+        column,
+        paths,
+        scores,
+        active,
+        queue,
+        shut,
+        order,
+        marks,
+        walks,
+        g,
+        a.recovery,
+    );
+    let Search::Paths(p) = r else {
+        return refused(search_refusal(r));
+    };
+    write_list(
+        reference,
+        bases,
+        vertices,
+        edges,
+        only,
+        to,
+        paths,
+        scores,
+        shut,
+        p.closed,
+        size,
+        stride,
+        walks,
+        active,
+        row_scores,
+        row_closings,
+        row_edges,
+        out_bases,
+        sequences,
+        places,
+    );
+    found_answer(p)
+}
+
+// ---- the whole
+
+// The graph, its trees, the search and the list, over tables of just the lengths told, whatever they hold; the output is written once nothing can be
+// refused any more.
+pub fn work(
+    a: Settings,
+    reference: &[u8],
+    ends: &[u32],
+    bases: &[u8],
+    qualities: &[u8],
+    column: &[f64],
+    row_scores: &mut [f64],
+    row_closings: &mut [u32],
+    row_edges: &mut [u32],
+    out_bases: &mut [u8],
+    sequences: &mut [u32],
+    places: &mut [u32],
+    w_vertices: &mut [u32],
+    w_edges: &mut [u32],
+    w_index: &mut [u32],
+    w_nodes: &mut [u32],
+    w_targets: &mut [u32],
+    w_paths: &mut [u32],
+    w_scores: &mut [f64],
+    w_active: &mut [u32],
+    w_queue: &mut [u32],
+    w_closed: &mut [u32],
+    w_order: &mut [u32],
+    w_marks: &mut [u32],
+    w_walks: &mut [u32],
+) -> ListAnswer
+    requires { ⌜ Works (inputFor a (now reference) (now ends) (now bases) (now qualities) (now column)) (outputsOf (now «row_scores») (now «row_closings») (now «row_edges») (now «out_bases») (now sequences) (now places)) (tablesOf (now «w_vertices») (now «w_edges») (now «w_index») (now «w_nodes») (now «w_targets») (now «w_paths») (now «w_scores») (now «w_active») (now «w_queue») (now «w_closed») (now «w_order») (now «w_marks») (now «w_walks»)) ⌝ }
+    ensures { λ r. ⌜ Listed (inputFor a (now (reference .entry)) (now (ends .entry)) (now (bases .entry)) (now (qualities .entry)) (now (column .entry))) (found (inputFor a (now (reference .entry)) (now (ends .entry)) (now (bases .entry)) (now (qualities .entry)) (now (column .entry)))) r (outputsOf (now («row_scores» .entry)) (now («row_closings» .entry)) (now («row_edges» .entry)) (now («out_bases» .entry)) (now (sequences .entry)) (now (places .entry))) (outputsOf (now («row_scores» .exit)) (now («row_closings» .exit)) (now («row_edges» .exit)) (now («out_bases» .exit)) (now (sequences .exit)) (now (places .exit))) ⌝ }
+{
+    let maxima = a.graph;
+    let size = maxima.vertices as usize;
+    let r = raise_graph(
+        a,
+        reference,
+        ends,
+        bases,
+        qualities,
+        w_vertices,
+        w_edges,
+        w_index,
+        w_nodes,
+        w_walks,
+    );
+    let Raised::Graph(b) = r else {
+        return refused(raise_refusal(r));
+    };
+    if a.asked == 0 {
+        return ListAnswer {
+            refusal: 0,
+            paths: 0,
+            pushes: 0,
+            mark: 0,
+        };
+    }
+    let all = b.edges + 1;
+    let rows = all * 6;
+    search_list(
+        a,
+        b,
+        reference,
+        bases,
+        column,
+        row_scores,
+        row_closings,
+        row_edges,
+        out_bases,
+        sequences,
+        places,
+        w_vertices,
+        &w_edges[..rows],
+        &mut w_index[..size],
+        w_nodes,
+        &mut w_targets[..all],
+        w_paths,
+        w_scores,
+        w_active,
+        w_queue,
+        w_closed,
+        w_order,
+        w_marks,
+        w_walks,
+    )
+}
