@@ -67,6 +67,7 @@ pub struct OriginAnswer {
     pub length: usize,
 }
 
+/// `is_ref` is a bool there: 0 or 1.
 #[repr(C)]
 #[derive(Clone, Copy, Debug)]
 pub struct PathRow {
@@ -331,7 +332,7 @@ mod listing {
             graph: settings.graph,
             search: settings.search,
         };
-        // SAFETY: as for the call for edges and trees. A path row is numbers only, so that whatever is written there is one.
+        // SAFETY: as for the call for edges and trees. The flags of the path rows lent are 0 or 1, as `Lent` makes them and the call leaves them.
         unsafe {
             punelavoh_list(
                 a,

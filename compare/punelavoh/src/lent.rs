@@ -58,7 +58,7 @@ impl Element for f64 {
 impl Element for PathRow {
     fn pattern(place: usize, seed: u32) -> Self {
         let number = u32::pattern(place, seed);
-        Self { score: f64::from(number), closing: number, edges: number ^ 0xffff, is_ref: u8::pattern(place, seed) }
+        Self { score: f64::from(number), closing: number, edges: number ^ 0xffff, is_ref: 1 }
     }
 
     fn same(self, other: Self) -> bool {

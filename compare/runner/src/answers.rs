@@ -48,7 +48,7 @@ impl From<Listed> for ListWritten {
     }
 }
 
-/// A lent slice, by name. Those of the workspace are numbered in the call's order, the scores last.
+/// A lent slice, by name. Those of the workspace are numbered in the call's order, those of scores last.
 #[derive(Clone, Copy, Debug, PartialEq)]
 pub enum Slice {
     Edges,

@@ -4,3 +4,5 @@ pub mod Clear
 pub mod Fill
 pub mod Made
 pub mod Graph
+pub mod Records
+pub mod Recorded

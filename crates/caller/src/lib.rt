@@ -12,7 +12,12 @@ use limits::GraphMaxima;
 use limits::LengthsTold;
 use limits::SearchMaxima;
 use limits::check_graph;
+use list_call::clear_scores;
+use list_call::list_columns;
+use list_work::ListAnswer;
+use list_work::Settings;
 use origins::OriginAnswer;
+use path_rows::PathRow;
 use threading_tree::write_nodes;
 ghost use mathlib.Core.Path.{_≡_};
 ghost use mathlib.Core.List.{[], _∷_};
@@ -27,6 +32,9 @@ ghost use Rattle.caller.specs.Outcome.{outcome, refusedAnswer, graphRefu
 ghost use Rattle.caller.specs.Clear.{Zeroed};
 ghost use Rattle.caller.specs.Fill.{Fills, Writes, Wrote};
 ghost use Rattle.caller.specs.Made.{Made};
+ghost use Rattle.list_work.specs.Works.{inputFor};
+ghost use Rattle.list_work.specs.Outcome.{outputsOf, tablesOf};
+ghost use Rattle.caller.specs.Records.{columnsTold, ColumnsFit, Cleared, ListCalled};
 
 // The answer of `graph`: a refusal, or how many rows of edges and of nodes were written.
 #[repr(C)]
@@ -302,6 +310,45 @@ pub fn graph(
     )
 }
 
+// ---- the call for the list; its rows are made in columns, which are workspace
+
+// How many rows the columns hold.
+fn rows_told(r: ListAnswer) -> usize
+    ensures { λ n. ⌜ n ≡ r .paths ⌝ }
+{
+    r.paths as usize
+}
+
+// How much of each column is to be zero: nothing after a refusal of 1 to 7, and else the length told.
+fn columns_told(a: Settings, r: ListAnswer) -> usize
+    ensures { λ n. ⌜ n ≡ columnsTold (r .refusal) (a .asked) ⌝ }
+{
+    if r.refusal < 1 {
+        return a.asked as usize;
+    }
+    if r.refusal > 7 {
+        return a.asked as usize;
+    }
+    0
+}
+
+// What is told of the columns becomes 0.
+fn clear_columns(
+    a: Settings,
+    r: ListAnswer,
+    scores: &mut [f64],
+    closings: &mut [u32],
+    edges: &mut [u32],
+)
+    requires { ⌜ ColumnsFit (columnsTold (r .refusal) (a .asked)) (now scores) (now closings) (now edges) ⌝ }
+    ensures { λ _. ⌜ Cleared (columnsTold (r .refusal) (a .asked)) (now (scores .entry)) (now (scores .exit)) (now (closings .entry)) (now (closings .exit)) (now (edges .entry)) (now (edges .exit)) ⌝ }
+{
+    let n = columns_told(a, r);
+    clear_scores(scores, n);
+    clear(closings, n);
+    clear(edges, n);
+}
+
 // ---- for C and Rust
 
 #[no_mangle]
@@ -366,4 +413,72 @@ pub extern "C" fn punelavoh_origin(
         (originCall k (now (reference .entry)) (now (ends .entry)) (now (bases .entry)) (origin sequence place)) r ⌝ }
 {
     origins::origin_part(k, reference, ends, bases, sequence, place)
+}
+
+// Refused with nothing touched, or the list, with its rows in the lent records; the columns are cleared like the rest of the workspace. Proved by hand, since a
+// slice of records is not covered.
+#[no_mangle]
+pub extern "C" fn punelavoh_list(
+    a: Settings,
+    reference: &[u8],
+    ends: &[u32],
+    bases: &[u8],
+    qualities: &[u8],
+    column: &[f64],
+    rows: &mut [PathRow],
+    out_bases: &mut [u8],
+    sequences: &mut [u32],
+    places: &mut [u32],
+    w_vertices: &mut [u32],
+    w_edges: &mut [u32],
+    w_index: &mut [u32],
+    w_nodes: &mut [u32],
+    w_targets: &mut [u32],
+    w_paths: &mut [u32],
+    w_scores: &mut [f64],
+    w_active: &mut [u32],
+    w_queue: &mut [u32],
+    w_closed: &mut [u32],
+    w_order: &mut [u32],
+    w_marks: &mut [u32],
+    w_walks: &mut [u32],
+    row_scores: &mut [f64],
+    row_closings: &mut [u32],
+    row_edges: &mut [u32],
+) -> ListAnswer
+    ensures { λ r. ⌜ ListCalled (inputFor a (now (reference .entry)) (now (ends .entry)) (now (bases .entry)) (now (qualities .entry)) (now (column .entry))) r (now (rows .entry)) (now (rows .exit)) (outputsOf (now («row_scores» .entry)) (now («row_closings» .entry)) (now («row_edges» .entry)) (now («out_bases» .entry)) (now (sequences .entry)) (now (places .entry))) (outputsOf (now («row_scores» .exit)) (now («row_closings» .exit)) (now («row_edges» .exit)) (now («out_bases» .exit)) (now (sequences .exit)) (now (places .exit))) (tablesOf (now («w_vertices» .entry)) (now («w_edges» .entry)) (now («w_index» .entry)) (now («w_nodes» .entry)) (now («w_targets» .entry)) (now («w_paths» .entry)) (now («w_scores» .entry)) (now («w_active» .entry)) (now («w_queue» .entry)) (now («w_closed» .entry)) (now («w_order» .entry)) (now («w_marks» .entry)) (now («w_walks» .entry))) (tablesOf (now («w_vertices» .exit)) (now («w_edges» .exit)) (now («w_index» .exit)) (now («w_nodes» .exit)) (now («w_targets» .exit)) (now («w_paths» .exit)) (now («w_scores» .exit)) (now («w_active» .exit)) (now («w_queue» .exit)) (now («w_closed» .exit)) (now («w_order» .exit)) (now («w_marks» .exit)) (now («w_walks» .exit))) ⌝ }
+{
+    let lent = rows.len();
+    let r = list_columns(
+        a,
+        lent,
+        reference,
+        ends,
+        bases,
+        qualities,
+        column,
+        row_scores,
+        row_closings,
+        row_edges,
+        out_bases,
+        sequences,
+        places,
+        w_vertices,
+        w_edges,
+        w_index,
+        w_nodes,
+        w_targets,
+        w_paths,
+        w_scores,
+        w_active,
+        w_queue,
+        w_closed,
+        w_order,
+        w_marks,
+        w_walks,
+    );
+    let n = rows_told(r);
+    path_rows::write_rows(rows, n, row_scores, row_closings, row_edges);
+    clear_columns(a, r, row_scores, row_closings, row_edges);
+    r
 }

@@ -188,7 +188,7 @@ fn refused(number: u32) -> ListAnswer
 }
 
 // The first n scores become 0.
-fn clear_scores(scores: &mut [f64], n: usize)
+pub fn clear_scores(scores: &mut [f64], n: usize)
     requires { ⌜ n ≤ length (now scores) ⌝ }
     ensures { λ _. ⌜ now (scores .exit) ≡ writtenAt 0 (replicate n floatZero) (now (scores .entry)) ⌝ }
 {

@@ -187,7 +187,7 @@ pub fn lists(
             }
             made.push((least_column, None, Some(0)));
             if random.once_in(4) {
-                let workspace = Slice::Workspace(random.below(10));
+                let workspace = Slice::Workspace(random.below(16));
                 let slice = random.pick(&[Slice::Paths, Slice::Bases, Slice::Sequences, Slice::Places, workspace]);
                 if settings.paths > 0 || slice == workspace {
                     made.push((room.clone(), Some(slice), Some(7)));

@@ -317,7 +317,7 @@ impl<'a> Settings<'a> {
             Some("paths") => vec![Slice::Paths],
             Some("bases") => vec![Slice::Bases],
             Some("origins") => vec![Slice::Sequences, Slice::Places],
-            Some("workspace") => (0..10).map(Slice::Workspace).collect(),
+            Some("workspace") => (0..16).map(Slice::Workspace).collect(),
             Some(other) => return Err(format!("short {other}")),
         })
     }
