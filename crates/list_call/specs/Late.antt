@@ -1,9 +1,9 @@
 -- What the build and the search refuse has a number of 8 or more. Assumes nothing.
-use mathlib.Core.Path.{_≡_, refl}
+use mathlib.Core.Path.{_≡_, refl, subst}
 use mathlib.Core.Bool.{Bool, true, false, not, cond, _&&_, _||_}
 use mathlib.Core.List.{List, [], _∷_, _++_}
 use mathlib.Core.Option.{Option, none, some}
-use Prim.Native.Nat.{ℕ, zero, suc, _+_, _≤_}
+use Prim.Native.Nat.{ℕ, zero, suc, _+_, _<_, _≤_}
 use native.Mathlib.Omega.{arith}
 use lib.Dec.{leb, ltb, eqb}
 use lib.ListN.{length, take}
@@ -11,14 +11,14 @@ use lib.Ieee.{Float}
 use borrow.Author.Tests.{lt-leb}
 use Rattle.laws.specs.Numbers.{within}
 use Rattle.laws.specs.Lists.{keep, any, findLast, position, isEmpty}
-use Rattle.definition.specs.Refusal.{Result, ok, refused, andThen, each}
+use Rattle.definition.specs.Refusal.{Result, ok, refused, andThen, each, firstBroken}
 use Rattle.definition.specs.Score.{Scoring, columnScoring}
-use Rattle.definition.specs.Limits.{Sample, GraphMaxima, Input}
+use Rattle.definition.specs.Limits.{Sample, GraphMaxima, Input, listRules}
 use Rattle.definition.specs.Threading.{Ends, eqEnds, Edge, threaded, withSymbolic, leaving}
 use Rattle.definition.specs.Evidence.{Branches, hasBranch, treeAt, nodes, evidence}
 use Rattle.definition.specs.Building.{Built, built, builtOf}
 use Rattle.definition.specs.Search.{SearchInput, Path, Closed, State, Made, atEnd, broken, made, Turn, more, ended, failed, full, Offer, verticesFrom, endFrom, times, chain, offers, hasStoppingEvidence, push, pushAll, lengthen, extend, repeatRule, extensions, joinTree, closeAt, madeOf, extendAt, takePath, greatest, recover, advance, pushMade, turn, run, pivotalEdges, firstState, search}
-use Rattle.definition.specs.Listing.{Answer, refusal, listed, searchInput, listOf, answerOf, afterBuild}
+use Rattle.definition.specs.Listing.{Answer, refusal, listed, searchInput, listOf, answerOf, afterBuild, afterChecks, answer}
 use Rattle.list_work.specs.Outcome.{found, summary}
 
 abbrev Late : {A : Type 0} → Result A → Type 0
@@ -247,3 +247,18 @@ found-late i = go (found i) (after-late (columnScoring (i .column)) i (built (i 
     go : (o : Answer Float) → LateAnswer o → within 1 7 (summary o .refusal) ≡ false
     go (refusal n) l = and-false (leb 1 n) (leb n 7) (lt-leb n 7 (omega arith))
     go (listed rs pushes longest) l = refl
+
+-- so no refusal has the number 0
+pub answer-some : (i : Input) (told lent : List ℕ) (n : ℕ) → answer i told lent ≡ refusal n → 0 < n
+unfolding answer afterChecks
+answer-some i told lent n e = go (firstBroken (listRules i told lent)) e
+  where
+    Some : Answer Float → Type 0
+    Some (refusal m) = 0 < m
+    Some (listed rs pushes longest) = Unit {0}
+
+    go : (m : ℕ) → afterChecks (columnScoring (i .column)) i m ≡ refusal n → 0 < n
+    go zero e =
+        let l : 8 ≤ n = subst (λ (x : Answer Float). LateAnswer x) e (after-late (columnScoring (i .column)) i (built (i .sample) (i .graphMaxima)) (built-late (i .sample) (i .graphMaxima))) in
+        omega arith
+    go (suc m) e = subst (λ (x : Answer Float). Some x) e (omega arith)

@@ -1,17 +1,16 @@
--- The rows of an accepted list, read back from the slices that the call for the list has written: what `write_list` prints of them is what the definition
+-- The rows of an accepted list, read back from the columns that the call for the list has written: what `write_list` prints of them is what the definition
 -- prints.
 use mathlib.Core.Path.{_≡_, refl, sym, ap, _∙_}
-use mathlib.Core.Bool.{false}
 use mathlib.Core.List.{List, [], _∷_, map}
 use Prim.Native.Nat.{ℕ, suc, _+_, _-_, _*_, _<_, _≤_}
 use native.Mathlib.Nat.{suc-mul}
 use native.Mathlib.Omega.{arith}
-use lib.ListN.{length, take, drop, getD, length-map, List·getD-map, List·getD-append}
+use lib.ListN.{length, take, drop, getD, length-map, List·getD-append}
 use lib.Seq.{slice}
 use lib.Ieee.{Float, nan}
 use Rattle.laws.specs.ListLaws.{All, nil, cons}
 use Rattle.definition.specs.Listing.{Row}
-use Rattle.definition.specs.Calls.{writtenAt, writtenRows, PathRow, pathRow}
+use Rattle.definition.specs.Calls.{writtenAt, writtenRows}
 use Rattle.paths_text.specs.Written.{length-written}
 use Rattle.paths_text.specs.Parts.{part-slice}
 use Rattle.paths_text.specs.Moves.{take-written, slice-here}
@@ -41,44 +40,53 @@ module _ (S : ℕ) where
 
 -- ---- all columns
 
-abbrev noRow : PathRow
-noRow = record { score = nan; closing = 0; edges = 0; isRef = false }
-
-abbrev pub scoresOf : List PathRow → List Float
-scoresOf rows = map (λ (r : PathRow). r .score) rows
-
-abbrev pub closingsOf : List PathRow → List ℕ
-closingsOf rows = map (λ (r : PathRow). r .closing) rows
-
-abbrev pub edgesOf : List PathRow → List ℕ
-edgesOf rows = map (λ (r : PathRow). r .edges) rows
-
 -- a path of e edges has k + e bases, and no more edges than the maximum
 pub record Sized (k : ℕ) (r : Row Float) : Type 0 where
   pub spelled : length (r .bases) ≡ k + r .edges
   pub short : r .edges ≤ 128
 
+abbrev pub scoresOf : List (Row Float) → List Float
+scoresOf rs = map (λ (r : Row Float). r .score) rs
+
+abbrev pub closingsOf : List (Row Float) → List ℕ
+closingsOf rs = map (λ (r : Row Float). r .closing) rs
+
+abbrev pub edgesOf : List (Row Float) → List ℕ
+edgesOf rs = map (λ (r : Row Float). r .edges) rs
+
 basesOf : List (Row Float) → List (List ℕ)
 basesOf rs = map (λ (r : Row Float). r .bases) rs
 
-module _ (k : ℕ) (rows : List PathRow) where
+-- the columns from place i on begin with those of the rows
+record Aligned (scores : List Float) (closings edges : List ℕ) (i : ℕ) (rs : List (Row Float)) : Type 0 where
+  scored : (j : ℕ) → j < length rs → getD scores (i + j) nan ≡ getD (scoresOf rs) j nan
+  closed : (j : ℕ) → j < length rs → getD closings (i + j) 0 ≡ getD (closingsOf rs) j 0
+  edged : (j : ℕ) → j < length rs → getD edges (i + j) 0 ≡ getD (edgesOf rs) j 0
+
+module _ (k : ℕ) (scores : List Float) (closings edges : List ℕ) where
   sized-bases : (rs : List (Row Float)) → All (Sized k) rs → All (λ x. length x ≤ k + 128) (basesOf rs)
   unfolding basesOf
   sized-bases [] nil = nil
   sized-bases (r ∷ rs) (cons s a) = cons {x = r .bases} (let x = s .spelled in let y = s .short in omega arith) (sized-bases rs a)
 
+  aligned-next : (i : ℕ) (r : Row Float) (rs : List (Row Float)) → Aligned scores closings edges i (r ∷ rs) → Aligned scores closings edges (i + 1) rs
+  aligned-next i r rs f =
+      record {
+        scored = λ j l. (let y : (i + 1) + j ≡ i + suc j = omega arith in ap (λ (n : ℕ). getD scores n nan) y ∙ f .scored (suc j) (omega arith));
+        closed = λ j l. (let y : (i + 1) + j ≡ i + suc j = omega arith in ap (λ (n : ℕ). getD closings n 0) y ∙ f .closed (suc j) (omega arith));
+        edged = λ j l. (let y : (i + 1) + j ≡ i + suc j = omega arith in ap (λ (n : ℕ). getD edges n 0) y ∙ f .edged (suc j) (omega arith));
+      }
+
   -- the rows from row i on
-  held-from : (rs : List (Row Float)) (i : ℕ) (T B : List ℕ) → All (Sized k) rs
-      → ((j : ℕ) → j < length rs → getD rows (i + j) noRow ≡ getD (map pathRow rs) j noRow)
+  held-from : (rs : List (Row Float)) (i : ℕ) (T B : List ℕ) → All (Sized k) rs → Aligned scores closings edges i rs
       → i * (k + 128) + length rs * (k + 128) ≤ length T → B ≡ writtenRows (k + 128) (i * (k + 128)) (basesOf rs) T
-      → Held (scoresOf rows) (closingsOf rows) (edgesOf rows) B k i rs
-  unfolding writtenRows basesOf pathRow
+      → Held scores closings edges B k i rs
+  unfolding writtenRows basesOf
   held-from [] i T B a f h e = none-left
   held-from (r ∷ rs) i T B (cons s a) f h e =
       let S : ℕ = k + 128 in
       let z : i + 0 ≡ i = omega arith in
-      let here : getD rows i noRow ≡ pathRow r = ap (λ (n : ℕ). getD rows n noRow) (sym z) ∙ f 0 (omega arith) in
-      let edges-are : getD (edgesOf rows) i 0 ≡ r .edges = List·getD-map (λ (x : PathRow). x .edges) rows i noRow ∙ ap (λ (x : PathRow). x .edges) here in
+      let edges-are : getD edges i 0 ≡ r .edges = ap (λ (n : ℕ). getD edges n 0) (sym z) ∙ f .edged 0 (omega arith) in
       let ml : length (map (λ (r : Row Float). r .bases) rs) ≡ length rs = length-map rs (λ (r : Row Float). r .bases) in
       let m = suc-mul (length rs) S in
       let n = suc-mul i S in
@@ -90,31 +98,44 @@ module _ (k : ℕ) (rows : List PathRow) where
       let mm : suc (length (map (λ (r : Row Float). r .bases) rs)) * S ≡ suc (length rs) * S = ap (λ (y : ℕ). suc y * S) ml in
       one-more
       (record {
-        score = List·getD-map (λ (x : PathRow). x .score) rows i noRow ∙ ap (λ (x : PathRow). x .score) here;
-        closing = List·getD-map (λ (x : PathRow). x .closing) rows i noRow ∙ ap (λ (x : PathRow). x .closing) here;
+        score = ap (λ (n : ℕ). getD scores n nan) (sym z) ∙ f .scored 0 (omega arith);
+        closing = ap (λ (n : ℕ). getD closings n 0) (sym z) ∙ f .closed 0 (omega arith);
         edge-count = edges-are;
         spelled =
-            part-slice (i * S) (i * S + (k + getD (edgesOf rows) i 0)) B (omega arith)
+            part-slice (i * S) (i * S + (k + getD edges i 0)) B (omega arith)
             ∙ ap (λ (y : ℕ). slice (i * S) (i * S + y) B) (ap (λ (y : ℕ). k + y) edges-are ∙ sym t)
             ∙ ap (slice (i * S) (i * S + length (r .bases))) e
             ∙ row-first S (r .bases) (map (λ (r : Row Float). r .bases) rs) (i * S) T (omega arith) (sized-bases rs a) (omega arith);
       })
       (held-from rs (i + 1) (writtenAt (i * S) (r .bases) T) B a
-      (λ j l. (let y : (i + 1) + j ≡ i + suc j = omega arith in ap (λ (n : ℕ). getD rows n noRow) y ∙ f (suc j) (omega arith)))
+      (aligned-next i r rs f)
       (omega arith)
       (e ∙ ap (λ (q : ℕ). writtenRows S q (map (λ (r : Row Float). r .bases) rs) (writtenAt (i * S) (r .bases) T)) step))
 
--- the slices of an accepted list, over rows and bases that held anything
-pub held-listed : (k : ℕ) (rs : List (Row Float)) (oldRows : List PathRow) (oldBases : List ℕ) → All (Sized k) rs
-    → length rs ≤ length oldRows → length rs * (k + 128) ≤ length oldBases
-    → Held (scoresOf (writtenAt 0 (map pathRow rs) oldRows)) (closingsOf (writtenAt 0 (map pathRow rs) oldRows)) (edgesOf (writtenAt 0 (map pathRow rs) oldRows))
-    (writtenRows (k + 128) 0 (map (λ (r : Row Float). r .bases) rs) oldBases) k 0 rs
-unfolding basesOf writtenAt
-held-listed k rs oldRows oldBases a h l =
+-- a place of what was written at the front
+front-at : {A : Type 0} (xs old : List A) (x : A) (j : ℕ) → j < length xs → getD (writtenAt 0 xs old) (0 + j) x ≡ getD xs j x
+unfolding writtenAt
+front-at xs old x j h =
+    let e : 0 + j ≡ j = omega arith in
+    ap (λ (n : ℕ). getD (writtenAt 0 xs old) n x) e ∙ List·getD-append xs (drop (0 + length xs) old) x j h
+
+-- the columns of an accepted list, over columns and bases that held anything
+pub held-listed : (k : ℕ) (rs : List (Row Float)) (scores : List Float) (closings edges bases : List ℕ) → All (Sized k) rs
+    → length rs * (k + 128) ≤ length bases
+    → Held (writtenAt 0 (scoresOf rs) scores) (writtenAt 0 (closingsOf rs) closings) (writtenAt 0 (edgesOf rs) edges)
+    (writtenRows (k + 128) 0 (map (λ (r : Row Float). r .bases) rs) bases) k 0 rs
+unfolding basesOf
+held-listed k rs scores closings edges bases a l =
     let z : 0 * (k + 128) ≡ 0 = omega arith in
-    let m = length-map rs pathRow in
-    held-from k (writtenAt 0 (map pathRow rs) oldRows) rs 0 oldBases (writtenRows (k + 128) 0 (map (λ (r : Row Float). r .bases) rs) oldBases) a
-    (λ j i. (let e : 0 + j ≡ j = omega arith in
-    ap (λ (n : ℕ). getD (writtenAt 0 (map pathRow rs) oldRows) n noRow) e ∙ List·getD-append (map pathRow rs) (drop (0 + length (map pathRow rs)) oldRows) noRow j (omega arith)))
+    let m = length-map rs (λ (r : Row Float). r .score) in
+    let n = length-map rs (λ (r : Row Float). r .closing) in
+    let o = length-map rs (λ (r : Row Float). r .edges) in
+    held-from k (writtenAt 0 (scoresOf rs) scores) (writtenAt 0 (closingsOf rs) closings) (writtenAt 0 (edgesOf rs) edges) rs 0 bases
+    (writtenRows (k + 128) 0 (map (λ (r : Row Float). r .bases) rs) bases) a
+    (record {
+      scored = λ j i. front-at (scoresOf rs) scores nan j (omega arith);
+      closed = λ j i. front-at (closingsOf rs) closings 0 j (omega arith);
+      edged = λ j i. front-at (edgesOf rs) edges 0 j (omega arith);
+    })
     (omega arith)
-    (ap (λ (q : ℕ). writtenRows (k + 128) q (map (λ (r : Row Float). r .bases) rs) oldBases) (sym z))
+    (ap (λ (q : ℕ). writtenRows (k + 128) q (map (λ (r : Row Float). r .bases) rs) bases) (sym z))

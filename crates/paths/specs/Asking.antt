@@ -1,0 +1,147 @@
+-- What the call for the list is asked: the parts of the text, the program's maxima, and slices as long as told.
+use mathlib.Core.Path.{_≡_, refl, sym, ap, subst, _∙_}
+use mathlib.Core.Bool.{true}
+use mathlib.Core.List.{List, [], _∷_}
+use Prim.Native.Nat.{ℕ, _+_, _*_, _≤_, max}
+use native.Mathlib.Nat.{mul-le-mul}
+use native.Mathlib.Omega.{arith}
+use lib.ListN.{length, take}
+use lib.Ieee.{Float}
+use Rattle.definition.specs.Refusal.{firstBroken}
+use Rattle.definition.specs.Limits.{Input, longEnough, listTold, toldBases, toldOrigins, basesStride}
+use Rattle.definition.specs.Text.{Text, textRules, sizeOf}
+use Rattle.limits.specs.Rules.{none-broken}
+use Rattle.limits.specs.Bounds.{k-most}
+use Rattle.list_work.specs.Works.{inputFor}
+use Rattle.list_call.specs.Lent.{toldOf, lentOf, no-short, none-short}
+use Rattle.list_work.specs.Outcome.{Outputs, Tables}
+use Rattle.list_call.specs.Within.{lengthsOf, Called}
+use Rattle.list_work.specs.declared.ListAnswer.{ListAnswer}
+use Rattle.list_work.specs.declared.Settings as call
+use Rattle.paths_text.specs.Numbers.{k-within}
+use Rattle.paths_text.specs.Parts.{part}
+use Rattle.paths_text.specs.Sources.{Ready}
+use Rattle.paths_text.specs.Program.{asked-most}
+use Rattle.paths_text.specs.declared.header.Settings as text
+use Rattle.paths_text.specs.declared.source.Source.{Source}
+
+-- the settings of the text, with the program's maxima
+abbrev pub settingsOf : text.Settings → call.Settings
+settingsOf s =
+    record {
+      k = s .k;
+      quality = s .quality;
+      asked = s .asked;
+      threshold = s .threshold;
+      recovery = s .recovery;
+      graph = record { vertices = 128; edges = 256; nodes = 256 };
+      search = record { «path_edges» = 128; active = 8; pushes = 128 };
+    }
+
+-- the parts lie within the text and the ends
+pub record Parted (T E : List ℕ) (s : Source) : Type 0 where
+  pub reference-rises : s .reference ≤ s .past
+  pub bases-behind : s .past ≤ s .bases
+  pub bases-rise : s .bases ≤ s .qualities
+  pub qualities-rise : s .qualities ≤ s .end
+  pub inside : s .end ≤ length T
+  pub ends-inside : s .ends ≤ length E
+
+pub parted-of : {T E : List ℕ} {s : Source} {t : Text} → Ready T E s t → Parted T E s
+parted-of d =
+    record {
+      reference-rises = d .reference-rises;
+      bases-behind = d .bases-behind;
+      bases-rise = d .bases-rise;
+      qualities-rise = d .qualities-rise;
+      inside = d .inside;
+      ends-inside = d .ends-inside;
+    }
+
+-- the input of the call for the list
+abbrev pub inputHere : Source → List ℕ → List ℕ → List Float → Input
+inputHere s T E c =
+    inputFor (settingsOf (s .settings)) (part (s .reference) (s .past) T) (take (s .ends) E) (part (s .bases) (s .qualities) T) (part (s .qualities) (s .end) T) c
+
+-- the lengths of the arrays
+pub record Lends (o : Outputs) (w : Tables) : Type 0 where
+  pub scores : 8 ≤ length (o .scores)
+  pub closings : 8 ≤ length (o .closings)
+  pub edges : 8 ≤ length (o .edges)
+  pub bases : 2048 ≤ length (o .bases)
+  pub sequences : 1024 ≤ length (o .sequences)
+  pub places : 1024 ≤ length (o .places)
+  pub w-vertices : 1536 ≤ length (w .vertices)
+  pub w-edges : 1536 ≤ length (w .edges)
+  pub w-index : 256 ≤ length (w .index)
+  pub w-nodes : 1285 ≤ length (w .nodes)
+  pub w-targets : 256 ≤ length (w .targets)
+  pub w-paths : 1152 ≤ length (w .paths)
+  pub w-scores : 144 ≤ length (w .scores)
+  pub w-active : 1152 ≤ length (w .active)
+  pub w-queue : 128 ≤ length (w .queue)
+  pub w-closed : 8 ≤ length (w .closed)
+  pub w-order : 256 ≤ length (w .order)
+  pub w-marks : 256 ≤ length (w .marks)
+  pub w-walks : 1024 ≤ length (w .walks)
+
+max-le : (a b c : ℕ) → a ≤ c → b ≤ c → max a b ≤ c
+max-le a b c h k = omega arith
+
+module _ (s : Source) (T E : List ℕ) (c : List Float) (o : Outputs) (w : Tables) (l : Lends o w) (asked-few : s .settings .asked ≤ 8) (k-few : s .settings .k ≤ 128) where
+  abbrev i : Input
+  i = inputHere s T E c
+
+  -- so 7 is not met
+  pub slices-long : longEnough (toldOf i) (lentOf (lengthsOf 8 o w)) ≡ true
+  unfolding listTold toldBases toldOrigins basesStride
+  slices-long =
+      let n : ℕ = s .settings .asked in
+      let b : n * (s .settings .k + 128) ≤ 8 * 256 = mul-le-mul {m₂ = 256} asked-few (omega arith) in
+      let walks : max 512 (max 512 (max 32 (n * 128))) ≤ 1024 =
+      max-le 512 (max 512 (max 32 (n * 128))) 1024 (omega arith) (max-le 512 (max 32 (n * 128)) 1024 (omega arith) (max-le 32 (n * 128) 1024 (omega arith) (omega arith)))
+      in
+      sym
+      (none-short
+      ∙ no-short n (length (o .edges)) [] [] (omega (arith, l .edges))
+      ∙ no-short n (length (o .closings)) _ _ (omega (arith, l .closings))
+      ∙ no-short n (length (o .scores)) _ _ (omega (arith, l .scores))
+      ∙ no-short _ (length (w .walks)) _ _ (omega (arith, walks, l .w-walks))
+      ∙ no-short 256 (length (w .marks)) _ _ (omega (arith, l .w-marks))
+      ∙ no-short 256 (length (w .order)) _ _ (omega (arith, l .w-order))
+      ∙ no-short n (length (w .closed)) _ _ (omega (arith, l .w-closed))
+      ∙ no-short 128 (length (w .queue)) _ _ (omega (arith, l .w-queue))
+      ∙ no-short ((128 + n + 8) * 8) (length (w .active)) _ _ (omega (arith, l .w-active))
+      ∙ no-short (128 + n + 8) (length (w .scores)) _ _ (omega (arith, l .w-scores))
+      ∙ no-short ((128 + n + 8) * 8) (length (w .paths)) _ _ (omega (arith, l .w-paths))
+      ∙ no-short 256 (length (w .targets)) _ _ (omega (arith, l .w-targets))
+      ∙ no-short 1285 (length (w .nodes)) _ _ (omega (arith, l .w-nodes))
+      ∙ no-short 256 (length (w .index)) _ _ (omega (arith, l .w-index))
+      ∙ no-short 1536 (length (w .edges)) _ _ (omega (arith, l .w-edges))
+      ∙ no-short 1536 (length (w .vertices)) _ _ (omega (arith, l .w-vertices))
+      ∙ no-short (n * 128) (length (o .places)) _ _ (omega (arith, l .places))
+      ∙ no-short (n * 128) (length (o .sequences)) _ _ (omega (arith, l .sequences))
+      ∙ no-short (n * (s .settings .k + 128)) (length (o .bases)) _ _ (omega (arith, l .bases))
+      ∙ no-short n 8 _ _ asked-few)
+
+-- k and the paths asked of an accepted text
+module _ {T E : List ℕ} {s : Source} (t : Text) (d : Ready T E s t) (z : 0 ≡ firstBroken (textRules t)) where
+  pub k-few : s .settings .k ≤ 128
+  unfolding textRules
+  k-few =
+      let p = none-broken (textRules t) (omega arith, (omega arith, (omega arith, (omega arith, (omega arith, tt))))) (sym z) in
+      let e : s .settings .k ≡ sizeOf (t .header .k) = ap (λ (x : text.Settings). x .k) (d .handed .settings) in
+      let m = k-most (sizeOf (t .header .k)) (sym (k-within (t .header .k)) ∙ p .0) in
+      omega arith
+
+  pub asked-few : s .settings .asked ≤ 8
+  asked-few = asked-most t (d .handed) z
+
+-- the call with the settings made is the call for the source
+pub called-for : (a : call.Settings) (s : Source) (T E : List ℕ) (c : List Float) (r : ListAnswer) (o o′ : Outputs) (w w′ : Tables) → a ≡ settingsOf (s .settings)
+    → Called (inputFor a (part (s .reference) (s .past) T) (take (s .ends) E) (part (s .bases) (s .qualities) T) (part (s .qualities) (s .end) T) c) 8 r o o′ w w′
+    → Called (inputHere s T E c) 8 r o o′ w w′
+called-for a s T E c r o o′ w w′ e h =
+    subst
+    (λ (x : call.Settings). Called (inputFor x (part (s .reference) (s .past) T) (take (s .ends) E) (part (s .bases) (s .qualities) T) (part (s .qualities) (s .end) T) c) 8 r o o′ w w′)
+    e h
