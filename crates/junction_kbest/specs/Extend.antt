@@ -40,7 +40,7 @@ use Rattle.junction_kbest.specs.Turn.{join-fails, close-fails, extend-fa
 
 -- there is room for a closed path and eight extensions
 pub record Roomy (g : Setting) (t : List ℕ) (sc : List Float) (ac shut : List ℕ) (p : Progress) : Type 0 where
-  pub paths : (p .records + 9) * 8 ≤ length t
+  pub paths : (p .records + 9) * 9 ≤ length t
   pub scores : p .records + 9 ≤ length sc
   pub actives : (p .records + 9) * g .active ≤ length ac
   pub number : p .records + 9 < 2147483648

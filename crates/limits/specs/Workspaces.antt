@@ -32,7 +32,7 @@ pathCount asked s = s .pushes + asked + 8
 
 -- a row of 8 numbers for each path
 abbrev pub pathTable : ℕ → SearchMaxima → ℕ
-pathTable asked s = pathCount asked s * 8
+pathTable asked s = pathCount asked s * 9
 
 -- a score for each path
 abbrev pub pathScores : ℕ → SearchMaxima → ℕ

@@ -390,7 +390,7 @@ fn workspace_told(asked: u32, g: GraphMaxima, s: SearchMaxima) -> Workspace
         nodes: (g.nodes as usize + 1) * 5,
         open: g.nodes as usize * 2,
         targets: g.edges as usize,
-        paths: paths * 8,
+        paths: paths * 9,
         scores: paths,
         active: paths * s.active as usize,
         queue: s.pushes as usize,

@@ -95,7 +95,7 @@ fn search_fits(asked: u32, g: GraphMaxima, s: SearchMaxima, l: Lent) -> bool
     ensures { λ r. ⌜ r ≡ longEnough (searchTold asked (graphMaximaOf g) (searchMaximaOf s)) (searchLent l) ⌝ }
 {
     let paths = s.pushes as usize + asked as usize + 8;
-    if l.paths < paths * 8 {
+    if l.paths < paths * 9 {
         return false;
     }
     if l.scores < paths {
@@ -239,7 +239,7 @@ fn list_within(
     let i = g.vertices as usize * 2;
     let n = (g.nodes as usize + 1) * 5;
     let m = g.edges as usize;
-    let p = records * 8;
+    let p = records * 9;
     let x = records * s.active as usize;
     let w = s.pushes as usize;
     let k = walks_told(a.asked, g, s);

@@ -54,7 +54,7 @@ pub record Closing (f : SearchInput) (g : Setting) (vs es x only to : List ℕ) 
   pub following : Following only to t (taken .path) taken
   pub apart : Apart sc queue (p .waiting) (taken .path)
   pub more : p .closed < length shut
-  pub paths : (p .records + 1) * 8 ≤ length t
+  pub paths : (p .records + 1) * 9 ≤ length t
   pub scores : p .records + 1 ≤ length sc
   pub actives : (p .records + 1) * g .active ≤ length ac
   pub few : p .records + 1 < 2147483648
@@ -327,7 +327,7 @@ module _ (f : SearchInput) (g : Setting) (vs es x only to : List ℕ) (bs : ℕ 
                   ap (λ (b : List Branches). viewOf f (nameOf es) only to b t′ sc′ q) (branches-other bs n q (omega arith))
                   ∙ pushed-view only to (f .source) t sc n G I f (nameOf es) (bs q) (closedRow t sc taken) q l;
               closed = λ c q l. pushed-closed only to (f .source) t sc n G I f (nameOf es) (closedRow t sc taken) c q l;
-              joined = λ q l d. put-same t n (closedRow t sc taken) q 6 l (omega arith);
+              joined = λ q l d. put-same t n (closedRow t sc taken) q 7 l (omega arith);
               parent = λ q l. put-same t n (closedRow t sc taken) q 0 l (omega arith);
               score = λ q l. getD-set-other sc n q (scoreOf sc r) nan (omega arith);
             }
@@ -338,7 +338,7 @@ module _ (f : SearchInput) (g : Setting) (vs es x only to : List ℕ) (bs : ℕ 
 
         trees-old : (q : ℕ) → q < n → treesOf t′ q ≡ treesOf t q
         unfolding t′
-        trees-old q l = rw (put-same t n (closedRow t sc taken) q 7 l (omega arith))
+        trees-old q l = rw (put-same t n (closedRow t sc taken) q 8 l (omega arith))
 
         count-new : countOf t′ n ≡ closedRow t sc taken .edges
         unfolding t′
@@ -517,7 +517,7 @@ module _ (f : SearchInput) (g : Setting) (vs es x only to : List ℕ) (bs : ℕ 
   joined-chain = ap (λ (c : Closed Float). defs.chain f (defs.endFrom (f .source) (c .edges))) (J .kept .closed 0 (taken .path) known)
 
   -- what this step asks
-  pub joined-closing : Ground f g vs es x only to → p .closed < length shut → (p .records + 1) * 8 ≤ length t′ → p .records + 1 ≤ length sc′ → (p .records + 1) * g .active ≤ length ac′
+  pub joined-closing : Ground f g vs es x only to → p .closed < length shut → (p .records + 1) * 9 ≤ length t′ → p .records + 1 ≤ length sc′ → (p .records + 1) * g .active ≤ length ac′
       → p .records + 1 < 2147483648 → Closing f g vs es x only to (J .branches) cl t′ sc′ ac′ queue shut order marks p s taken
   joined-closing G more a b c few =
       record {

@@ -233,7 +233,7 @@ module _ (f : SearchInput) (g : Setting) (vs es x only to : List ℕ) (bs : ℕ 
 
         trees-other : (q : ℕ) → q ≢ r → treesOf t′ q ≡ treesOf t q
         unfolding t′
-        trees-other q d = rw (put-other t r (joinedRow (pathAt t sc r) v) q 7 d (omega arith))
+        trees-other q d = rw (put-other t r (joinedRow (pathAt t sc r) v) q 8 d (omega arith))
 
         -- the slots of another record stay
         apart : (q : ℕ) → q < n → q ≢ r → (i : ℕ) → q * g .active ≤ i → i < q * g .active + treesOf t q → getD ac′ i 0 ≡ getD ac i 0
@@ -303,7 +303,7 @@ module _ (f : SearchInput) (g : Setting) (vs es x only to : List ℕ) (bs : ℕ 
                         ap (λ (c : List Branches). viewOf f (nameOf es) only to c t′ sc q) (other q d)
                         ∙ joined-view only to (f .source) t sc n r v (J .records .held) (J .known) f (nameOf es) (bs q) (J .childless) q l d;
                     closed = λ c q l. joined-closed only to (f .source) t sc n r v (J .records .held) (J .known) f (nameOf es) c q l;
-                    joined = λ q l d. put-other t r (joinedRow (pathAt t sc r) v) q 6 d (omega arith);
+                    joined = λ q l d. put-other t r (joinedRow (pathAt t sc r) v) q 7 d (omega arith);
                     parent = λ q l. joined-same only to t sc n r v T (J .known) q 0 l (omega arith);
                     score = λ q l. refl;
                   };

@@ -28,7 +28,7 @@ use Rattle.path_extensions.specs.Offer.{OfferStands, tried}
 
 -- there is room for eight records from n on
 pub record Rooms (g : Setting) (t : List ℕ) (sc : List Float) (ac : List ℕ) (n : ℕ) : Type 0 where
-  pub paths : (n + 8) * 8 ≤ length t
+  pub paths : (n + 8) * 9 ≤ length t
   pub scores : n + 8 ≤ length sc
   pub actives : (n + 8) * g .active ≤ length ac
   pub number : n + 8 < 2147483648
@@ -217,7 +217,7 @@ module _ {g : Setting} {es x only to : List ℕ} {column : List Float} {t₀ : L
       trying-asks =
           let H = O .stands .here in
           let S = so-far (O .stands .input) (O .stands .trees) H in
-          let e : sinceOf t (taken .path) ≡ sinceOf t₀ (taken .path) = S .to-here .cells (taken .path) 5 (H .known) (omega arith) in
+          let e : sinceOf t (taken .path) ≡ sinceOf t₀ (taken .path) = S .to-here .cells (taken .path) 6 (H .known) (omega arith) in
           let a = O .inside in
           let b = S .most in
           let d = O .few in

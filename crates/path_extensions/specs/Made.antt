@@ -33,7 +33,7 @@ pub record MadeTo (f : SearchInput) (g : Setting) (es x only to : List ℕ) (bs 
   pub records : Records f g es x only to bs′ t′ sc′ ac′ n′
   pub kept : Kept f es only to bs t sc bs′ t′ sc′ n n
   pub same : (q : ℕ) → q < n → bs′ q ≡ bs q
-  pub cells : Same 8 t t′ n
+  pub cells : Same 9 t t′ n
   pub up : n ≤ n′
   pub new : New t′ n n′ path
   pub is : ps ≡ map (pathOf f es only to bs′ t′ sc′) (upFrom n (n′ - n))
@@ -80,14 +80,14 @@ module _ (f : SearchInput) (g : Setting) (es x only to : List ℕ) where
       }
 
   module _ (bs : ℕ → List Branches) (t : List ℕ) (sc : List Float) (n : ℕ) where
-    pub kept-of : Held only to (f .source) t sc n → (bs′ : ℕ → List Branches) (u : List ℕ) (sd : List Float) → Same 8 t u n → ((q : ℕ) → q < n → scoreOf sd q ≡ scoreOf sc q)
+    pub kept-of : Held only to (f .source) t sc n → (bs′ : ℕ → List Branches) (u : List ℕ) (sd : List Float) → Same 9 t u n → ((q : ℕ) → q < n → scoreOf sd q ≡ scoreOf sc q)
         → ((q : ℕ) → q < n → bs′ q ≡ bs q) → Kept f es only to bs t sc bs′ u sd n n
     kept-of H bs′ u sd c s b =
         record {
           path = λ q l m.
               ap (λ (d : List Branches). viewOf f (nameOf es) only to d u sd q) (b q l) ∙ view-kept f (nameOf es) only to (bs q) t u sc sd n q (H .table) c (s q l) l;
           closed = λ k q l. closed-kept f (nameOf es) only to t u sc sd n k q (H .table) (λ a j h i. c a j h (omega arith)) (s q l) l;
-          joined = λ q l m. c q 6 l (omega arith);
+          joined = λ q l m. c q 7 l (omega arith);
           parent = λ q l. c q 0 l (omega arith);
           score = s;
         }

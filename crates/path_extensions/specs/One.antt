@@ -83,7 +83,7 @@ pub record Gives (g : Setting) (es x only to t : List ℕ) (sc : List Float) (ac
 
 -- there is room for the record n
 pub record Place (g : Setting) (t : List ℕ) (sc : List Float) (ac : List ℕ) (n : ℕ) : Type 0 where
-  pub paths : (n + 1) * 8 ≤ length t
+  pub paths : (n + 1) * 9 ≤ length t
   pub scores : n + 1 ≤ length sc
   pub actives : (n + 1) * g .active ≤ length ac
   pub number : n + 1 < 2147483648
@@ -239,7 +239,7 @@ module _ (g : Setting) (es x only to t : List ℕ) (sc : List Float) (ac : List 
           abbrev bd : ℕ → List Branches
           bd = putTrees bs n walked
 
-          old-cells : Same 8 t u n
+          old-cells : Same 9 t u n
           old-cells = put-same t n row
 
           old-score : (q : ℕ) → q < n → scoreOf sd q ≡ scoreOf sc q
@@ -252,7 +252,7 @@ module _ (g : Setting) (es x only to t : List ℕ) (sc : List Float) (ac : List 
           new-trees = put-trees t n row (place-inside .cells)
 
           kept-trees : (q : ℕ) → q < n → treesOf u q ≡ treesOf t q
-          kept-trees q l = ap (λ (d : ℕ). d / 2) (old-cells q 7 l (omega arith))
+          kept-trees q l = ap (λ (d : ℕ). d / 2) (old-cells q 8 l (omega arith))
 
           by-cases : (Q : ℕ → Type 0) → ((q : ℕ) → q < n → Q q) → Q n → (q : ℕ) → q < n + 1 → Q q
           by-cases Q below this q l = go (ℕ-discrete q n)
@@ -308,7 +308,7 @@ module _ (g : Setting) (es x only to t : List ℕ) (sc : List Float) (ac : List 
                 up = omega arith;
                 new =
                     record {
-                      unjoined = λ q l m. let z : q ≡ n = omega arith in rw z (put-at t n row (place-inside .cells) 6 (omega arith));
+                      unjoined = λ q l m. let z : q ≡ n = omega arith in rw z (put-at t n row (place-inside .cells) 7 (omega arith));
                       parent = λ q l m. let z : q ≡ n = omega arith in rw z (put-at t n row (place-inside .cells) 0 (omega arith) ∙ add-one (taken .path));
                     };
                 is =

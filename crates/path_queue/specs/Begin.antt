@@ -127,7 +127,7 @@ module _ {g : Setting} {vs es queue order marks : List ℕ} (L : ListsPivotal g 
 
 pub record Begins (g : Setting) (vs es t : List ℕ) (sc : List Float) (queue pivots order marks : List ℕ) : Type 0 where
   pub lists : ListsPivotal g vs es pivots order marks
-  pub paths : 8 ≤ length t
+  pub paths : 9 ≤ length t
   pub scores : 0 < length sc
   pub allowed : 0 < g .pushes
   pub waiting : g .pushes ≤ length queue
@@ -167,11 +167,11 @@ module _ {g : Setting} {vs es t : List ℕ} {sc : List Float} {queue pivots orde
           later = λ i h. absurd (omega arith);
         }
 
-    cell : (j : ℕ) → j < 8 → getD t′ (0 * 8 + j) 0 ≡ getD (0 ∷ 0 ∷ 0 ∷ 0 ∷ 0 ∷ 0 ∷ 0 ∷ 0 ∷ []) j 0
+    cell : (j : ℕ) → j < 9 → getD t′ (0 * 9 + j) 0 ≡ getD (0 ∷ 0 ∷ 0 ∷ 0 ∷ 0 ∷ 0 ∷ 0 ∷ 0 ∷ 0 ∷ []) j 0
     cell j h = rw (S .cells) (put-at t 0 (startRow 0) (omega (arith, A .paths)) j h)
 
     idle : Idle t′ 1 0
-    idle = record { known = omega arith; unjoined = cell 6 (omega arith); childless = λ q h. let z : q ≡ 0 = omega arith in rw z (λ e. omega (arith, cell 0 (omega arith))) }
+    idle = record { known = omega arith; unjoined = cell 7 (omega arith); childless = λ q h. let z : q ≡ 0 = omega arith in rw z (λ e. omega (arith, cell 0 (omega arith))) }
 
     module _ (f : SearchInput) (x only to ac : List ℕ) (B : Ground f g vs es x only to) where
       records : Records f g es x only to (λ r. []) t′ sc′ ac 1

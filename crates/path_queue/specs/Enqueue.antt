@@ -58,7 +58,7 @@ pub record TriesNext (es only to t : List ℕ) (sc : List Float) (shut order mar
   pub around : Around
   pub state : State Float
   pub resting : Resting around es only to t sc shut order marks g p state
-  pub paths : (p .records + 1) * 8 ≤ length t
+  pub paths : (p .records + 1) * 9 ≤ length t
   pub scores : p .records + 1 ≤ length sc
   pub fits : p .records + 1 < 4294967296
   pub walk-room : g .most ≤ length walk
@@ -146,7 +146,7 @@ module _ {A : Around} {es only to t : List ℕ} {sc : List Float} {shut order ma
 
   module _ (I : Inside t sc (p .records)) (b k e : ℕ) (l : b < p .records) (pos : 0 < k) (low : k ≤ countOf t b) (h : e < length to) (m : k + 1 ≤ g .most) where
     new-cells : List ℕ
-    new-cells = putCells t (p .records) (recoveredRow t sc to b k e)
+    new-cells = putCells t (p .records) (recoveredRow only t sc to b k e)
 
     new-scores : List Float
     new-scores = set sc (p .records) (scoreOf sc b)
@@ -155,9 +155,9 @@ module _ {A : Around} {es only to t : List ℕ} {sc : List Float} {shut order ma
     unfolding new-cells new-scores
     new-held = held-recovered only to (A .f .source) t sc (p .records) (R .holds .records .held) I b k e l pos low h
 
-    old-cell : (r j : ℕ) → r < p .records → j < 8 → field new-cells 8 r j ≡ field t 8 r j
+    old-cell : (r j : ℕ) → r < p .records → j < 9 → field new-cells 9 r j ≡ field t 9 r j
     unfolding new-cells
-    old-cell r j a c = put-other t (p .records) (recoveredRow t sc to b k e) r j (omega arith) c
+    old-cell r j a c = put-other t (p .records) (recoveredRow only t sc to b k e) r j (omega arith) c
 
     old-score : (r : ℕ) → r < p .records → scoreOf new-scores r ≡ scoreOf sc r
     unfolding new-scores
@@ -169,15 +169,15 @@ module _ {A : Around} {es only to t : List ℕ} {sc : List Float} {shut order ma
 
     new-trees : treesOf new-cells (p .records) ≡ 0
     unfolding new-cells
-    new-trees = put-trees t (p .records) (recoveredRow t sc to b k e) (I .cells)
+    new-trees = put-trees t (p .records) (recoveredRow only t sc to b k e) (I .cells)
 
     new-count : countOf new-cells (p .records) ≡ k + 1
     unfolding new-cells
-    new-count = put-at t (p .records) (recoveredRow t sc to b k e) (I .cells) 3 (omega arith)
+    new-count = put-at t (p .records) (recoveredRow only t sc to b k e) (I .cells) 3 (omega arith)
 
     new-joined : joinedOf new-cells (p .records) ≡ 0
     unfolding new-cells
-    new-joined = put-at t (p .records) (recoveredRow t sc to b k e) (I .cells) 6 (omega arith)
+    new-joined = put-at t (p .records) (recoveredRow only t sc to b k e) (I .cells) 7 (omega arith)
 
     row-room : p .records * g .active ≤ length (A .ac)
     row-room = let q : p .records * g .active ≤ (p .records + 1) * g .active = omega arith in omega (arith, R .actives)
@@ -198,14 +198,14 @@ module _ {A : Around} {es only to t : List ℕ} {sc : List Float} {shut order ma
             → Actives (g .cap) (g .nodes) (A .x) (A .ac) (r * g .active) (r * g .active + treesOf new-cells r) (with-none (A .bs) (p .records) r)
         go r (inl a) =
             actives-same (g .cap) (g .nodes) (A .x) (A .ac) (r * g .active) (r * g .active + treesOf t r) (r * g .active + treesOf new-cells r) (A .bs r) (with-none (A .bs) (p .records) r)
-            (ap (λ y. r * g .active + y / 2) (old-cell r 7 a (omega arith))) (with-old (A .bs) (p .records) r a) (R .holds .records .actives r a)
+            (ap (λ y. r * g .active + y / 2) (old-cell r 8 a (omega arith))) (with-old (A .bs) (p .records) r a) (R .holds .records .actives r a)
         go r (inr e) =
             rw e
             (actives-none (g .cap) (g .nodes) (A .x) (A .ac) (p .records * g .active) (p .records * g .active + treesOf new-cells (p .records)) (with-none (A .bs) (p .records) (p .records))
             (with-new (A .bs) (p .records) (p .records) refl) (omega (arith, new-trees)) row-room (R .ground .nodes) (R .ground .wide))
 
         few : (r : ℕ) → (r < p .records) ⊎ (r ≡ p .records) → treesOf new-cells r ≤ g .active
-        few r (inl a) = omega (arith, ap (λ y. y / 2) (old-cell r 7 a (omega arith)), R .holds .records .trees r a)
+        few r (inl a) = omega (arith, ap (λ y. y / 2) (old-cell r 8 a (omega arith)), R .holds .records .trees r a)
         few r (inr e) = rw e (omega (arith, new-trees))
 
         all : (r : ℕ) → (r < p .records) ⊎ (r ≡ p .records) → All (Small 65535) (with-none (A .bs) (p .records) r)
@@ -220,7 +220,7 @@ module _ {A : Around} {es only to t : List ℕ} {sc : List Float} {shut order ma
         num r (inl a) = ap (λ y. isNan y) (old-score r a) ∙ R .holds .records .number r a
         num r (inr e) = ap (λ y. isNan (scoreOf new-scores y)) e ∙ ap (λ y. isNan y) new-score ∙ R .holds .records .number b l
 
-    new-idle : Idle (putCells t (p .records) (recoveredRow t sc to b k e)) (p .records + 1) (p .records)
+    new-idle : Idle (putCells t (p .records) (recoveredRow only t sc to b k e)) (p .records + 1) (p .records)
     unfolding new-cells
     new-idle =
         record {
@@ -229,7 +229,7 @@ module _ {A : Around} {es only to t : List ℕ} {sc : List Float} {shut order ma
           childless = λ q a z. omega (arith, new-held .table .rows q a .rises);
         }
 
-    new-holds : Holds (A .f) g es (A .x) only to (with-none (A .bs) (p .records)) (A .closing) (putCells t (p .records) (recoveredRow t sc to b k e)) (set sc (p .records) (scoreOf sc b)) (A .ac) (A .queue) shut order marks (oneMore p) s
+    new-holds : Holds (A .f) g es (A .x) only to (with-none (A .bs) (p .records)) (A .closing) (putCells t (p .records) (recoveredRow only t sc to b k e)) (set sc (p .records) (scoreOf sc b)) (A .ac) (A .queue) shut order marks (oneMore p) s
     unfolding new-cells new-scores
     new-holds =
         let H = R .holds in
@@ -243,7 +243,7 @@ module _ {A : Around} {es only to t : List ℕ} {sc : List Float} {shut order ma
           closed =
               H .closed
               ∙ map-same
-              (all-mono (λ r a. sym (pushed-closed only to (A .f .source) t sc (p .records) (H .records .held) I (A .f) (nameOf es) (recoveredRow t sc to b k e) (A .closing r) r a)) (H .shut-known));
+              (all-mono (λ r a. sym (pushed-closed only to (A .f .source) t sc (p .records) (H .records .held) I (A .f) (nameOf es) (recoveredRow only t sc to b k e) (A .closing r) r a)) (H .shut-known));
           shut-room = H .shut-room;
           pivotal = H .pivotal;
           pivotal-once = H .pivotal-once;
@@ -289,7 +289,7 @@ module _ {A : Around} {es only to t : List ℕ} {sc : List Float} {shut order ma
           gives-made : kept only to t b (field es 6 e 0) + 1 ≤ g .most
               → recover (columnScoring column) (A .f) (nameOf es e) s
               ≡ made s
-              (viewOf (A .f) (nameOf es) only to [] (putCells t (p .records) (recoveredRow t sc to b (kept only to t b (field es 6 e 0)) e)) (set sc (p .records) (scoreOf sc b)) (p .records) ∷ [])
+              (viewOf (A .f) (nameOf es) only to [] (putCells t (p .records) (recoveredRow only t sc to b (kept only to t b (field es 6 e 0)) e)) (set sc (p .records) (scoreOf sc b)) (p .records) ∷ [])
           gives-made o =
               recover-made (A .f) (nameOf es) only to (R .ground .agrees) column (A .closing) t sc (p .records) (R .holds .records .held .table) e (take (p .closed) shut) s (R .holds .closed)
               b (B ∙ best-source) l (kept only to t b (field es 6 e 0)) refl pos I h (omega (arith, R .ground .most))
@@ -439,7 +439,7 @@ module _ {es only to t : List ℕ} {sc : List Float} {shut order marks walk : Li
 
       -- a path was made
       more : (A : Around) (s : State Float) (column : List Float) → Resting A es only to t sc shut order marks g p s → (t′ : List ℕ) (sc′ : List Float) (p′ : Progress) → 0 < best
-          → Recovered to t sc g (nextAt p place) (best - 1) keeps e t′ sc′ p′ → Remade A es only to shut order marks g p s column t′ sc′ p′
+          → Recovered only to t sc g (nextAt p place) (best - 1) keeps e t′ sc′ p′ → Remade A es only to shut order marks g p s column t′ sc′ p′
       unfolding next-edge
       more A s column R t′ sc′ p′ pos L =
           let S = next-resting R N h in
@@ -447,9 +447,9 @@ module _ {es only to t : List ℕ} {sc : List Float} {shut order marks walk : Li
           let E = edge-known R place h in
           let B : suc (best - 1) ≡ best = omega arith in
           let low = keeps-low S column e (best - 1) B l (L .some) in
-          let view = pathOf (A .f) es only to (with-none (A .bs) (p .records)) (putCells t (p .records) (recoveredRow t sc to (best - 1) keeps e)) (set sc (p .records) (scoreOf sc (best - 1))) in
-          let one : viewOf (A .f) (nameOf es) only to [] (putCells t (p .records) (recoveredRow t sc to (best - 1) keeps e)) (set sc (p .records) (scoreOf sc (best - 1))) (p .records) ≡ view (p .records) =
-          ap (λ (y : List Branches). viewOf (A .f) (nameOf es) only to y (putCells t (p .records) (recoveredRow t sc to (best - 1) keeps e)) (set sc (p .records) (scoreOf sc (best - 1))) (p .records))
+          let view = pathOf (A .f) es only to (with-none (A .bs) (p .records)) (putCells t (p .records) (recoveredRow only t sc to (best - 1) keeps e)) (set sc (p .records) (scoreOf sc (best - 1))) in
+          let one : viewOf (A .f) (nameOf es) only to [] (putCells t (p .records) (recoveredRow only t sc to (best - 1) keeps e)) (set sc (p .records) (scoreOf sc (best - 1))) (p .records) ≡ view (p .records) =
+          ap (λ (y : List Branches). viewOf (A .f) (nameOf es) only to y (putCells t (p .records) (recoveredRow only t sc to (best - 1) keeps e)) (set sc (p .records) (scoreOf sc (best - 1))) (p .records))
           (sym (with-new (A .bs) (p .records) (p .records) refl))
           in
           rw (L .progress, L .cells, L .scores)
@@ -464,7 +464,7 @@ module _ {es only to t : List ℕ} {sc : List Float} {shut order marks walk : Li
             new = λ d a c. (let z : d ≡ p .records = omega arith in rw z (new-idle S inside (best - 1) keeps e l (L .some) low E (L .short)));
           })
 
-      more-moved : (t′ : List ℕ) (sc′ : List Float) (p′ : Progress) → Recovered to t sc g (nextAt p place) (best - 1) keeps e t′ sc′ p′ → Moved p p′
+      more-moved : (t′ : List ℕ) (sc′ : List Float) (p′ : Progress) → Recovered only to t sc g (nextAt p place) (best - 1) keeps e t′ sc′ p′ → Moved p p′
       more-moved t′ sc′ p′ L =
           rw (L .progress)
           (record { next = omega (arith, N .low); low = omega arith; high = omega arith; waiting = refl; closed = refl; pivotal = refl; pushes = refl; mark = refl })
@@ -491,7 +491,7 @@ module _ {es only to t : List ℕ} {sc : List Float} {shut order marks walk : Li
           (lost-moved t′ sc′ p′ L, λ A s column R. lost A s column R t′ sc′ p′ L (gives-none (next-resting R N h) column e (q .0)))
       step-tried t′ sc′ (recovery.Made p′) (inr q) = go (q .1)
         where
-          go : ((keeps ≡ 0) × Lost t sc (nextAt p place) t′ sc′ p′) ⊎ Recovered to t sc g (nextAt p place) (best - 1) keeps e t′ sc′ p′
+          go : ((keeps ≡ 0) × Lost t sc (nextAt p place) t′ sc′ p′) ⊎ Recovered only to t sc g (nextAt p place) (best - 1) keeps e t′ sc′ p′
               → Tried es only to t sc shut order marks g p t′ sc′ (recovery.Made p′)
           go (inl L) = (
             lost-moved t′ sc′ p′ (L .1),

@@ -12,7 +12,6 @@ use Rattle.path_store.specs.declared.growth.PathAnswer.{PathAnswer}
 use Rattle.path_store.specs.declared.growth.PathAnswer.the-variants as answer
 use Rattle.path_store.specs.Cells.{countOf, scoreOf, Inside, putCells}
 use Rattle.path_store.specs.Path.{Table, edges, table-front}
-use Rattle.path_store.specs.Cut.{Links, table-links, links-front}
 use Rattle.path_store.specs.Grow.{Growable, Grown, recoveredRow}
 use Rattle.path_store.specs.Held.{grown-made, grown-refused}
 use Rattle.path_store.specs.Split.{splitAt}
@@ -86,11 +85,11 @@ pub record Lost (t : List ℕ) (sc : List Float) (p : Progress) (t′ : List ℕ
   pub scores : sc′ ≡ sc
 
 -- the record is made of the first k edges
-pub record Recovered (to t : List ℕ) (sc : List Float) (g : Setting) (p : Progress) (path k e : ℕ) (t′ : List ℕ) (sc′ : List Float) (p′ : Progress) : Type 0 where
+pub record Recovered (only to t : List ℕ) (sc : List Float) (g : Setting) (p : Progress) (path k e : ℕ) (t′ : List ℕ) (sc′ : List Float) (p′ : Progress) : Type 0 where
   pub some : 0 < k
   pub short : k + 1 ≤ g .most
   pub progress : p′ ≡ oneMore p
-  pub cells : t′ ≡ putCells t (p .records) (recoveredRow t sc to path k e)
+  pub cells : t′ ≡ putCells t (p .records) (recoveredRow only t sc to path k e)
   pub scores : sc′ ≡ set sc (p .records) (scoreOf sc path)
 
 pub record Long (g : Setting) (k n : ℕ) : Type 0 where
@@ -101,7 +100,7 @@ pub record Long (g : Setting) (k n : ℕ) : Type 0 where
 abbrev pub Left : List ℕ → List ℕ → List ℕ → List Float → Setting → Progress → ℕ → ℕ → ℕ → List ℕ → List Float → Recovery → Type 0
 Left only to t sc g p path v e t′ sc′ recovery.Ended = ⊥
 Left only to t sc g p path v e t′ sc′ (recovery.Made p′) =
-    ((kept only to t path v ≡ 0) × Lost t sc p t′ sc′ p′) ⊎ Recovered to t sc g p path (kept only to t path v) e t′ sc′ p′
+    ((kept only to t path v ≡ 0) × Lost t sc p t′ sc′ p′) ⊎ Recovered only to t sc g p path (kept only to t path v) e t′ sc′ p′
 Left only to t sc g p path v e t′ sc′ (recovery.Refused n) = Long g (kept only to t path v) n
 
 module _ {only to t : List ℕ} {sc : List Float} {walk : List ℕ} {g : Setting} {p : Progress} {path e : ℕ} (L : Leaves only to t sc walk g p path e) where
@@ -124,23 +123,23 @@ module _ {only to t : List ℕ} {sc : List Float} {walk : List ℕ} {g : Setting
       leave-fits = omega (arith, low, L .short, L .most-fits)
 
       pub leave-asks : (c : ℕ) → c ≡ k
-          → Growable t sc (p .records) path × Links t sc (path + 1) × (0 < c) × (c ≤ countOf t path) × (e < length to) × (e + 1 < 4294967296)
+          → Growable t sc (p .records) path × Table only to t sc (path + 1) × (0 < c) × (c ≤ countOf t path) × (e < length to) × (e + 1 < 4294967296)
       leave-asks c q =
-          (record { room = L .room; known = L .known }, links-front t sc (p .records) (path + 1) (table-links only to t sc (p .records) (L .table)) (omega (arith, L .known)), omega arith, omega (arith, low), L .edge, omega (arith, L .edge, L .table .graph .small))
+          (record { room = L .room; known = L .known }, table-front only to t sc (p .records) (path + 1) (L .table) (omega (arith, L .known)), omega arith, omega (arith, low), L .edge, omega (arith, L .edge, L .table .graph .small))
 
       module _ (c : ℕ) (q : c ≡ k) (t′ : List ℕ) (sc′ : List Float) (r : PathAnswer)
-          (G : Grown t sc (p .records) (recoveredRow t sc to path c e) (g .most) r t′ sc′) where
+          (G : Grown t sc (p .records) (recoveredRow only t sc to path c e) (g .most) r t′ sc′) where
         same : c ≡ kept only to t path v
         same = q ∙ K
 
         pub leave-over : (n : ℕ) → r ≡ answer.Refused n → Left only to t sc g p path v e t′ sc′ (recovery.Refused 11)
         leave-over n E =
-            let R = grown-refused t sc (p .records) (recoveredRow t sc to path c e) (g .most) t′ sc′ n (rw E at G) in
+            let R = grown-refused t sc (p .records) (recoveredRow only t sc to path c e) (g .most) t′ sc′ n (rw E at G) in
             record { number = refl; some = omega (arith, same); over = omega (arith, same, R .1) }
 
         pub leave-made : (n : ℕ) → r ≡ answer.Made n → Left only to t sc g p path v e t′ sc′ (recovery.Made (oneMore p))
         leave-made n E =
-            let R = grown-made t sc (p .records) (recoveredRow t sc to path c e) (g .most) t′ sc′ n (rw E at G) in
+            let R = grown-made t sc (p .records) (recoveredRow only t sc to path c e) (g .most) t′ sc′ n (rw E at G) in
             inr
             (rw (← same)
             (record { some = omega arith; short = R .1; progress = refl; cells = R .0 .cells; scores = R .0 .scores }))

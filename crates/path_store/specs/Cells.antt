@@ -1,6 +1,6 @@
--- The record of a path in two slices: eight numbers and a score. Cell 0 has the parent's number + 1, 1 the length of the chain, 2 the last edge + 1,
--- 3 the count of edges, 4 the last vertex, 5 the decisions since guidance, 6 the joined tree's vertex + 1, 7 twice the number of active trees, with 1
--- more for a recovered path.
+-- The record of a path in two slices: nine numbers and a score. Cell 0 has the parent's number + 1, 1 the length of the chain, 2 the last edge + 1,
+-- 3 the count of edges, 4 the last vertex, 5 the vertex that the chain leads to, 6 the decisions since guidance, 7 the joined tree's vertex + 1, 8 twice
+-- the number of active trees, with 1 more for a recovered path.
 use mathlib.Core.Path.{_≡_, refl, sym, ap, _∙_}
 use mathlib.Core.Logic.{_⊎_, inl, inr, _≢_}
 use mathlib.Core.Bool.{Bool, true, false, cond}
@@ -18,31 +18,34 @@ use Rattle.path_store.specs.declared.records.PathRecord.{PathRecord}
 -- ---- the cells
 
 abbrev pub parentOf : List ℕ → ℕ → ℕ
-parentOf t r = field t 8 r 0
+parentOf t r = field t 9 r 0
 
 abbrev pub chainOf : List ℕ → ℕ → ℕ
-chainOf t r = field t 8 r 1
+chainOf t r = field t 9 r 1
 
 abbrev pub edgeOf : List ℕ → ℕ → ℕ
-edgeOf t r = field t 8 r 2
+edgeOf t r = field t 9 r 2
 
 abbrev pub countOf : List ℕ → ℕ → ℕ
-countOf t r = field t 8 r 3
+countOf t r = field t 9 r 3
 
 abbrev pub endOf : List ℕ → ℕ → ℕ
-endOf t r = field t 8 r 4
+endOf t r = field t 9 r 4
+
+abbrev pub forkOf : List ℕ → ℕ → ℕ
+forkOf t r = field t 9 r 5
 
 abbrev pub sinceOf : List ℕ → ℕ → ℕ
-sinceOf t r = field t 8 r 5
+sinceOf t r = field t 9 r 6
 
 abbrev pub joinedOf : List ℕ → ℕ → ℕ
-joinedOf t r = field t 8 r 6
+joinedOf t r = field t 9 r 7
 
 abbrev pub treesOf : List ℕ → ℕ → ℕ
-treesOf t r = field t 8 r 7 / 2
+treesOf t r = field t 9 r 8 / 2
 
 abbrev pub recoveredOf : List ℕ → ℕ → Bool
-recoveredOf t r = eqb (field t 8 r 7 % 2) 1
+recoveredOf t r = eqb (field t 9 r 8 % 2) 1
 
 abbrev pub scoreOf : List Float → ℕ → Float
 scoreOf sc r = getD sc r nan
@@ -50,7 +53,7 @@ scoreOf sc r = getD sc r nan
 -- ---- what the functions say
 
 pub record Inside (t : List ℕ) (sc : List Float) (r : ℕ) : Type 0 where
-  pub cells : r * 8 + 8 ≤ length t
+  pub cells : r * 9 + 9 ≤ length t
   pub score : r < length sc
 
 abbrev pub pathAt : List ℕ → List Float → ℕ → PathRecord
@@ -62,6 +65,7 @@ pathAt t sc r =
       edge = edgeOf t r;
       edges = countOf t r;
       end = endOf t r;
+      fork = forkOf t r;
       since = sinceOf t r;
       joined = joinedOf t r;
       trees = treesOf t r;
@@ -70,11 +74,11 @@ pathAt t sc r =
 
 abbrev pub cellsOf : PathRecord → List ℕ
 cellsOf row =
-    row .parent ∷ row .chain ∷ row .edge ∷ row .edges ∷ row .end ∷ row .since ∷ row .joined ∷ (row .trees * 2 + cond (row .recovered) 1 0) ∷ []
+    row .parent ∷ row .chain ∷ row .edge ∷ row .edges ∷ row .end ∷ row .fork ∷ row .since ∷ row .joined ∷ (row .trees * 2 + cond (row .recovered) 1 0) ∷ []
 
 -- the record r becomes `row`
 abbrev pub putCells : List ℕ → ℕ → PathRecord → List ℕ
-putCells t r row = putFrom t 8 r 0 (cellsOf row)
+putCells t r row = putFrom t 9 r 0 (cellsOf row)
 
 pub record Stored (t : List ℕ) (sc : List Float) (r : ℕ) (row : PathRecord) (t′ : List ℕ) (sc′ : List Float) : Type 0 where
   pub cells : t′ ≡ putCells t r row
@@ -82,15 +86,15 @@ pub record Stored (t : List ℕ) (sc : List Float) (r : ℕ) (row : PathRecord) 
 
 -- the marks as the code makes them
 pub put-marks : (t : List ℕ) (r : ℕ) (row : PathRecord) (b : ℕ) → b ≡ cond (row .recovered) 1 0
-    → putFrom t 8 r 0 (row .parent ∷ row .chain ∷ row .edge ∷ row .edges ∷ row .end ∷ row .since ∷ row .joined ∷ (row .trees * 2 + b) ∷ []) ≡ putCells t r row
+    → putFrom t 9 r 0 (row .parent ∷ row .chain ∷ row .edge ∷ row .edges ∷ row .end ∷ row .fork ∷ row .since ∷ row .joined ∷ (row .trees * 2 + b) ∷ []) ≡ putCells t r row
 put-marks t r row b e = rw e
 
 -- ---- the record that was put is read, and any other stays
 pub put-length : (t : List ℕ) (r : ℕ) (row : PathRecord) → length (putCells t r row) ≡ length t
-put-length t r row = length-putFrom t 8 r 0 (cellsOf row)
+put-length t r row = length-putFrom t 9 r 0 (cellsOf row)
 
-pub put-other : (t : List ℕ) (r : ℕ) (row : PathRecord) (q j : ℕ) → q ≢ r → j < 8 → field (putCells t r row) 8 q j ≡ field t 8 q j
-put-other t r row q j m l = putFrom-row t 8 r 0 (cellsOf row) q j (omega arith) l m
+pub put-other : (t : List ℕ) (r : ℕ) (row : PathRecord) (q j : ℕ) → q ≢ r → j < 9 → field (putCells t r row) 9 q j ≡ field t 9 q j
+put-other t r row q j m l = putFrom-row t 9 r 0 (cellsOf row) q j (omega arith) l m
 
 half : (a : ℕ) (b : Bool) → (a * 2 + cond b 1 0) / 2 ≡ a
 half a true = omega arith
@@ -110,26 +114,27 @@ again row =
       edge = row .edge;
       edges = row .edges;
       end = row .end;
+      fork = row .fork;
       since = row .since;
       joined = row .joined;
       trees = row .trees;
       recovered = row .recovered;
     }
 
-module _ (t : List ℕ) (r : ℕ) (row : PathRecord) (room : r * 8 + 8 ≤ length t) where
-  pub put-at : (j : ℕ) → j < 8 → field (putCells t r row) 8 r j ≡ getD (cellsOf row) j 0
-  put-at j l = let z : j - 0 ≡ j = omega arith in putFrom-at t 8 r 0 (cellsOf row) j room (omega arith) (omega arith) l ∙ rw z
+module _ (t : List ℕ) (r : ℕ) (row : PathRecord) (room : r * 9 + 9 ≤ length t) where
+  pub put-at : (j : ℕ) → j < 9 → field (putCells t r row) 9 r j ≡ getD (cellsOf row) j 0
+  put-at j l = let z : j - 0 ≡ j = omega arith in putFrom-at t 9 r 0 (cellsOf row) j room (omega arith) (omega arith) l ∙ rw z
 
   pub put-trees : treesOf (putCells t r row) r ≡ row .trees
-  put-trees = ap (λ x. x / 2) (put-at 7 (omega arith)) ∙ half (row .trees) (row .recovered)
+  put-trees = ap (λ x. x / 2) (put-at 8 (omega arith)) ∙ half (row .trees) (row .recovered)
 
   pub put-recovered : recoveredOf (putCells t r row) r ≡ row .recovered
-  put-recovered = ap (λ x. eqb (x % 2) 1) (put-at 7 (omega arith)) ∙ odd (row .trees) (row .recovered)
+  put-recovered = ap (λ x. eqb (x % 2) 1) (put-at 8 (omega arith)) ∙ odd (row .trees) (row .recovered)
 
   pub put-read : (sc : List Float) → r < length sc → pathAt (putCells t r row) (set sc r (row .score)) r ≡ row
   put-read sc l =
       let e : pathAt (putCells t r row) (set sc r (row .score)) r ≡ again row =
       cc
-      (getD-set-same sc r (row .score) nan l, put-at 0 (omega arith), put-at 1 (omega arith), put-at 2 (omega arith), put-at 3 (omega arith), put-at 4 (omega arith), put-at 5 (omega arith), put-at 6 (omega arith), put-trees, put-recovered)
+      (getD-set-same sc r (row .score) nan l, put-at 0 (omega arith), put-at 1 (omega arith), put-at 2 (omega arith), put-at 3 (omega arith), put-at 4 (omega arith), put-at 5 (omega arith), put-at 6 (omega arith), put-at 7 (omega arith), put-trees, put-recovered)
       in
       e

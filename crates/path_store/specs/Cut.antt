@@ -42,7 +42,7 @@ cutOf t k r = cutAt t k (ownerOf t k r)
 
 -- what a walk up the parents asks of the first n records
 pub record Links (t : List ℕ) (sc : List Float) (n : ℕ) : Type 0 where
-  pub room : n * 8 ≤ length t
+  pub room : n * 9 ≤ length t
   pub scored : n ≤ length sc
   pub rises : (r : ℕ) → r < n → parentOf t r ≤ r
   pub root : (r : ℕ) → r < n → parentOf t r ≡ 0 → countOf t r ≡ 0

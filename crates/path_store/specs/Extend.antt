@@ -20,7 +20,7 @@ use Rattle.path_store.specs.declared.growth.Cut.{Cut}
 use Rattle.path_store.specs.Walk.{chain, endFrom, run, after, Runs, Graph, sole, next, run-length, run-zero, runs-zero, end-nil}
 use Rattle.path_store.specs.Steps.{Chained}
 use Rattle.path_store.specs.Cells.{parentOf, chainOf, edgeOf, countOf, endOf, Inside, pathAt, putCells, put-length, put-other, put-at, put-read}
-use Rattle.path_store.specs.Path.{Table, Rooted, Right, Same, edges, edges-up, edges-none, count-up, pieceOf, piece, piece-is, piece-length, piece-end, chain-end-at, lastEdge, last-short}
+use Rattle.path_store.specs.Path.{Table, Rooted, Right, Same, inside, edges, edges-up, edges-none, count-up, pieceOf, piece, piece-is, piece-length, piece-end, chain-end-at, lastEdge, last-short}
 use Rattle.path_store.specs.Push.{Fresh, Pushed, put-same}
 use Rattle.path_store.specs.Cut.{before, ownerBy, ownerOf, cutAt, cutOf, Owned, owned, owner-here, owner-up, has-parent, before-some, table-links}
 use Rattle.path_store.specs.Grow.{startRow, extendedRow, closedRow, recoveredRow, joinedRow, Following}
@@ -53,6 +53,7 @@ started only to t sc source g s I =
       last = omega (arith, b);
       count = c ∙ ap (λ es. length es) (sym (edges-none only to u 0 a));
       low = omega (arith, e);
+      forks = λ h. absurd (omega (arith, a));
     }
     in
     record {
@@ -87,6 +88,7 @@ module _ (only to t : List ℕ) (sc : List Float) (n : ℕ) (taken : Taken) (T :
         last = omega arith;
         count = omega (arith, ap (λ es. length es) (one-edge (x .edge)));
         end = rw (add-one (x .edge)) (sym (piece-end only to (endOf t (taken .path)) (taken .chain) (x .edge)));
+        fork = F .vertex;
       }
 
   pub closed-fresh : Fresh only to t sc n (taken .path) (closedRow t sc taken)
@@ -100,6 +102,7 @@ module _ (only to t : List ℕ) (sc : List Float) (n : ℕ) (taken : Taken) (T :
         last = omega arith;
         count = omega arith;
         end = F .vertex ∙ sym (chain-end-at only to (endOf t (taken .path)) (taken .chain));
+        fork = F .vertex;
       }
 
   -- the piece behind the path is its chain and the edge
@@ -244,9 +247,38 @@ module _ (only to t : List ℕ) (sc : List Float) (n : ℕ) (T : Table only to t
   cut-is path l c =
       cut-at path (ownerOf t k path) (owned t sc n k (table-links only to t sc n T) pos path l c) (owner-front path path l c)
 
+-- what the walk to the end of a cut asks
+pub record Ends (only to t : List ℕ) (sc : List Float) (cut : Cut) : Type 0 where
+  pub graph : Graph only to
+  pub has : 0 < cut .parent
+  pub own : Inside t sc (cut .parent - 1)
+  pub runs : Runs only to (endOf t (cut .parent - 1)) (cut .chain)
+  pub low : endOf t (cut .parent - 1) < length only
+
+pub ends-read : (only to t : List ℕ) (sc : List Float) (cut : Cut) → Ends only to t sc cut → (u c : ℕ) → u ≡ endOf t (cut .parent - 1) → c ≡ cut .chain
+    → Graph only to × (u < length only) × Runs only to u c
+ends-read only to t sc cut E u c U C = (E .graph, rw U (E .low), rw (U, C) (E .runs))
+
+pub ends-is : (only to t : List ℕ) (cut : Cut) (u c w : ℕ) → u ≡ endOf t (cut .parent - 1) → c ≡ cut .chain → w ≡ after only to u c
+    → w ≡ after only to (endOf t (cut .parent - 1)) (cut .chain)
+ends-is only to t cut u c w U C W = rw (U, C) at W
+
+pub cut-ends : (only to t : List ℕ) (sc : List Float) (path k : ℕ) (cut : Cut) → Table only to t sc (path + 1) → 0 < k → k ≤ countOf t path → cut ≡ cutOf t k path
+    → Ends only to t sc cut
+cut-ends only to t sc path k cut T pos low e =
+    let C = cut-is only to t sc (path + 1) T k pos path (omega arith) low in
+    rw e
+    (record {
+      graph = T .graph;
+      has = C .has;
+      own = inside only to t sc (path + 1) T (cutOf t k path .parent - 1) (C .known);
+      runs = C .runs;
+      low = T .rows (cutOf t k path .parent - 1) (C .known) .low;
+    })
+
 module _ (only to t : List ℕ) (sc : List Float) (n path k e : ℕ) (T : Table only to t sc n) (I : Inside t sc n) (K : path < n) (pos : 0 < k) (low : k ≤ countOf t path)
     (h : e < length to) where
-  pub recovered-fresh : Fresh only to t sc n (cutOf t k path .parent - 1) (recoveredRow t sc to path k e)
+  pub recovered-fresh : Fresh only to t sc n (cutOf t k path .parent - 1) (recoveredRow only t sc to path k e)
   recovered-fresh =
       let C = cut-is only to t sc n T k pos path K low in
       let cut = cutOf t k path in
@@ -259,6 +291,7 @@ module _ (only to t : List ℕ) (sc : List Float) (n path k e : ℕ) (T : Table 
         last = omega arith;
         count = omega (arith, C .size, ap (λ es. length es) (one-edge e));
         end = rw (add-one e) (sym (piece-end only to (endOf t (cut .parent - 1)) (cut .chain) e));
+        fork = refl;
       }
 
   pub recovered-piece : edges only to t (cutOf t k path .parent - 1) ++ piece only to (endOf t (cutOf t k path .parent - 1)) (cutOf t k path .chain) (e + 1)

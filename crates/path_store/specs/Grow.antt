@@ -59,6 +59,7 @@ startRow source =
       edge = 0;
       edges = 0;
       end = source;
+      fork = source;
       since = 0;
       joined = 0;
       trees = 0;
@@ -74,6 +75,7 @@ extendedRow t to taken x =
       edge = x .edge + 1;
       edges = countOf t (taken .path) + taken .chain + 1;
       end = getD to (x .edge) 0;
+      fork = taken .vertex;
       since = x .since;
       joined = 0;
       trees = x .trees;
@@ -89,14 +91,15 @@ closedRow t sc taken =
       edge = 0;
       edges = countOf t (taken .path) + taken .chain;
       end = taken .vertex;
+      fork = taken .vertex;
       since = 0;
       joined = 0;
       trees = 0;
       recovered = false;
     }
 
-abbrev pub recoveredRow : List ℕ → List Float → List ℕ → ℕ → ℕ → ℕ → PathRecord
-recoveredRow t sc to path k e =
+abbrev pub recoveredRow : List ℕ → List ℕ → List Float → List ℕ → ℕ → ℕ → ℕ → PathRecord
+recoveredRow only t sc to path k e =
     record {
       score = scoreOf sc path;
       parent = cutOf t k path .parent;
@@ -104,6 +107,7 @@ recoveredRow t sc to path k e =
       edge = e + 1;
       edges = k + 1;
       end = getD to e 0;
+      fork = after only to (endOf t (cutOf t k path .parent - 1)) (cutOf t k path .chain);
       since = 0;
       joined = 0;
       trees = 0;
@@ -119,6 +123,7 @@ joinedRow row v =
       edge = row .edge;
       edges = row .edges;
       end = row .end;
+      fork = row .fork;
       since = 0;
       joined = v + 1;
       trees = row .trees + 1;
@@ -156,6 +161,7 @@ pub extend-row : (t to : List ℕ) (taken : Taken) (x : Extension) (k v : ℕ) �
       edge = x .edge + 1;
       edges = k;
       end = v;
+      fork = taken .vertex;
       since = x .since;
       joined = 0;
       trees = x .trees;
@@ -174,6 +180,7 @@ pub close-row : (t : List ℕ) (sc : List Float) (taken : Taken) (s : Float) (k 
       edge = 0;
       edges = k;
       end = taken .vertex;
+      fork = taken .vertex;
       since = 0;
       joined = 0;
       trees = 0;
@@ -182,8 +189,8 @@ pub close-row : (t : List ℕ) (sc : List Float) (taken : Taken) (s : Float) (k 
     (closedRow t sc taken)
 close-row t sc taken s k p q = rw (p, q)
 
-pub recover-row : (t : List ℕ) (sc : List Float) (to : List ℕ) (path k e : ℕ) (s : Float) (cut : Cut) (v : ℕ) → s ≡ scoreOf sc path → cut ≡ cutOf t k path
-    → v ≡ getD to e 0
+pub recover-row : (only t : List ℕ) (sc : List Float) (to : List ℕ) (path k e : ℕ) (s : Float) (cut : Cut) (v w u : ℕ) → s ≡ scoreOf sc path → cut ≡ cutOf t k path
+    → v ≡ getD to e 0 → u ≡ endOf t (cut .parent - 1) → w ≡ after only to u (cut .chain)
     → _≡_ {A = PathRecord}
     (record {
       score = s;
@@ -192,13 +199,14 @@ pub recover-row : (t : List ℕ) (sc : List Float) (to : List ℕ) (path k e : �
       edge = e + 1;
       edges = k + 1;
       end = v;
+      fork = w;
       since = 0;
       joined = 0;
       trees = 0;
       recovered = true;
     })
-    (recoveredRow t sc to path k e)
-recover-row t sc to path k e s cut v p q h = rw (p, q, h)
+    (recoveredRow only t sc to path k e)
+recover-row only t sc to path k e s cut v w u p q h x y = rw (p, y, x, q, h)
 
 -- ---- the two ways of `grow` and of `join`
 pub grow-full : (t : List ℕ) (sc : List Float) (n : ℕ) (row : PathRecord) (most : ℕ) → most < row .edges → Grown t sc n row most (Refused 11) t sc

@@ -132,9 +132,9 @@ module _ (only to : List ℕ) (source : ℕ) where
       held-closed = held-pushed (taken .path) (closedRow t sc taken) (closed-fresh only to t sc n taken (H .table) I K F)
 
     pub held-recovered : (path k e : ℕ) → path < n → 0 < k → k ≤ countOf t path → e < length to
-        → Held only to source (putCells t n (recoveredRow t sc to path k e)) (set sc n (scoreOf sc path)) (n + 1)
+        → Held only to source (putCells t n (recoveredRow only t sc to path k e)) (set sc n (scoreOf sc path)) (n + 1)
     held-recovered path k e K pos low h =
-        held-pushed (cutOf t k path .parent - 1) (recoveredRow t sc to path k e) (recovered-fresh only to t sc n path k e (H .table) I K pos low h)
+        held-pushed (cutOf t k path .parent - 1) (recoveredRow only t sc to path k e) (recovered-fresh only to t sc n path k e (H .table) I K pos low h)
 
     -- the earlier paths stay, whatever the new record is
     pub pushed-view : (f : SearchInput) (ends : ℕ → Ends) (bs : List Branches) (row : PathRecord) (r : ℕ) → r < n
@@ -172,7 +172,7 @@ module _ (only to : List ℕ) (source : ℕ) where
         → viewOf f ends only to bs (putCells t r (joinedRow (pathAt t sc r) v)) sc q ≡ viewOf f ends only to bs t sc q
     joined-view f ends bs childless q m d =
         cc
-        (edges-kept only to t (putCells t r (joinedRow (pathAt t sc r) v)) sc sc n (H .table) (joined-same only to t sc n r v (H .table) l) q m, joined-apart only to t sc n r v (H .table) l (hasTree f) (f .source) childless q m d, put-other t r (joinedRow (pathAt t sc r) v) q 5 d (omega arith))
+        (edges-kept only to t (putCells t r (joinedRow (pathAt t sc r) v)) sc sc n (H .table) (joined-same only to t sc n r v (H .table) l) q m, joined-apart only to t sc n r v (H .table) l (hasTree f) (f .source) childless q m d, put-other t r (joinedRow (pathAt t sc r) v) q 6 d (omega arith))
 
     pub joined-closed : (f : SearchInput) (ends : ℕ → Ends) (k q : ℕ) → q < n
         → closedOf ends only to (putCells t r (joinedRow (pathAt t sc r) v)) sc k q ≡ closedOf ends only to t sc k q

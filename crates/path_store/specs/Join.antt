@@ -36,22 +36,23 @@ module _ (only to t : List ℕ) (sc : List Float) (n r v : ℕ) (T : Table only 
   row : PathRecord
   row = joinedRow (pathAt t sc r) v
 
-  room : r * 8 + 8 ≤ length t
+  room : r * 9 + 9 ≤ length t
   room = inside only to t sc n T r l .cells
 
-  own : (j : ℕ) → j < 5 → field (putCells t r (joinedRow (pathAt t sc r) v)) 8 r j ≡ field t 8 r j
+  own : (j : ℕ) → j < 6 → field (putCells t r (joinedRow (pathAt t sc r) v)) 9 r j ≡ field t 9 r j
   own zero h = put-at t r (joinedRow (pathAt t sc r) v) room 0 (omega arith)
   own (suc zero) h = put-at t r (joinedRow (pathAt t sc r) v) room 1 (omega arith)
   own (suc (suc zero)) h = put-at t r (joinedRow (pathAt t sc r) v) room 2 (omega arith)
   own (suc (suc (suc zero))) h = put-at t r (joinedRow (pathAt t sc r) v) room 3 (omega arith)
   own (suc (suc (suc (suc zero)))) h = put-at t r (joinedRow (pathAt t sc r) v) room 4 (omega arith)
-  own (suc (suc (suc (suc (suc j))))) h = absurd (omega arith)
+  own (suc (suc (suc (suc (suc zero))))) h = put-at t r (joinedRow (pathAt t sc r) v) room 5 (omega arith)
+  own (suc (suc (suc (suc (suc (suc j)))))) h = absurd (omega arith)
 
   -- the edges of every path stay
-  pub joined-same : Same 5 t (putCells t r (joinedRow (pathAt t sc r) v)) n
+  pub joined-same : Same 6 t (putCells t r (joinedRow (pathAt t sc r) v)) n
   joined-same q j h m = go (ℕ-discrete q r)
     where
-      go : Dec (q ≡ r) → field (putCells t r (joinedRow (pathAt t sc r) v)) 8 q j ≡ field t 8 q j
+      go : Dec (q ≡ r) → field (putCells t r (joinedRow (pathAt t sc r) v)) 9 q j ≡ field t 9 q j
       go (yes e) = rw e (own j m)
       go (no d) = put-other t r (joinedRow (pathAt t sc r) v) q j d (omega arith)
 
@@ -71,7 +72,7 @@ module _ (only to t : List ℕ) (sc : List Float) (n r v : ℕ) (T : Table only 
     u : List ℕ
     u = putCells t r (joinedRow (pathAt t sc r) v)
 
-    below : Same 8 t u r
+    below : Same 9 t u r
     unfolding u
     below q j h m = put-other t r (joinedRow (pathAt t sc r) v) q j (omega arith) m
 
@@ -88,7 +89,7 @@ module _ (only to t : List ℕ) (sc : List Float) (n r v : ℕ) (T : Table only 
 
     joins : joinedOf u r ≡ suc v
     unfolding u
-    joins = put-at t r (joinedRow (pathAt t sc r) v) room 6 (omega arith) ∙ add-one v
+    joins = put-at t r (joinedRow (pathAt t sc r) v) room 7 (omega arith) ∙ add-one v
 
     parent : parentOf u r ≡ parentOf t r
     unfolding u
@@ -122,23 +123,23 @@ module _ (only to t : List ℕ) (sc : List Float) (n r v : ℕ) (T : Table only 
       apart-to zero q a b d = absurd (omega arith)
       apart-to (suc m) q a b d = go (λ p x y z. apart-to m p (omega arith) y (λ e. childless q b (x ∙ ap suc e))) (Bool-cases (recoveredOf t q)) (Nat-cases (parentOf t q))
         where
-          cell : (j : ℕ) → j < 8 → field u 8 q j ≡ field t 8 q j
+          cell : (j : ℕ) → j < 9 → field u 9 q j ≡ field t 9 q j
           cell j h = put-other t r (joinedRow (pathAt t sc r) v) q j d h
 
           go : ((p : ℕ) → parentOf t q ≡ suc p → p < n → p < q → visited has only to source u p ≡ visited has only to source t p) → (recoveredOf t q ≡ true) ⊎ (recoveredOf t q ≡ false)
               → (parentOf t q ≡ 0) ⊎ (parentOf t q ≡ suc (parentOf t q - 1)) → visited has only to source u q ≡ visited has only to source t q
           go up (inl h) c =
-              visited-recovered has only to source u q ((rw (cell 7 (omega arith))) ∙ h)
-              ∙ (rw (cell 6 (omega arith), edges-kept only to t u sc sc n T joined-same q b))
+              visited-recovered has only to source u q ((rw (cell 8 (omega arith))) ∙ h)
+              ∙ (rw (cell 7 (omega arith), edges-kept only to t u sc sc n T joined-same q b))
               ∙ sym (visited-recovered has only to source t q h)
           go up (inr h) (inl c) =
-              visited-start has only to source u q ((rw (cell 7 (omega arith))) ∙ h) (cell 0 (omega arith) ∙ c)
-              ∙ (rw (cell 6 (omega arith)))
+              visited-start has only to source u q ((rw (cell 8 (omega arith))) ∙ h) (cell 0 (omega arith) ∙ c)
+              ∙ (rw (cell 7 (omega arith)))
               ∙ sym (visited-start has only to source t q h c)
           go up (inr h) (inr c) =
               let p = parentOf t q - 1 in
-              visited-next has only to source u n q p rise-u b ((rw (cell 7 (omega arith))) ∙ h) (cell 0 (omega arith) ∙ c)
-              ∙ (rw (cell 6 (omega arith), up p c (omega (arith, rise q b)) (omega (arith, rise q b))))
+              visited-next has only to source u n q p rise-u b ((rw (cell 8 (omega arith))) ∙ h) (cell 0 (omega arith) ∙ c)
+              ∙ (rw (cell 7 (omega arith), up p c (omega (arith, rise q b)) (omega (arith, rise q b))))
               ∙ sym (visited-next has only to source t n q p rise b h c)
 
       pub joined-apart : (q : ℕ) → q < n → q ≢ r → visited has only to source (putCells t r (joinedRow (pathAt t sc r) v)) q ≡ visited has only to source t q
@@ -172,7 +173,7 @@ module _ (only to t : List ℕ) (sc : List Float) (n r v : ℕ) (T : Table only 
           join-made j m =
               let a = edges-kept only to t (putCells t r (joinedRow (pathAt t sc r) v)) sc sc n T joined-same r l in
               let w = joined-visited (hasTree f) (f .source) j in
-              let d : sinceOf (putCells t r (joinedRow (pathAt t sc r) v)) r ≡ 0 = put-at t r (joinedRow (pathAt t sc r) v) room 5 (omega arith) in
+              let d : sinceOf (putCells t r (joinedRow (pathAt t sc r) v)) r ≡ 0 = put-at t r (joinedRow (pathAt t sc r) v) room 6 (omega arith) in
               rw (h, e, g, lt-ltb (length bs) (f .active) (omega arith), joinTree) (sym (rw (a, w, d)))
 
           -- and the record tells the number of trees

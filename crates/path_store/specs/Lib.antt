@@ -2,6 +2,7 @@ pub mod Walk
 pub mod Steps
 pub mod Cells
 pub mod Path
+pub mod Stop
 pub mod Push
 pub mod Cut
 pub mod Grow

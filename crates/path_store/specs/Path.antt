@@ -11,7 +11,7 @@ use lib.Seq.{sets, length-sets}
 use lib.Ieee.{Float}
 use Rattle.laws.specs.Records.{field}
 use Rattle.laws.specs.Stores.{sets-append, sets-back}
-use Rattle.path_store.specs.Cells.{parentOf, chainOf, edgeOf, countOf, endOf, Inside}
+use Rattle.path_store.specs.Cells.{parentOf, chainOf, edgeOf, countOf, endOf, forkOf, Inside}
 use Rattle.path_store.specs.Walk.{endFrom, times, hits, run, after, Runs, Graph, run-length, end-run, end-append, end-one, end-nil, times-append, times-step, times-le, hits-nil, hits-le, hits-step, hits-append}
 
 -- ---- what a record adds to its parent, whose last vertex is u: c edges of the chain, and the last edge where there is one
@@ -45,9 +45,10 @@ pub record Right (only to t : List ℕ) (r : ℕ) : Type 0 where
   pub last : edgeOf t r ≤ length to
   pub count : countOf t r ≡ length (edges only to t r)
   pub low : endOf t r < length only
+  pub forks : 0 < parentOf t r → forkOf t r ≡ after only to (endOf t (parentOf t r - 1)) (chainOf t r)
 
 pub record Table (only to t : List ℕ) (sc : List Float) (n : ℕ) : Type 0 where
-  pub room : n * 8 ≤ length t
+  pub room : n * 9 ≤ length t
   pub scored : n ≤ length sc
   pub graph : Graph only to
   pub rows : (r : ℕ) → r < n → Right only to t r
@@ -58,7 +59,7 @@ Rooted only to source t n = (r : ℕ) → r < n → endOf t r ≡ endFrom to sou
 
 -- the first k cells of the first n records are the same
 abbrev pub Same : ℕ → List ℕ → List ℕ → ℕ → Type 0
-Same k t u n = (r j : ℕ) → r < n → j < k → field u 8 r j ≡ field t 8 r j
+Same k t u n = (r j : ℕ) → r < n → j < k → field u 9 r j ≡ field t 9 r j
 
 pub inside : (only to t : List ℕ) (sc : List Float) (n : ℕ) → Table only to t sc n → (r : ℕ) → r < n → Inside t sc r
 inside only to t sc n T r l = record { cells = omega (arith, T .room); score = omega (arith, T .scored) }
@@ -98,7 +99,7 @@ pub piece-length : (only to : List ℕ) (u c l : ℕ) → length (piece only to 
 unfolding piece
 piece-length only to u c l = omega (arith, length-append (run only to u c) (lastEdge l), run-length only to u c)
 
-piece-hits : (only to : List ℕ) (u c l v : ℕ) → hits to v (piece only to u c l) ≡ hits to v (run only to u c) + hits to v (lastEdge l)
+pub piece-hits : (only to : List ℕ) (u c l v : ℕ) → hits to v (piece only to u c l) ≡ hits to v (run only to u c) + hits to v (lastEdge l)
 unfolding piece
 piece-hits only to u c l v = hits-append to v (run only to u c) (lastEdge l)
 
@@ -138,7 +139,7 @@ module _ (only to : List ℕ) where
   up-next t n r p h = rw (h, upBy)
 
   -- tables that agree below k give the same edges below k, whatever the fuel above the number
-  up-same : (t u : List ℕ) (k m n r : ℕ) → ((i : ℕ) → i < k → parentOf t i ≤ i) → Same 5 t u k → r < k → r < m → r < n
+  up-same : (t u : List ℕ) (k m n r : ℕ) → ((i : ℕ) → i < k → parentOf t i ≤ i) → Same 6 t u k → r < k → r < m → r < n
       → upBy only to u m r ≡ upBy only to t n r
   up-same t u k zero n r rise same l p q = absurd (omega arith)
   up-same t u k (suc m) zero r rise same l p q = absurd (omega arith)
@@ -155,7 +156,7 @@ module _ (only to : List ℕ) where
           ∙ (rw (same r 1 l (omega arith), same r 2 l (omega arith), same f 4 fl (omega arith), up f (omega arith)))
           ∙ sym (up-next t n r f h)
 
-  pub edges-same : (t u : List ℕ) (k r : ℕ) → ((i : ℕ) → i < k → parentOf t i ≤ i) → Same 5 t u k → r < k → edges only to u r ≡ edges only to t r
+  pub edges-same : (t u : List ℕ) (k r : ℕ) → ((i : ℕ) → i < k → parentOf t i ≤ i) → Same 6 t u k → r < k → edges only to u r ≡ edges only to t r
   unfolding edges
   edges-same t u k r rise same l = up-same t u k (suc r) (suc r) r rise same l (omega arith) (omega arith)
 
@@ -180,6 +181,7 @@ pub record Piece (only to t : List ℕ) (sc : List Float) (r : ℕ) : Type 0 whe
   pub runs : Runs only to (endOf t (parentOf t r - 1)) (chainOf t r)
   pub last : edgeOf t r ≤ length to
   pub low : endOf t (parentOf t r - 1) < length only
+  pub forks : forkOf t r ≡ after only to (endOf t (parentOf t r - 1)) (chainOf t r)
 
 module _ (only to t : List ℕ) (sc : List Float) (n : ℕ) (T : Table only to t sc n) where
   pub table-rising : (r : ℕ) → r < n → parentOf t r ≤ r
@@ -199,6 +201,7 @@ module _ (only to t : List ℕ) (sc : List Float) (n : ℕ) (T : Table only to t
         runs = R .runs h;
         last = R .last;
         low = T .rows (parentOf t r - 1) (omega (arith, R .rises)) .low;
+        forks = R .forks h;
       }
 
   pub count-up : (r : ℕ) → r < n → 0 < parentOf t r

@@ -12,11 +12,11 @@ use Rattle.laws.specs.Records.{field}
 use Rattle.path_store.specs.declared.records.PathRecord.{PathRecord}
 use Rattle.path_store.specs.Walk.{endFrom, run, after, Runs, Graph, end-append}
 use Rattle.path_store.specs.Steps.{after-low}
-use Rattle.path_store.specs.Cells.{parentOf, chainOf, edgeOf, countOf, endOf, Inside, pathAt, putCells, put-length, put-other, put-at, put-read}
+use Rattle.path_store.specs.Cells.{parentOf, chainOf, edgeOf, countOf, endOf, forkOf, Inside, pathAt, putCells, put-length, put-other, put-at, put-read}
 use Rattle.path_store.specs.Path.{lastEdge, piece, piece-length, piece-end, chain-end-at, edges, edges-same, edges-next, Right, Table, Rooted, Same, table-rising}
 
 -- ---- a table whose first n records have the same parents, pieces, counts and ends
-module _ (only to t u : List ℕ) (sc sd : List Float) (n : ℕ) (T : Table only to t sc n) (h : Same 5 t u n) where
+module _ (only to t u : List ℕ) (sc sd : List Float) (n : ℕ) (T : Table only to t sc n) (h : Same 6 t u n) where
   pub edges-kept : (r : ℕ) → r < n → edges only to u r ≡ edges only to t r
   edges-kept r l = edges-same only to t u n r (table-rising only to t sc n T) h l
 
@@ -34,9 +34,13 @@ module _ (only to t u : List ℕ) (sc sd : List Float) (n : ℕ) (T : Table only
         last = rw (h r 2 l (omega arith)) (R .last);
         count = h r 3 l (omega arith) ∙ R .count ∙ ap (λ es. length es) (sym (edges-kept r l));
         low = rw (h r 4 l (omega arith)) (R .low);
+        forks =
+            λ q.
+            let q′ : 0 < parentOf t r = rw a at q in
+            rw (a, c, h (parentOf t r - 1) 4 (omega (arith, R .rises)) (omega arith), h r 5 l (omega arith)) (R .forks q′);
       }
 
-  pub table-kept : n * 8 ≤ length u → n ≤ length sd → Table only to u sd n
+  pub table-kept : n * 9 ≤ length u → n ≤ length sd → Table only to u sd n
   table-kept f g = record { room = f; scored = g; graph = T .graph; rows = right-kept }
 
   pub rooted-kept : (source : ℕ) → Rooted only to source t n → Rooted only to source u n
@@ -58,21 +62,22 @@ pub record Fresh (only to t : List ℕ) (sc : List Float) (n p : ℕ) (row : Pat
   pub last : row .edge ≤ length to
   pub count : row .edges ≡ countOf t p + row .chain + length (lastEdge (row .edge))
   pub end : row .end ≡ endFrom to (endOf t p) (piece only to (endOf t p) (row .chain) (row .edge))
+  pub fork : row .fork ≡ after only to (endOf t p) (row .chain)
 
 -- and what is then known: u and sd are the tables with the record
 pub record Pushed (only to t : List ℕ) (sc : List Float) (n p : ℕ) (row : PathRecord) (u : List ℕ) (sd : List Float) : Type 0 where
   pub table : Table only to u sd (n + 1)
-  pub same : Same 8 t u n
+  pub same : Same 9 t u n
   pub read : pathAt u sd n ≡ row
   pub is : edges only to u n ≡ edges only to t p ++ piece only to (endOf t p) (row .chain) (row .edge)
   pub kept : (r : ℕ) → r < n → edges only to u r ≡ edges only to t r
 
 -- the first n records stay where another is put
-pub put-same : (t : List ℕ) (n : ℕ) (row : PathRecord) → Same 8 t (putCells t n row) n
+pub put-same : (t : List ℕ) (n : ℕ) (row : PathRecord) → Same 9 t (putCells t n row) n
 put-same t n row r j l m = put-other t n row r j (omega arith) m
 
-same-five : (t u : List ℕ) (n : ℕ) → Same 8 t u n → Same 5 t u n
-same-five t u n h r j l m = h r j l (omega arith)
+same-six : (t u : List ℕ) (n : ℕ) → Same 9 t u n → Same 6 t u n
+same-six t u n h r j l m = h r j l (omega arith)
 
 module _ (only to t : List ℕ) (sc : List Float) (n p : ℕ) (row : PathRecord) (F : Fresh only to t sc n p row) where
   u : List ℕ
@@ -81,12 +86,12 @@ module _ (only to t : List ℕ) (sc : List Float) (n p : ℕ) (row : PathRecord)
   sd : List Float
   sd = set sc n (row .score)
 
-  cell : (j : ℕ) → j < 8 → field u 8 n j ≡ getD (row .parent ∷ row .chain ∷ row .edge ∷ row .edges ∷ row .end ∷ row .since ∷ row .joined ∷ field u 8 n 7 ∷ []) j 0
+  cell : (j : ℕ) → j < 9 → field u 9 n j ≡ getD (row .parent ∷ row .chain ∷ row .edge ∷ row .edges ∷ row .end ∷ row .fork ∷ row .since ∷ row .joined ∷ field u 9 n 8 ∷ []) j 0
   unfolding u
   cell j l = go j l
     where
-      go : (j : ℕ) → j < 8
-          → field (putCells t n row) 8 n j ≡ getD (row .parent ∷ row .chain ∷ row .edge ∷ row .edges ∷ row .end ∷ row .since ∷ row .joined ∷ field (putCells t n row) 8 n 7 ∷ []) j 0
+      go : (j : ℕ) → j < 9
+          → field (putCells t n row) 9 n j ≡ getD (row .parent ∷ row .chain ∷ row .edge ∷ row .edges ∷ row .end ∷ row .fork ∷ row .since ∷ row .joined ∷ field (putCells t n row) 9 n 8 ∷ []) j 0
       go zero l = put-at t n row (F .room .cells) 0 l
       go (suc zero) l = put-at t n row (F .room .cells) 1 l
       go (suc (suc zero)) l = put-at t n row (F .room .cells) 2 l
@@ -94,22 +99,23 @@ module _ (only to t : List ℕ) (sc : List Float) (n p : ℕ) (row : PathRecord)
       go (suc (suc (suc (suc zero)))) l = put-at t n row (F .room .cells) 4 l
       go (suc (suc (suc (suc (suc zero))))) l = put-at t n row (F .room .cells) 5 l
       go (suc (suc (suc (suc (suc (suc zero)))))) l = put-at t n row (F .room .cells) 6 l
-      go (suc (suc (suc (suc (suc (suc (suc zero))))))) l = refl
-      go (suc (suc (suc (suc (suc (suc (suc (suc j)))))))) l = absurd (omega arith)
+      go (suc (suc (suc (suc (suc (suc (suc zero))))))) l = put-at t n row (F .room .cells) 7 l
+      go (suc (suc (suc (suc (suc (suc (suc (suc zero)))))))) l = refl
+      go (suc (suc (suc (suc (suc (suc (suc (suc (suc j))))))))) l = absurd (omega arith)
 
-  fore : Same 8 t u n
+  fore : Same 9 t u n
   unfolding u
   fore = put-same t n row
 
   kept : (r : ℕ) → r < n → edges only to u r ≡ edges only to t r
-  kept r m = edges-kept only to t u sc sd n (F .table) (same-five t u n fore) r m
+  kept r m = edges-kept only to t u sc sd n (F .table) (same-six t u n fore) r m
 
   rising : (r : ℕ) → r < n + 1 → parentOf u r ≤ r
   rising r m = go (eq-or-lt-of-le (omega arith))
     where
       go : (r ≡ n) ⊎ (r < n) → parentOf u r ≤ r
       go (inl h) = rw (h, cell 0 (omega arith)) (omega (arith, F .parent, F .known))
-      go (inr h) = right-kept only to t u sc sd n (F .table) (same-five t u n fore) r h .rises
+      go (inr h) = right-kept only to t u sc sd n (F .table) (same-six t u n fore) r h .rises
 
   new : edges only to u n ≡ edges only to t p ++ piece only to (endOf t p) (row .chain) (row .edge)
   new =
@@ -132,6 +138,7 @@ module _ (only to t : List ℕ) (sc : List Float) (n p : ℕ) (row : PathRecord)
         low =
             rw e
             (ends-low only to (F .table .graph) (endOf t p) (row .chain) (row .edge) (F .table .rows p (F .known) .low) (F .runs) (F .last));
+        forks = λ _. rw (a, m, fore p 4 (F .known) (omega arith), cell 1 (omega arith), cell 5 (omega arith)) (F .fork);
       }
 
   pub pushed : Pushed only to t sc n p row (putCells t n row) (set sc n (row .score))
@@ -153,7 +160,7 @@ module _ (only to t : List ℕ) (sc : List Float) (n p : ℕ) (row : PathRecord)
     where
       go : (r : ℕ) → (r ≡ n) ⊎ (r < n) → Right only to u r
       go r (inl h) = rw h first
-      go r (inr h) = right-kept only to t u sc sd n (F .table) (same-five t u n fore) r h
+      go r (inr h) = right-kept only to t u sc sd n (F .table) (same-six t u n fore) r h
 
   pub pushed-rooted : (source : ℕ) → Rooted only to source t n → Rooted only to source (putCells t n row) (n + 1)
   unfolding u sd
@@ -167,4 +174,4 @@ module _ (only to t : List ℕ) (sc : List Float) (n p : ℕ) (row : PathRecord)
           ∙ ap (λ x. endFrom to x (piece only to (endOf t p) (row .chain) (row .edge))) (R p (F .known))
           ∙ sym (end-append to source (edges only to t p) (piece only to (endOf t p) (row .chain) (row .edge)))
           ∙ ap (λ es. endFrom to source es) (sym new))
-      go (inr h) = rooted-kept only to t u sc sd n (F .table) (same-five t u n fore) source R r h
+      go (inr h) = rooted-kept only to t u sc sd n (F .table) (same-six t u n fore) source R r h

@@ -167,7 +167,7 @@ module _ (f : SearchInput) (ends : ℕ → Ends) (only to : List ℕ) (A : Agree
 
         pub recover-made : k + 1 ≤ f .pathEdges
             → recover (columnScoring column) f (ends e) s
-            ≡ made s (viewOf f ends only to [] (putCells t n (recoveredRow t sc to b k e)) (set sc n (scoreOf sc b)) n ∷ [])
+            ≡ made s (viewOf f ends only to [] (putCells t n (recoveredRow only t sc to b k e)) (set sc n (scoreOf sc b)) n ∷ [])
         unfolding recover
         recover-made m =
             rw

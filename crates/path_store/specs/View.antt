@@ -56,14 +56,14 @@ closedOf ends only to t sc closing r = record { closing = closing; edges = map e
 
 module _ (f : SearchInput) (ends : ℕ → Ends) (only to : List ℕ) where
   -- ---- a record that stays
-  pub view-kept : (bs : List Branches) (t u : List ℕ) (sc sd : List Float) (n r : ℕ) → Table only to t sc n → Same 8 t u n → scoreOf sd r ≡ scoreOf sc r → r < n
+  pub view-kept : (bs : List Branches) (t u : List ℕ) (sc sd : List Float) (n r : ℕ) → Table only to t sc n → Same 9 t u n → scoreOf sd r ≡ scoreOf sc r → r < n
       → viewOf f ends only to bs u sd r ≡ viewOf f ends only to bs t sc r
   view-kept bs t u sc sd n r T h s l =
       let rise : (i : ℕ) → i < n → parentOf t i ≤ i = λ i k. T .rows i k .rises in
       cc
-      (edges-same only to t u n r rise (λ a b x y. h a b x (omega arith)) l, s, visited-same (hasTree f) only to (f .source) t u n r rise h l, h r 5 l (omega arith))
+      (edges-same only to t u n r rise (λ a b x y. h a b x (omega arith)) l, s, visited-same (hasTree f) only to (f .source) t u n r rise h l, h r 6 l (omega arith))
 
-  pub closed-kept : (t u : List ℕ) (sc sd : List Float) (n k r : ℕ) → Table only to t sc n → Same 5 t u n → scoreOf sd r ≡ scoreOf sc r → r < n
+  pub closed-kept : (t u : List ℕ) (sc sd : List Float) (n k r : ℕ) → Table only to t sc n → Same 6 t u n → scoreOf sd r ≡ scoreOf sc r → r < n
       → closedOf ends only to u sd k r ≡ closedOf ends only to t sc k r
   closed-kept t u sc sd n k r T h s l = cc (edges-same only to t u n r (λ i k. T .rows i k .rises) h l, s)
 
@@ -74,13 +74,13 @@ module _ (f : SearchInput) (ends : ℕ → Ends) (only to : List ℕ) where
   start-view t sc I =
       let row = startRow (f .source) in
       let u = putCells t 0 row in
-      let j : joinedOf u 0 ≡ 0 = put-at t 0 row (I .cells) 6 (omega arith) in
+      let j : joinedOf u 0 ≡ 0 = put-at t 0 row (I .cells) 7 (omega arith) in
       let v : visited (hasTree f) only to (f .source) u 0 ≡ [] =
       visited-start (hasTree f) only to (f .source) u 0 (put-recovered t 0 row (I .cells)) (put-at t 0 row (I .cells) 0 (omega arith)) ∙ (rw j)
       in
       let e : map ends (edges only to u 0) ≡ [] = ap (λ x. map ends x) (started-edges only to t sc (f .source) I) in
       let s : scoreOf (set sc 0 (row .score)) 0 ≡ row .score = getD-set-same sc 0 (row .score) nan (I .score) in
-      let d : sinceOf u 0 ≡ 0 = put-at t 0 row (I .cells) 5 (omega arith) in
+      let d : sinceOf u 0 ≡ 0 = put-at t 0 row (I .cells) 6 (omega arith) in
       cc
 
   -- ---- a pushed record whose joined cell is empty and which was not recovered: it has visited what its parent has
@@ -91,7 +91,7 @@ module _ (f : SearchInput) (ends : ℕ → Ends) (only to : List ℕ) where
       let P = pushed only to t sc n p row F in
       let rise : (i : ℕ) → i < n + 1 → parentOf u i ≤ i = λ i k. P .table .rows i k .rises in
       let a : parentOf u n ≡ suc p = put-at t n row (F .room .cells) 0 (omega arith) ∙ F .parent in
-      let b : joinedOf u n ≡ 0 = put-at t n row (F .room .cells) 6 (omega arith) ∙ j in
+      let b : joinedOf u n ≡ 0 = put-at t n row (F .room .cells) 7 (omega arith) ∙ j in
       visited-next (hasTree f) only to (f .source) u (n + 1) n p rise (omega arith) (put-recovered t n row (F .room .cells) ∙ m) a
       ∙ (rw b)
       ∙ visited-same (hasTree f) only to (f .source) t u n p (λ i k. F .table .rows i k .rises) (P .same) (F .known)
@@ -137,7 +137,7 @@ module _ (f : SearchInput) (ends : ℕ → Ends) (only to : List ℕ) where
               let row = extendedRow t to taken x in
               let u = putCells t n row in
               let v = pushed-visited t sc n (taken .path) row (extended-fresh only to t sc n taken T I K F x h) refl refl in
-              let d : sinceOf u n ≡ x .since = put-at t n row (I .cells) 5 (omega arith) in
+              let d : sinceOf u n ≡ x .since = put-at t n row (I .cells) 6 (omega arith) in
               let w : scoreOf (set sc n (x .score)) n ≡ x .score = getD-set-same sc n (x .score) nan (I .score) in
               rw (le-leb (length (map ends (edges only to t (taken .path)) ++ c ++ ends (x .edge) ∷ [])) (f .pathEdges) (omega (arith, new-length)), lengthen)
               (sym (rw (new-edges, w, v, d, s)))
@@ -165,7 +165,7 @@ module _ (f : SearchInput) (ends : ℕ → Ends) (only to : List ℕ) where
 
     -- ---- a recovered path, as `recover` makes it
     pub recovered-view : (t : List ℕ) (sc : List Float) (n path k e : ℕ) → Table only to t sc n → Inside t sc n → path < n → 0 < k → k ≤ countOf t path → e < length to
-        → viewOf f ends only to [] (putCells t n (recoveredRow t sc to path k e)) (set sc n (scoreOf sc path)) n
+        → viewOf f ends only to [] (putCells t n (recoveredRow only t sc to path k e)) (set sc n (scoreOf sc path)) n
         ≡ record {
           edges = take k (map ends (edges only to t path)) ++ ends e ∷ [];
           score = scoreOf sc path;
@@ -175,14 +175,14 @@ module _ (f : SearchInput) (ends : ℕ → Ends) (only to : List ℕ) where
         }
     unfolding defs.verticesFrom
     recovered-view t sc n path k e T I K pos low h =
-        let row = recoveredRow t sc to path k e in
+        let row = recoveredRow only t sc to path k e in
         let u = putCells t n row in
         let P = pushed only to t sc n (cutOf t k path .parent - 1) row (recovered-fresh only to t sc n path k e T I K pos low h) in
         let es : edges only to u n ≡ take k (edges only to t path) ++ e ∷ [] = P .is ∙ recovered-piece only to t sc n path k e T I K pos low h in
         let a : map ends (edges only to u n) ≡ take k (map ends (edges only to t path)) ++ ends e ∷ [] =
         ap (λ x. map ends x) es ∙ recovered-same f only to ends A k (edges only to t path) e
         in
-        let j : joinedOf u n ≡ 0 = put-at t n row (I .cells) 6 (omega arith) in
+        let j : joinedOf u n ≡ 0 = put-at t n row (I .cells) 7 (omega arith) in
         let vs : verticesOf to (f .source) (edges only to u n) ≡ f .source ∷ map (λ (d : Ends). d .to) (take k (map ends (edges only to t path)) ++ ends e ∷ []) =
         ap (λ (x : List ℕ). f .source ∷ x) (targets-same f only to ends A (edges only to u n) ∙ ap (λ x. map (λ (d : Ends). d .to) x) a)
         in
@@ -190,13 +190,13 @@ module _ (f : SearchInput) (ends : ℕ → Ends) (only to : List ℕ) where
         visited-recovered (hasTree f) only to (f .source) u n (put-recovered t n row (I .cells)) ∙ (rw j) ∙ ap (λ x. keep (hasTree f) x) vs
         in
         let s : scoreOf (set sc n (scoreOf sc path)) n ≡ scoreOf sc path = getD-set-same sc n (scoreOf sc path) nan (I .score) in
-        let d : sinceOf u n ≡ 0 = put-at t n row (I .cells) 5 (omega arith) in
+        let d : sinceOf u n ≡ 0 = put-at t n row (I .cells) 6 (omega arith) in
         rw (a, v, s, d)
 
     pub recovered-length : (t : List ℕ) (sc : List Float) (n path k e : ℕ) → Table only to t sc n → Inside t sc n → path < n → 0 < k → k ≤ countOf t path → e < length to
         → length (take k (map ends (edges only to t path)) ++ ends e ∷ []) ≡ k + 1
     recovered-length t sc n path k e T I K pos low h =
-        let row = recoveredRow t sc to path k e in
+        let row = recoveredRow only t sc to path k e in
         let P = pushed only to t sc n (cutOf t k path .parent - 1) row (recovered-fresh only to t sc n path k e T I K pos low h) in
         ap (λ (x : List Ends). length x) (sym (ap (λ x. map ends x) (P .is ∙ recovered-piece only to t sc n path k e T I K pos low h) ∙ recovered-same f only to ends A k (edges only to t path) e))
         ∙ length-map (edges only to (putCells t n row) n) ends

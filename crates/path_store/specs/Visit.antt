@@ -53,7 +53,7 @@ module _ (hasTree : ℕ → Bool) (only to : List ℕ) (source : ℕ) where
   by-next t n r p h k = rw (h, k, visitedBy)
 
   -- ---- tables that agree below k, whatever the fuel above the number
-  by-same : (t u : List ℕ) (k m n r : ℕ) → ((i : ℕ) → i < k → parentOf t i ≤ i) → Same 8 t u k → r < k → r < m → r < n
+  by-same : (t u : List ℕ) (k m n r : ℕ) → ((i : ℕ) → i < k → parentOf t i ≤ i) → Same 9 t u k → r < k → r < m → r < n
       → visitedBy u m r ≡ visitedBy t n r
   by-same t u k zero n r rise same l p q = absurd (omega arith)
   by-same t u k (suc m) zero r rise same l p q = absurd (omega arith)
@@ -61,10 +61,10 @@ module _ (hasTree : ℕ → Bool) (only to : List ℕ) (source : ℕ) where
       go (λ i h. by-same t u k m n i rise same (omega (arith, rise r l)) (omega (arith, rise r l)) (omega (arith, rise r l))) (Bool-cases (recoveredOf t r)) (Nat-cases (parentOf t r))
     where
       j : joinedOf u r ≡ joinedOf t r
-      j = same r 6 l (omega arith)
+      j = same r 7 l (omega arith)
 
       marks : recoveredOf u r ≡ recoveredOf t r
-      marks = rw (same r 7 l (omega arith))
+      marks = rw (same r 8 l (omega arith))
 
       go : ((i : ℕ) → i < parentOf t r → visitedBy u m i ≡ visitedBy t n i) → (recoveredOf t r ≡ true) ⊎ (recoveredOf t r ≡ false)
           → (parentOf t r ≡ 0) ⊎ (parentOf t r ≡ suc (parentOf t r - 1)) → visitedBy u (suc m) r ≡ visitedBy t (suc n) r
@@ -78,7 +78,7 @@ module _ (hasTree : ℕ → Bool) (only to : List ℕ) (source : ℕ) where
           ∙ (rw (j, up (parentOf t r - 1) (omega arith)))
           ∙ sym (by-next t n r (parentOf t r - 1) h c)
 
-  pub visited-same : (t u : List ℕ) (k r : ℕ) → ((i : ℕ) → i < k → parentOf t i ≤ i) → Same 8 t u k → r < k → visited u r ≡ visited t r
+  pub visited-same : (t u : List ℕ) (k r : ℕ) → ((i : ℕ) → i < k → parentOf t i ≤ i) → Same 9 t u k → r < k → visited u r ≡ visited t r
   unfolding visited
   visited-same t u k r rise same l = by-same t u k (suc r) (suc r) r rise same l (omega arith) (omega arith)
 

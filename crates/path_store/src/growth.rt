@@ -3,9 +3,10 @@ ghost use mathlib.Core.Path.{_≡_};
 ghost use Prim.Native.Nat.{ℕ, _+_, _-_, _*_, _<_, _≤_};
 ghost use lib.ListN.{length};
 ghost use Rattle.path_store.specs.Walk.{after};
-ghost use Rattle.path_store.specs.Cells.{Inside, Stored, countOf, treesOf};
+ghost use Rattle.path_store.specs.Cells.{Inside, Stored, countOf, endOf, treesOf};
 ghost use Rattle.path_store.specs.Path.{Table};
 ghost use Rattle.path_store.specs.Cut.{before, ownerOf, cutOf, Links};
+ghost use Rattle.path_store.specs.Extend.{Ends};
 ghost use Rattle.path_store.specs.Grow.{startRow, Following, Growable, Grown, extendedRow, closedRow, recoveredRow, Joined};
 use crate::chains::at;
 use crate::chains::chain_length;
@@ -54,6 +55,7 @@ pub fn start_path(paths: &mut [u32], scores: &mut [f64], source: u32)
         edge: 0,
         edges: 0,
         end: source,
+        fork: source,
         since: 0,
         joined: 0,
         trees: 0,
@@ -102,6 +104,7 @@ pub fn extend_path(
         edge: x.edge + 1,
         edges: k as u32,
         end: at(to, x.edge),
+        fork: taken.vertex,
         since: x.since,
         joined: 0,
         trees: x.trees,
@@ -134,6 +137,7 @@ pub fn close_path(
         edge: 0,
         edges: k as u32,
         end: taken.vertex,
+        fork: taken.vertex,
         since: 0,
         joined: 0,
         trees: 0,
@@ -192,11 +196,21 @@ pub fn cut_path(paths: &[u32], scores: &[f64], path: u32, k: u32) -> Cut
     }
 }
 
+// The vertex that a cut leads to.
+fn cut_end(paths: &[u32], scores: &[f64], only: &[u32], to: &[u32], cut: Cut) -> u32
+    requires { ⌜ Ends (now only) (now to) (now paths) (now scores) cut ⌝ }
+    ensures { λ r. ⌜ r ≡ after (now (only .entry)) (now (to .entry)) (endOf (now (paths .entry)) (cut .parent - 1)) (cut .chain) ⌝ }
+{
+    let parent = path_at(paths, scores, cut.parent - 1);
+    walk(only, to, parent.end, wide(cut.chain))
+}
+
 // The first k edges of a path and then the edge e become the record n, with the whole score of the path; more edges than the maximum is 11.
 // (enqueue_next_pivotal_edge)
 pub fn recover_path(
     paths: &mut [u32],
     scores: &mut [f64],
+    only: &[u32],
     to: &[u32],
     n: u32,
     path: u32,
@@ -204,8 +218,8 @@ pub fn recover_path(
     e: u32,
     most: u32,
 ) -> PathAnswer
-    requires { ⌜ Growable (now paths) (now scores) n path × Links (now paths) (now scores) (path + 1) × (0 < k) × (k ≤ countOf (now paths) path) × (e < length (now to)) × (e + 1 < 4294967296) ⌝ }
-    ensures { λ r. ⌜ Grown (now (paths .entry)) (now (scores .entry)) n (recoveredRow (now (paths .entry)) (now (scores .entry)) (now (to .entry)) path k e) most r (now (paths .exit)) (now (scores .exit)) ⌝ }
+    requires { ⌜ Growable (now paths) (now scores) n path × Table (now only) (now to) (now paths) (now scores) (path + 1) × (0 < k) × (k ≤ countOf (now paths) path) × (e < length (now to)) × (e + 1 < 4294967296) ⌝ }
+    ensures { λ r. ⌜ Grown (now (paths .entry)) (now (scores .entry)) n (recoveredRow (now (only .entry)) (now (paths .entry)) (now (scores .entry)) (now (to .entry)) path k e) most r (now (paths .exit)) (now (scores .exit)) ⌝ }
 {
     if k >= most {
         return PathAnswer::Refused(11);
@@ -219,6 +233,7 @@ pub fn recover_path(
         edge: e + 1,
         edges: k + 1,
         end: at(to, e),
+        fork: cut_end(paths, scores, only, to, cut),
         since: 0,
         joined: 0,
         trees: 0,
@@ -244,6 +259,7 @@ pub fn join_tree(paths: &mut [u32], scores: &mut [f64], path: u32, v: u32, most:
         edge: row.edge,
         edges: row.edges,
         end: row.end,
+        fork: row.fork,
         since: 0,
         joined: v + 1,
         trees: row.trees + 1,

@@ -6,8 +6,8 @@ ghost use Rattle.path_store.specs.Cells.{pathAt, Inside, Stored};
 
 // A path: its score, its parent's number + 1 (0: the start path, which has no edges), the piece that it adds to its parent's edges (the length of the
 // chain followed from the parent's last vertex, then the last edge + 1, or 0 where it ends with the chain), how many edges it has in all, its last
-// vertex, the decisions since guidance, the vertex + 1 whose tree joined when the path was taken (0: none), how many active trees it has, and whether
-// it was recovered, so that all its vertices with a tree count as visited.
+// vertex, the vertex that the chain leads to, the decisions since guidance, the vertex + 1 whose tree joined when the path was taken (0: none), how
+// many active trees it has, and whether it was recovered, so that all its vertices with a tree count as visited.
 pub struct PathRecord {
     pub score: f64,
     pub parent: u32,
@@ -15,6 +15,7 @@ pub struct PathRecord {
     pub edge: u32,
     pub edges: u32,
     pub end: u32,
+    pub fork: u32,
     pub since: u32,
     pub joined: u32,
     pub trees: u32,
@@ -37,8 +38,8 @@ pub fn path_at(paths: &[u32], scores: &[f64], r: u32) -> PathRecord
     ensures { λ row. ⌜ row ≡ pathAt (now (paths .entry)) (now (scores .entry)) r ⌝ }
 {
     let i = r as usize;
-    let at = i * 8;
-    let marks = paths[at + 7];
+    let at = i * 9;
+    let marks = paths[at + 8];
     PathRecord {
         score: scores[i],
         parent: paths[at + 0],
@@ -46,8 +47,9 @@ pub fn path_at(paths: &[u32], scores: &[f64], r: u32) -> PathRecord
         edge: paths[at + 2],
         edges: paths[at + 3],
         end: paths[at + 4],
-        since: paths[at + 5],
-        joined: paths[at + 6],
+        fork: paths[at + 5],
+        since: paths[at + 6],
+        joined: paths[at + 7],
         trees: marks / 2,
         recovered: marks % 2 == 1,
     }
@@ -59,7 +61,7 @@ pub fn path_put(paths: &mut [u32], scores: &mut [f64], r: u32, row: PathRecord)
     ensures { λ _. ⌜ Stored (now (paths .entry)) (now (scores .entry)) r row (now (paths .exit)) (now (scores .exit)) ⌝ }
 {
     let i = r as usize;
-    let at = i * 8;
+    let at = i * 9;
     let marks = row.trees * 2 + bit(row.recovered);
     scores[i] = row.score;
     paths[at + 0] = row.parent;
@@ -67,7 +69,8 @@ pub fn path_put(paths: &mut [u32], scores: &mut [f64], r: u32, row: PathRecord)
     paths[at + 2] = row.edge;
     paths[at + 3] = row.edges;
     paths[at + 4] = row.end;
-    paths[at + 5] = row.since;
-    paths[at + 6] = row.joined;
-    paths[at + 7] = marks;
+    paths[at + 5] = row.fork;
+    paths[at + 6] = row.since;
+    paths[at + 7] = row.joined;
+    paths[at + 8] = marks;
 }

@@ -1,14 +1,16 @@
 // Walks up the parents of a path: how often a vertex stands in it, and its edges in order.
 ghost use mathlib.Core.Path.{_≡_};
+ghost use mathlib.Core.Bool.{true};
 ghost use Prim.Native.Nat.{ℕ, _+_, _-_, _*_, _<_, _≤_};
-ghost use lib.ListN.{length};
+ghost use lib.ListN.{length, getD};
 ghost use lib.Seq.{sets};
 ghost use Rattle.path_store.specs.Walk.{hits, times};
-ghost use Rattle.path_store.specs.Cells.{parentOf, countOf};
+ghost use Rattle.path_store.specs.Cells.{Inside, parentOf, edgeOf, countOf};
 ghost use lib.Dec.{eqb};
 ghost use Rattle.laws.specs.Lists.{any};
 ghost use Rattle.path_store.specs.Visit.{seen, keeps};
 ghost use Rattle.path_store.specs.Path.{lastEdge, Piece, pieceOf, Table, edges};
+ghost use Rattle.path_store.specs.Stop.{forkHits, stopHits};
 use crate::chains::at;
 use crate::chains::count_chain;
 use crate::chains::same;
@@ -27,11 +29,52 @@ fn count_last(to: &[u32], l: u32, v: u32) -> usize
     same(v, at(to, l - 1))
 }
 
-// How often v is the target of an edge that the path adds to its parent.
-fn count_piece(paths: &[u32], scores: &[f64], only: &[u32], to: &[u32], path: u32, v: u32) -> usize
-    requires { ⌜ Piece (now only) (now to) (now paths) (now scores) path ⌝ }
+// Whether every chain that comes to v ends there.
+fn stops_at(only: &[u32], v: u32) -> bool
+    ensures { λ r. ⌜ (r ≡ true → getD (now (only .entry)) v 0 ≡ 0) ⌝ }
+{
+    let i = wide(v);
+    if i >= only.len() {
+        return false;
+    }
+    only[i] == 0
+}
+
+// How often v, where chains stop, stands in a chain of this length that leads to `fork`: nowhere but at its end.
+fn count_fork(chain: u32, fork: u32, v: u32) -> usize
+    ensures { λ r. ⌜ r ≡ forkHits v chain fork ⌝ }
+{
+    if chain == 0 {
+        return 0;
+    }
+    same(v, fork)
+}
+
+// How often v, where chains stop, is the target of an edge that the path adds to its parent.
+fn count_stop(paths: &[u32], scores: &[f64], to: &[u32], path: u32, v: u32) -> usize
+    requires { ⌜ Inside (now paths) (now scores) path × (edgeOf (now paths) path ≤ length (now to)) ⌝ }
+    ensures { λ k. ⌜ k ≡ stopHits (now (to .entry)) v (now (paths .entry)) path ⌝ }
+{
+    let row = path_at(paths, scores, path);
+    count_fork(row.chain, row.fork, v) + count_last(to, row.edge, v)
+}
+
+// How often v is the target of an edge that the path adds to its parent; where chains stop at v the chain is not walked.
+fn count_piece(
+    paths: &[u32],
+    scores: &[f64],
+    only: &[u32],
+    to: &[u32],
+    path: u32,
+    v: u32,
+    stops: bool,
+) -> usize
+    requires { ⌜ Piece (now only) (now to) (now paths) (now scores) path × (stops ≡ true → getD (now only) v 0 ≡ 0) ⌝ }
     ensures { λ k. ⌜ k ≡ hits (now (to .entry)) v (pieceOf (now (only .entry)) (now (to .entry)) (now (paths .entry)) path) ⌝ }
 {
+    if stops {
+        return count_stop(paths, scores, to, path, v);
+    }
     let row = path_at(paths, scores, path);
     let parent = path_at(paths, scores, row.parent - 1);
     count_chain(only, to, parent.end, row.chain, v) + count_last(to, row.edge, v)
@@ -50,12 +93,13 @@ pub fn count_in_path(
     requires { ⌜ Table (now only) (now to) (now paths) (now scores) (path + 1) ⌝ }
     ensures { λ k. ⌜ k ≡ times (now (to .entry)) source v (edges (now (only .entry)) (now (to .entry)) (now (paths .entry)) path) ⌝ }
 {
+    let stops = stops_at(only, v);
     let mut k: usize = 0;
     let mut r = path;
     let first = path_at(paths, scores, r);
     let mut p = first.parent;
     while p > 0 {
-        k += count_piece(paths, scores, only, to, r, v);
+        k += count_piece(paths, scores, only, to, r, v, stops);
         r = p - 1;
         let row = path_at(paths, scores, r);
         p = row.parent;

@@ -83,7 +83,7 @@ Apart sc queue n r = All (λ q. q ≢ r) (waiting sc queue n)
 -- the lengths that the search asks of the slices: a record for each push, each closing, and each extension of a fork, all of which are made before any is
 -- pushed
 pub record Room (g : Setting) (t : List ℕ) (sc : List Float) (ac queue shut : List ℕ) : Type 0 where
-  pub paths : (g .pushes + g .asked + 8) * 8 ≤ length t
+  pub paths : (g .pushes + g .asked + 8) * 9 ≤ length t
   pub scores : g .pushes + g .asked + 8 ≤ length sc
   pub actives : (g .pushes + g .asked + 8) * g .active ≤ length ac
   pub waiting : g .pushes ≤ length queue

@@ -99,6 +99,15 @@ mul-paths-8 c = search needs
 slice-write-paths-8 : tie.Need-slice-write-paths-8
 slice-write-paths-8 c = simp length-set (omega (arith, c .before .before .before .before .pre .0 .cells))
 
+add-paths-9 : tie.Need-add-paths-9
+add-paths-9 c = search needs
+
+mul-paths-9 : tie.Need-mul-paths-9
+mul-paths-9 c = search needs
+
+slice-write-paths-9 : tie.Need-slice-write-paths-9
+slice-write-paths-9 c = simp length-set (omega (arith, c .before .before .before .before .pre .0 .cells))
+
 same-length : tie.Need-same-length
 same-length c = simp length-set
 
@@ -142,6 +151,9 @@ path-put-spec =
     add-paths-8
     mul-paths-8
     slice-write-paths-8
+    add-paths-9
+    mul-paths-9
+    slice-write-paths-9
     same-length
     same-length-2
     returns)
