@@ -1,4 +1,5 @@
-/* The list of CAACTGG with the reads CAAGTGG, CAACTGG and CAACTGG, two paths asked: score, bases, and each edge's origin. Link with -lm. */
+/* The list of CAACTGG with the reads CAAGTGG, CAACTGG and CAACTGG, two paths asked: score, bases, and each edge's origin with the bytes there. Link with
+   -lm. */
 #include "punelavoh.h"
 #include <math.h>
 #include <stdio.h>
@@ -29,8 +30,10 @@ int main(void) {
     printf("refusal %u paths %u pushes %u\n", l.refusal, l.paths, l.pushes);
     for (uint32_t r = 0; r < l.paths; r++) {
         printf("%f %.*s", rows[r].score, (int)(a.k + rows[r].edges), (char *)path_bases + r * (a.k + a.search.path_edges));
-        for (uint32_t e = 0; e < rows[r].edges; e++)
-            printf(" %u:%u", sequences[r * a.search.path_edges + e], places[r * a.search.path_edges + e]);
+        for (uint32_t e = r * a.search.path_edges; e < r * a.search.path_edges + rows[r].edges; e++) {
+            OriginAnswer o = punelavoh_origin(a.k, reference, 7, ends, 3, bases, 21, sequences[e], places[e]);
+            printf(" %u:%u=%.*s", sequences[e], places[e], (int)o.length, (const char *)(o.in_reads ? bases : reference) + o.start);
+        }
         printf("\n");
     }
     return 0;

@@ -34,7 +34,8 @@ use Rattle.junction_trees.specs.Stretches.{begun}
 use Rattle.junction_trees.specs.Trees.{Gathers, Gathered, Evident, NotEvident, built-kept, built-fits, built-over}
 use Rattle.caller.specs.declared.GraphAnswer.{GraphAnswer}
 use Rattle.caller.specs.Lent.{Lent}
-use Rattle.caller.specs.Outcome.{outcome, refusedAnswer, graphRefusal, treesRefusal}
+use Rattle.caller.specs.Outcome.{outcome, refusedAnswer}
+use Rattle.list_work.specs.Raise.{graphRefusal, treesRefusal}
 
 pub record Fills (s : Sample) (m : GraphMaxima) (es ns wv we wi wx wo : List ℕ) : Type 0 where
   pub lent : Lent s m es ns wv we wi wx wo

@@ -6,10 +6,6 @@ use lib.ListN.{length}
 use Rattle.definition.specs.Limits.{Sample, GraphMaxima}
 use Rattle.definition.specs.Calls.{GraphOutcome, graphCall, workspaceAfter}
 use Rattle.limits.specs.Workspaces.{vertexTable, edgeTable, kmerIndex, nodeTable, openTrees}
-use Rattle.junction_tree_graph.specs.declared.Answer.{Answer}
-use Rattle.junction_tree_graph.specs.declared.Answer.the-variants as answer
-use Rattle.junction_trees.specs.declared.Evidence.{Evidence}
-use Rattle.junction_trees.specs.declared.Evidence.the-variants as trees
 use Rattle.caller.specs.declared.GraphAnswer.{GraphAnswer}
 use Rattle.caller.specs.Lent.{workspaceTold}
 
@@ -18,14 +14,6 @@ outcome r es ns = record { refusal = r .refusal; edges = r .edges; nodes = r .no
 
 abbrev pub refusedAnswer : ℕ → GraphAnswer
 refusedAnswer n = record { refusal = n; edges = 0; nodes = 0 }
-
-abbrev pub graphRefusal : Answer → ℕ
-graphRefusal (answer.Done b) = 0
-graphRefusal (answer.Refused n) = n
-
-abbrev pub treesRefusal : Evidence → ℕ
-treesRefusal (trees.Trees c) = 0
-treesRefusal (trees.Refused n) = n
 
 -- the answer and the output are those of the definition's call, and so is each workspace slice: unchanged after 1 to 7, else zero as far as told
 pub record Graphed (s : Sample) (m : GraphMaxima) (r : GraphAnswer) (es es' ns ns' wv wv' we we' wi wi' wx wx' wo wo' : List ℕ) : Type 0 where

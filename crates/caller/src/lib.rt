@@ -16,6 +16,8 @@ use list_call::clear_scores;
 use list_call::list_columns;
 use list_work::ListAnswer;
 use list_work::Settings;
+use list_work::graph_refusal;
+use list_work::trees_refusal;
 use origins::OriginAnswer;
 use path_rows::PathRow;
 use threading_tree::write_nodes;
@@ -28,7 +30,7 @@ ghost use Rattle.limits.specs.Handed.{sampleOf, graphMaximaOf, searchMaximaOf};
 ghost use Rattle.limits.specs.Lengths.{Told};
 ghost use Rattle.origins.specs.Parts.{origin, Names};
 ghost use Rattle.caller.specs.Lent.{workspaceTold, Lent};
-ghost use Rattle.caller.specs.Outcome.{outcome, refusedAnswer, graphRefusal, treesRefusal, Graphed};
+ghost use Rattle.caller.specs.Outcome.{outcome, refusedAnswer, Graphed};
 ghost use Rattle.caller.specs.Clear.{Zeroed};
 ghost use Rattle.caller.specs.Fill.{Fills, Writes, Wrote};
 ghost use Rattle.caller.specs.Made.{Made};
@@ -90,24 +92,6 @@ fn refused(number: u32) -> GraphAnswer
         refusal: number,
         edges: 0,
         nodes: 0,
-    }
-}
-
-fn graph_refusal(r: Answer) -> u32
-    ensures { λ n. ⌜ n ≡ graphRefusal r ⌝ }
-{
-    match r {
-        Answer::Done(_) => 0,
-        Answer::Refused(n) => n,
-    }
-}
-
-fn trees_refusal(r: Evidence) -> u32
-    ensures { λ n. ⌜ n ≡ treesRefusal r ⌝ }
-{
-    match r {
-        Evidence::Trees(_) => 0,
-        Evidence::Refused(n) => n,
     }
 }
 
@@ -351,6 +335,8 @@ fn clear_columns(
 
 // ---- for C and Rust
 
+// Writes edge rows of six numbers (from, to, support, reference mark, and the origin's sequence and place), rising by ends, and node rows of four (from,
+// to, count, depth).
 #[no_mangle]
 pub extern "C" fn punelavoh_graph(
     k: u32,
@@ -388,6 +374,7 @@ pub extern "C" fn punelavoh_graph(
     )
 }
 
+// Tells how many elements each slice needs; `paths` is the number of paths asked for.
 #[no_mangle]
 pub extern "C" fn punelavoh_lengths(
     k: u32,
@@ -400,6 +387,7 @@ pub extern "C" fn punelavoh_lengths(
     limits::lengths(k, paths, g, s)
 }
 
+// Tells which part of the reference (in_reads 0) or of the read bases (in_reads 1) an origin names.
 #[no_mangle]
 pub extern "C" fn punelavoh_origin(
     k: u32,
@@ -415,8 +403,8 @@ pub extern "C" fn punelavoh_origin(
     origins::origin_part(k, reference, ends, bases, sequence, place)
 }
 
-// Refused with nothing touched, or the list, with its rows in the lent records; the columns are cleared like the rest of the workspace. Proved by hand, since a
-// slice of records is not covered.
+// Writes the list: row r is rows[r], its bases stand in out_bases from r * (k + path_edges), and its edges' origins in sequences and places from
+// r * path_edges. The rows are first made in the three columns, which are cleared like the rest of the workspace.
 #[no_mangle]
 pub extern "C" fn punelavoh_list(
     a: Settings,

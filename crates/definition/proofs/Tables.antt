@@ -14,10 +14,15 @@ use Rattle.laws.specs.Lists.{sole, lastOr}
 use Rattle.laws.specs.ListLaws.{All, nil, cons, all-head, all-tail, all-append, all-mono}
 use Rattle.definition.specs.Limits.{Sample}
 use Rattle.definition.specs.Stretch.{Stretch, kmers, stretches}
-use Rattle.definition.specs.Threading.{Ends, compareEnds, Origin, Edge, Graph, Threading, entering, oneStep, merge, put, numberOf, withKmer, follow, stepTo, step, steps, backward, startAt, threadKmers, thread, threadAll, threaded, withSymbolic}
+use Rattle.definition.specs.Threading.{Ends, eqEnds, compareEnds, Origin, Edge, Graph, Threading, entering, oneStep, merge, put, numberOf, withKmer, follow, stepTo, step, steps, backward, startAt, threadKmers, thread, threadAll, threaded, withSymbolic}
 use Rattle.laws.specs.Numbers.{compare-lt, compare-eq, lt-compare, eq-compare, gt-compare}
 use Rattle.definition.proofs.Kmers.{number-in, number-is}
 use Rattle.definition.proofs.Spelling.{all-put}
+
+-- no ends stand twice
+abbrev pub Once : List Ends → Type 0
+Once [] = Unit {0}
+Once (x ∷ xs) = All (λ (y : Ends). eqEnds y x ≡ false) xs × Once xs
 
 -- ---- the order of ends
 

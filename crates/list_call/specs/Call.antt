@@ -1,24 +1,33 @@
 -- The whole call: the rules' number says whether it is refused with nothing touched, or the work is done. Assumes nothing.
 use mathlib.Core.Path.{_≡_, refl, sym, ap, subst, _∙_}
-use mathlib.Core.Bool.{true, _&&_}
+use mathlib.Core.Bool.{true, false, and-false, _&&_}
 use Prim.Native.Nat.{ℕ, zero, suc, _<_, _≤_}
 use native.Mathlib.Omega.{arith}
 use lib.Dec.{leb}
 use lib.Ieee.{Float}
-use borrow.Author.Tests.{le-leb}
+use borrow.Author.Tests.{le-leb, lt-leb}
 use Rattle.laws.specs.Numbers.{within}
 use Rattle.definition.specs.Refusal.{firstBroken}
 use Rattle.definition.specs.Score.{columnScoring}
 use Rattle.definition.specs.Limits.{Input, longEnough, sampleRules, listRules}
-use Rattle.definition.specs.Listing.{Answer, refusal, answer, afterChecks}
+use Rattle.definition.specs.Listing.{Answer, refusal, listed, answer, afterChecks}
 use Rattle.definition.proofs.Checks.{checked}
 use Rattle.limits.specs.Rules.{none-broken, low-broken}
 use Rattle.list_work.specs.declared.ListAnswer.{ListAnswer}
 use Rattle.list_call.specs.Lent.{toldOf, lentOf, long-of}
-use Rattle.list_work.specs.Outcome.{Outputs, Tables, Listed, found, refusedAnswer, listed-refused}
+use Rattle.list_work.specs.Outcome.{Outputs, Tables, Listed, found, summary, refusedAnswer, listed-refused}
 use Rattle.list_call.specs.Outcome.{after-work, after-checks}
 use Rattle.list_call.specs.Within.{lengthsOf, Within, Done, Called}
-use Rattle.list_call.specs.Late.{found-late}
+use Rattle.definition.proofs.Late.{LateAnswer, found-late}
+
+-- the number answered after the checks is none of 1 to 7
+after-seven : (i : Input) → within 1 7 (summary (found i) .refusal) ≡ false
+unfolding summary
+after-seven i = go (found i) (found-late i)
+  where
+    go : (o : Answer Float) → LateAnswer o → within 1 7 (summary o .refusal) ≡ false
+    go (refusal n) l = rw (lt-leb n 7 (omega arith)) (and-false (leb 1 n))
+    go (listed rs pushes longest) l = refl
 
 module _ (i : Input) (rows : ℕ) (o : Outputs) (w : Tables) (n : ℕ) (e : n ≡ firstBroken (listRules i (toldOf i) (lentOf (lengthsOf rows o w)))) where
   -- ---- refused: 1 to 7
@@ -89,5 +98,5 @@ module _ (i : Input) (rows : ℕ) (o : Outputs) (w : Tables) (n : ℕ) (e : n �
     call-done r o′ w′ d =
         record {
           listed = subst (λ (a : Answer Float). Listed i a r o o′) answer-found (d .listed);
-          tables = d .tables ∙ after-work (r .refusal) i w (ap (λ (k : ℕ). within 1 7 k) (d .listed .refusal) ∙ found-late i);
+          tables = d .tables ∙ after-work (r .refusal) i w (ap (λ (k : ℕ). within 1 7 k) (d .listed .refusal) ∙ after-seven i);
         }

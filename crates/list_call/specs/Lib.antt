@@ -3,5 +3,4 @@ pub mod Rules
 pub mod Outcome
 pub mod Within
 pub mod Parts
-pub mod Late
 pub mod Call

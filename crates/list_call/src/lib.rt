@@ -6,6 +6,7 @@ use limits::check_list;
 use limits::walks_told;
 use list_work::ListAnswer;
 use list_work::Settings;
+use list_work::refused;
 use list_work::work;
 ghost use mathlib.Core.Path.{_≡_};
 ghost use mathlib.Core.List.{[], _∷_};
@@ -17,7 +18,7 @@ ghost use Rattle.limits.specs.Bounds.{InLimits};
 ghost use Rattle.list_work.specs.Works.{inputFor};
 ghost use lib.ListN.{length, replicate};
 ghost use Rattle.definition.specs.Calls.{writtenAt};
-ghost use Rattle.list_work.specs.Outcome.{refusedAnswer, Listed, outputsOf, tablesOf, found};
+ghost use Rattle.list_work.specs.Outcome.{Listed, outputsOf, tablesOf, found};
 ghost use Rattle.list_call.specs.Outcome.{floatZero};
 ghost use Rattle.list_work.specs.Works.{Works};
 ghost use Rattle.list_call.specs.Within.{Within, Done, Called};
@@ -173,18 +174,6 @@ fn check(
         return 7;
     }
     0
-}
-
-// A refused answer holds 0 in every other field.
-fn refused(number: u32) -> ListAnswer
-    ensures { λ r. ⌜ r ≡ refusedAnswer number ⌝ }
-{
-    ListAnswer {
-        refusal: number,
-        paths: 0,
-        pushes: 0,
-        mark: 0,
-    }
 }
 
 // The first n scores become 0.

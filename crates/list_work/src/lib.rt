@@ -25,7 +25,7 @@ ghost use Rattle.list_work.specs.Work.{raiseRefusal};
 ghost use Rattle.list_work.specs.Chains.{Chains, Chained, Small, SettingFor};
 ghost use Rattle.list_work.specs.Search.{searchRefusal, foundAnswer, Told32, Seeks, Sought};
 
-// What a run is asked for: k, the minimum quality, the paths asked, the threshold, recovery, and the maxima.
+// What a run is asked for: k, the minimum quality, the number of paths, the threshold, recovery, and the maxima.
 #[repr(C)]
 pub struct Settings {
     pub k: u32,
@@ -60,7 +60,7 @@ pub enum Raised {
 }
 
 // A refused answer holds 0 in every other field.
-fn refused(number: u32) -> ListAnswer
+pub fn refused(number: u32) -> ListAnswer
     ensures { λ r. ⌜ r ≡ refusedAnswer number ⌝ }
 {
     ListAnswer {
@@ -71,7 +71,8 @@ fn refused(number: u32) -> ListAnswer
     }
 }
 
-fn graph_refusal(r: Answer) -> u32
+// The number of a refused graph, and of refused trees; 0 where there is none.
+pub fn graph_refusal(r: Answer) -> u32
     ensures { λ n. ⌜ n ≡ graphRefusal r ⌝ }
 {
     match r {
@@ -80,7 +81,7 @@ fn graph_refusal(r: Answer) -> u32
     }
 }
 
-fn trees_refusal(r: Evidence) -> u32
+pub fn trees_refusal(r: Evidence) -> u32
     ensures { λ n. ⌜ n ≡ treesRefusal r ⌝ }
 {
     match r {

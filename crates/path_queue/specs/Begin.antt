@@ -18,7 +18,8 @@ use Rattle.definition.specs.Score.{columnScoring}
 use Rattle.definition.specs.Search.{SearchInput, Path, endsOf, pivotalEdges, firstState}
 use Rattle.assembly.specs.Store.{edgesOf}
 use Rattle.pivotal_edges.specs.Turns.{Pivots, Pivoted}
-use Rattle.pivotal_edges.specs.Once as once
+use Rattle.definition.proofs.Tables.{Once}
+use Rattle.pivotal_edges.specs.Once.{edges-once}
 use Rattle.path_store.specs.Pivots as pivots
 use Rattle.path_store.specs.Cells.{treesOf, scoreOf, Inside, putCells, Stored, put-at, put-trees}
 use Rattle.path_store.specs.Grow.{startRow}
@@ -83,10 +84,6 @@ pub record PivotalListed (g : Setting) (vs es order marks : List ℕ) (n : ℕ) 
   pub room : n ≤ length order
   pub each : (f : SearchInput) (x only to : List ℕ) → Ground f g vs es x only to → PivotalHeld f es to order marks n recovery
 
-once-of : (xs : List Ends) → once.Once xs → pivots.Once xs
-once-of [] o = tt
-once-of (x ∷ xs) o = (o .0, once-of xs (o .1))
-
 module _ {g : Setting} {vs es queue order marks : List ℕ} (L : ListsPivotal g vs es queue order marks) where
   pub no-pivotal : (recovery : Bool) → recovery ≡ false → PivotalListed g vs es order marks 0 recovery
   no-pivotal recovery e = rw e (record { room = omega arith; each = λ f x only to B. record { is = refl; distinct = tt; known = nil } })
@@ -113,8 +110,8 @@ module _ {g : Setting} {vs es queue order marks : List ℕ} (L : ListsPivotal g 
             let left : unvisited (take n order′) marks″ ≡ take n order′ =
             keep-all (λ d. ltb 0 (getD marks″ d 0)) (all-mono (λ d h. lt-ltb 0 (getD marks″ d 0) (omega (arith, m d h))) (P .low))
             in
-            let single : pivots.Once (pivotalEdges f) =
-            pivots.pivotal-once f (rw (B .settings .edges) (once-of (endsOf (edgesOf es (g .edges))) (once.edges-once es (g .edges))))
+            let single : Once (pivotalEdges f) =
+            pivots.pivotal-once f (rw (B .settings .edges) (edges-once es (g .edges)))
             in
             record {
               is = sym names ∙ ap (λ l. map (nameOf es) l) (sym left);

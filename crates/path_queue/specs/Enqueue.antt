@@ -394,6 +394,7 @@ module _ {es only to t : List ℕ} {sc : List Float} {shut order marks walk : Li
             table = H .records .held .table;
             shut-known = H .shut-known;
             shut-room = H .shut-room;
+            numbers = H .records .number;
             short = H .records .short;
             walk-room = T .walk-room;
             most-fits = G .most-fits;

@@ -9,13 +9,13 @@ use native.Mathlib.Omega.{arith}
 use lib.Dec.{eqb}
 use lib.ListN.{length, getD, take}
 use lib.Seq.{getD-take, length-take-le}
-use lib.Ieee.{Float}
+use lib.Ieee.{Float, isNan}
 use Rattle.laws.specs.Lists.{any, keep}
 use Rattle.laws.specs.ListLaws.{All, nil, cons, all-keep, all-map}
 use Rattle.laws.specs.Records.{field}
 use Rattle.definition.specs.Score.{Scoring, columnScoring}
 use Rattle.definition.specs.Search.{SearchInput, Closed, greatest, verticesFrom}
-use Rattle.path_store.specs.Cells.{countOf, Inside}
+use Rattle.path_store.specs.Cells.{countOf, scoreOf, Inside}
 use Rattle.path_store.specs.Path.{Table, table-front}
 use Rattle.path_store.specs.Link.{Agrees}
 use Rattle.path_store.specs.Best.{bestOf, ClosedIn, closedAt, foundAt, best-greatest}
@@ -34,6 +34,7 @@ pub record TriesEdge (es only to t : List ℕ) (sc : List Float) (shut walk : Li
   pub table : Table only to t sc (p .records)
   pub shut-known : All (λ r. r < p .records) (take (p .closed) shut)
   pub shut-room : p .closed ≤ length shut
+  pub numbers : (r : ℕ) → r < p .records → isNan (scoreOf sc r) ≡ false
   pub short : (r : ℕ) → r < p .records → countOf t r ≤ g .most
   pub walk-room : g .most ≤ length walk
   pub most-fits : g .most ≤ 4096
@@ -83,6 +84,7 @@ module _ {es only to t : List ℕ} {sc : List Float} {shut walk : List ℕ} {g :
         room = T .shut-room;
         tables = λ i h. table-front only to t sc (p .records) (getD shut i 0 + 1) (T .table) (omega (arith, closed-low i h));
         small = λ i h. omega (arith, closed-low i h, T .fits);
+        numbers = λ i h. T .numbers (getD shut i 0) (closed-low i h);
       }
 
   -- the best closed path is one of the records: by the definition's greatest, where each closed path's number is its record's

@@ -233,7 +233,17 @@ fn leave_path(
     if k == 0 {
         return Recovery::Made(p);
     }
-    let r = recover_path(paths, scores, only, to, p.records, path, k as u32, e, g.most);
+    let r = recover_path(
+        paths,
+        scores,
+        only,
+        to,
+        p.records,
+        path,
+        k as u32,
+        e,
+        g.most,
+    );
     let PathAnswer::Made(_) = r else {
         return Recovery::Refused(11);
     };

@@ -13,12 +13,8 @@ use Rattle.laws.specs.ListLaws.{All, nil, cons, all-head, all-tail, all-append,
 use Rattle.laws.specs.BoolLaws.{Bool-cases, both-ways}
 use Rattle.definition.specs.Threading.{Ends, eqEnds, Edge, leaving, supportOf}
 use Rattle.definition.specs.Search.{SearchInput, Queued, among, endsOf, pivotalOf, pivotalFrom, pivotalEdges, enqueueAll}
+use Rattle.definition.proofs.Tables.{Once}
 use Rattle.path_store.specs.Cross.{Distinct}
-
--- no later edge has the ends of an earlier one
-abbrev pub Once : List Ends → Type 0
-Once [] = Unit {0}
-Once (x ∷ xs) = All (λ (y : Ends). eqEnds y x ≡ false) xs × Once xs
 
 once-append : (a b : List Ends) → Once a → Once b → All (λ (y : Ends). among y a ≡ false) b → Once (a ++ b)
 unfolding among

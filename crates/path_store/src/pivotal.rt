@@ -5,8 +5,7 @@ ghost use lib.ListN.{length, getD, take};
 ghost use Rattle.path_store.specs.Walk.{Graph, Runs, run};
 ghost use Rattle.path_store.specs.Path.{lastEdge, Piece, pieceOf, Table, edges};
 ghost use Rattle.path_store.specs.Cross.{clears};
-ghost use Rattle.path_store.specs.Cells.{Inside};
-ghost use Rattle.path_store.specs.Best.{better, bestOf, ClosedIn};
+ghost use Rattle.path_store.specs.Best.{outscores, later, bestOf, ClosedIn};
 ghost use Rattle.path_store.specs.Split.{newer, found, lastInto, splitAt};
 ghost use Rattle.laws.specs.Lists.{position};
 ghost use lib.Dec.{eqb};
@@ -85,8 +84,19 @@ pub fn cross_off(
     }
 }
 
-// Of a closed path and the best of those that closed after it, whose number + 1 is best (0: none): ties go to the later.
-fn better(
+// Whether the best path so far, whose number + 1 is best (0: none), has a greater score.
+fn outscored(scores: &[f64], path: u32, best: u32) -> bool
+    requires { ⌜ (path < length (now scores)) × (0 < best → best - 1 < length (now scores)) ⌝ }
+    ensures { λ r. ⌜ r ≡ outscores (now (scores .entry)) best path ⌝ }
+{
+    if best == 0 {
+        return false;
+    }
+    scores[wide(path)] < scores[wide(best - 1)]
+}
+
+// Of the best path so far, whose number + 1 is best (0: none), and one that closed later: ties go to the later. A path that is outscored is not walked.
+fn later(
     paths: &[u32],
     scores: &[f64],
     only: &[u32],
@@ -96,21 +106,16 @@ fn better(
     v: u32,
     best: u32,
 ) -> u32
-    requires { ⌜ Table (now only) (now to) (now paths) (now scores) (path + 1) × (path + 1 < 4294967296) × (0 < best → Inside (now paths) (now scores) (best - 1)) ⌝ }
-    ensures { λ r. ⌜ r ≡ better (now (only .entry)) (now (to .entry)) source (now (paths .entry)) (now (scores .entry)) v path best ⌝ }
+    requires { ⌜ Table (now only) (now to) (now paths) (now scores) (path + 1) × (path + 1 < 4294967296) × (0 < best → best - 1 < length (now scores)) ⌝ }
+    ensures { λ r. ⌜ r ≡ later (now (only .entry)) (now (to .entry)) source (now (paths .entry)) (now (scores .entry)) v best path ⌝ }
 {
+    if outscored(scores, path, best) {
+        return best;
+    }
     if count_in_path(paths, scores, only, to, source, path, v) == 0 {
         return best;
     }
-    if best == 0 {
-        return path + 1;
-    }
-    let later = path_at(paths, scores, best - 1);
-    let row = path_at(paths, scores, path);
-    if later.score < row.score {
-        return path + 1;
-    }
-    best
+    path + 1
 }
 
 // The number + 1 of the best of the closed paths that go through v, or 0: the greatest score, ties to the later closed.
@@ -128,10 +133,10 @@ pub fn best_through(
     ensures { λ r. ⌜ r ≡ bestOf (now (only .entry)) (now (to .entry)) source (now (paths .entry)) (now (scores .entry)) v (take count (now (closed .entry))) ⌝ }
 {
     let mut best: u32 = 0;
-    let mut i = count;
-    while i > 0 {
-        i -= 1;
-        best = better(paths, scores, only, to, source, closed[i], v, best);
+    let mut i: usize = 0;
+    while i < count {
+        best = later(paths, scores, only, to, source, closed[i], v, best);
+        i += 1;
     }
     best
 }

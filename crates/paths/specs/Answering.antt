@@ -16,7 +16,7 @@ use Rattle.definition.specs.Listing.{Row, Answer, refusal, listed, answer}
 use Rattle.definition.specs.Promises.{Spelled}
 use Rattle.definition.specs.Text.{Text, textOf, columnOf, textRules, graphMaxima, searchMaxima, firstLine, refusedLine, printedOf, printed}
 use Rattle.definition.proofs.Demand.{paths-spelled, no-nan, within-bounds}
-use Rattle.list_call.specs.Late.{answer-some}
+use Rattle.definition.proofs.Late.{no-zero}
 use Rattle.list_call.specs.Lent.{toldOf, lentOf}
 use Rattle.list_work.specs.Outcome.{Outputs, Tables, outputsAfter, writtenList, summary}
 use Rattle.list_call.specs.Within.{lengthsOf, Called}
@@ -133,7 +133,7 @@ module _ (T E : List ℕ) (s : Source) (c : List Float) (o o′ : Outputs) (w w�
       go : (x : Answer Float) → said ≡ x → linesOf (o′ .scores) (o′ .closings) (o′ .edges) (o′ .bases) k a ≡ printedOf x
       go (refusal n) e =
           let f : a .refusal ≡ n = h .listed .refusal ∙ ap (λ (x : Answer Float). summary x .refusal) e in
-          refused n (answer-some i (toldOf i) (lentOf (lengthsOf 8 o w)) n e) f
+          refused n (no-zero i (toldOf i) (lentOf (lengthsOf 8 o w)) n e) f
         where
           refused : (n : ℕ) → 0 < n → a .refusal ≡ n → linesOf (o′ .scores) (o′ .closings) (o′ .edges) (o′ .bases) k a ≡ refusedLine n
           refused zero l f = absurd (omega arith)
@@ -156,7 +156,7 @@ module _ (T E : List ℕ) (s : Source) (c : List Float) (o o′ : Outputs) (w w�
         go : (x : Answer Float) → said ≡ x → Columns (o′ .scores) (o′ .closings) (o′ .edges) (o′ .bases) k (a .paths)
         go (refusal n) e =
             let f : a .refusal ≡ n = h .listed .refusal ∙ ap (λ (x : Answer Float). summary x .refusal) e in
-            let l = answer-some i (toldOf i) (lentOf (lengthsOf 8 o w)) n e in
+            let l = no-zero i (toldOf i) (lentOf (lengthsOf 8 o w)) n e in
             absurd (omega arith)
         go (listed rs p q) e =
             let g : a .paths ≡ length rs = h .listed .paths ∙ ap (λ (x : Answer Float). summary x .paths) e in

@@ -9,15 +9,11 @@ use borrow.Author.Tests.{eq-eqb, ne-eqb}
 use Rattle.laws.specs.ListLaws.{All, nil, cons}
 use Rattle.definition.specs.Threading.{Ends, Edge, eqEnds, compareEnds}
 use Rattle.definition.specs.Search.{endsOf}
+use Rattle.definition.proofs.Tables.{Once}
 use Rattle.assembly.specs.Ends.{Below, is-below}
 use Rattle.assembly.specs.Table.{table}
 use Rattle.assembly.specs.Store.{edgeAt, edgesOf}
 use Rattle.assembly.specs.Outs.{Rising, rising-table}
-
--- no ends stand twice
-abbrev pub Once : List Ends → Type 0
-Once [] = Unit {0}
-Once (x ∷ xs) = All (λ (y : Ends). eqEnds y x ≡ false) xs × Once xs
 
 -- every edge is above these ends
 abbrev Above : Ends → List Edge → Type 0

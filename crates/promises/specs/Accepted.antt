@@ -19,7 +19,7 @@ use Rattle.definition.proofs.Checks.{passed}
 use Rattle.definition.proofs.Demand.{paths-spelled, within-bounds}
 use Rattle.promises.specs.Reading.{readList}
 use Rattle.promises.specs.Back.{Fits, LongFor, read-back}
-use Rattle.promises.specs.Late.{no-zero}
+use Rattle.definition.proofs.Late.{no-zero}
 
 -- ---- the list
 

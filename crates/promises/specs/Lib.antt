@@ -1,5 +1,4 @@
 pub mod Reading
 pub mod Back
-pub mod Late
 pub mod Accepted
 pub mod Demand

@@ -1,25 +1,22 @@
--- What the build and the search refuse has a number of 8 or more. Assumes nothing.
-use mathlib.Core.Path.{_≡_, refl, subst}
+-- What the build and the search refuse has a number of 8 or more, and no refusal has the number 0.
+use mathlib.Core.Path.{_≡_, refl}
 use mathlib.Core.Bool.{Bool, true, false, not, cond, _&&_, _||_}
 use mathlib.Core.List.{List, [], _∷_, _++_}
 use mathlib.Core.Option.{Option, none, some}
-use Prim.Native.Nat.{ℕ, zero, suc, _+_, _<_, _≤_}
+use Prim.Native.Nat.{ℕ, zero, suc, _+_, _≤_}
 use native.Mathlib.Omega.{arith}
 use lib.Dec.{leb, ltb, eqb}
 use lib.ListN.{length, take}
 use lib.Ieee.{Float}
-use borrow.Author.Tests.{lt-leb}
-use Rattle.laws.specs.Numbers.{within}
 use Rattle.laws.specs.Lists.{keep, any, findLast, position, isEmpty}
 use Rattle.definition.specs.Refusal.{Result, ok, refused, andThen, each, firstBroken}
 use Rattle.definition.specs.Score.{Scoring, columnScoring}
 use Rattle.definition.specs.Limits.{Sample, GraphMaxima, Input, listRules}
 use Rattle.definition.specs.Threading.{Ends, eqEnds, Edge, threaded, withSymbolic, leaving}
 use Rattle.definition.specs.Evidence.{Branches, hasBranch, treeAt, nodes, evidence}
 use Rattle.definition.specs.Building.{Built, built, builtOf}
 use Rattle.definition.specs.Search.{SearchInput, Path, Closed, State, Made, atEnd, broken, made, Turn, more, ended, failed, full, Offer, verticesFrom, endFrom, times, chain, offers, hasStoppingEvidence, push, pushAll, lengthen, extend, repeatRule, extensions, joinTree, closeAt, madeOf, extendAt, takePath, greatest, recover, advance, pushMade, turn, run, pivotalEdges, firstState, search}
 use Rattle.definition.specs.Listing.{Answer, refusal, listed, searchInput, listOf, answerOf, afterBuild, afterChecks, answer}
-use Rattle.list_work.specs.Outcome.{found, summary}
 
 abbrev Late : {A : Type 0} → Result A → Type 0
 Late (ok a) = Unit {0}
@@ -36,7 +33,7 @@ LateTurn (ended s) = Unit {0}
 LateTurn (failed n) = 8 ≤ n
 LateTurn (full s ps) = Unit {0}
 
-abbrev LateAnswer : {S : Type 0} → Answer S → Type 0
+abbrev pub LateAnswer : {S : Type 0} → Answer S → Type 0
 LateAnswer (refusal n) = 8 ≤ n
 LateAnswer (listed rs pushes longest) = Unit {0}
 
@@ -235,30 +232,19 @@ module _ {S : Type 0} (𝓢 : Scoring S) where
       go false u =
           rw (u, afterBuild) (answer-late b (search 𝓢 (searchInput i b) (i .asked) (i .searchMaxima .pushes) (i .recovery)) (search-late 𝓢 (searchInput i b) (i .asked) (i .searchMaxima .pushes) (i .recovery)))
 
--- the number answered is none of 1 to 7
-pub found-late : (i : Input) → within 1 7 (summary (found i) .refusal) ≡ false
-unfolding summary
-found-late i = go (found i) (after-late (columnScoring (i .column)) i (built (i .sample) (i .graphMaxima)) (built-late (i .sample) (i .graphMaxima)))
-  where
-    and-false : (a b : Bool) → b ≡ false → (a && b) ≡ false
-    and-false true b e = e
-    and-false false b e = refl
+-- what is answered once nothing of 1 to 7 is broken
+pub found-late : (i : Input) → LateAnswer (afterBuild (columnScoring (i .column)) i (built (i .sample) (i .graphMaxima)))
+found-late i = after-late (columnScoring (i .column)) i (built (i .sample) (i .graphMaxima)) (built-late (i .sample) (i .graphMaxima))
 
-    go : (o : Answer Float) → LateAnswer o → within 1 7 (summary o .refusal) ≡ false
-    go (refusal n) l = and-false (leb 1 n) (leb n 7) (lt-leb n 7 (omega arith))
-    go (listed rs pushes longest) l = refl
-
--- so no refusal has the number 0
-pub answer-some : (i : Input) (told lent : List ℕ) (n : ℕ) → answer i told lent ≡ refusal n → 0 < n
+-- no refusal has the number 0, which tells of none
+pub no-zero : (i : Input) (told lent : List ℕ) (n : ℕ) → answer i told lent ≡ refusal n → 1 ≤ n
 unfolding answer afterChecks
-answer-some i told lent n e = go (firstBroken (listRules i told lent)) e
+no-zero i told lent n t = go (firstBroken (listRules i told lent)) refl
   where
-    Some : Answer Float → Type 0
-    Some (refusal m) = 0 < m
-    Some (listed rs pushes longest) = Unit {0}
+    some : (a : Answer Float) → LateAnswer a → a ≡ refusal n → 1 ≤ n
+    some (refusal m) l e = let z : m ≡ n = cc in omega arith
+    some (listed rs p q) l e = let z : _≡_ {A = ℕ} 0 1 = cc in absurd (omega arith)
 
-    go : (m : ℕ) → afterChecks (columnScoring (i .column)) i m ≡ refusal n → 0 < n
-    go zero e =
-        let l : 8 ≤ n = subst (λ (x : Answer Float). LateAnswer x) e (after-late (columnScoring (i .column)) i (built (i .sample) (i .graphMaxima)) (built-late (i .sample) (i .graphMaxima))) in
-        omega arith
-    go (suc m) e = subst (λ (x : Answer Float). Some x) e (omega arith)
+    go : (b : ℕ) → firstBroken (listRules i told lent) ≡ b → 1 ≤ n
+    go zero e = some (afterBuild (columnScoring (i .column)) i (built (i .sample) (i .graphMaxima))) (found-late i) (rw (e, afterChecks) at t)
+    go (suc b) e = let h : _≡_ {A = Answer Float} (refusal (suc b)) (refusal n) = rw (e, afterChecks) at t in let z : suc b ≡ n = cc in omega arith
