@@ -13,7 +13,7 @@ use limits::LengthsTold;
 use limits::SearchMaxima;
 ghost use Prim.Native.Nat.{_≤_};
 
-fn graph_maxima(call: &[u32], place: usize) -> GraphMaxima
+pub fn graph_maxima(call: &[u32], place: usize) -> GraphMaxima
     requires { ⌜ place ≤ 16 ⌝ }
 {
     GraphMaxima {
@@ -85,7 +85,7 @@ pub fn origin_agrees<'a>(
 // ---- graph: maxima, which slice is short; refusal, numbers of edges and nodes, their rows
 
 // How much of a slice is lent: as much as told, and one element fewer where it is to be short.
-fn lent(told: usize, room: usize, short: bool) -> usize
+pub fn lent(told: usize, room: usize, short: bool) -> usize
     ensures { λ r. ⌜ r ≤ room ⌝ }
 {
     let n = least(told, room);
@@ -106,7 +106,7 @@ fn told_for(k: u32, maxima: GraphMaxima) -> LengthsTold {
 }
 
 // What the workspace holds where it was told: a call refused by 1 to 7 touches nothing, any other leaves it zero.
-fn value_left(refusal: u32) -> u32 {
+pub fn value_left(refusal: u32) -> u32 {
     if 0 < refusal && refusal < 8 {
         return LENT;
     }
