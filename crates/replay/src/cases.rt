@@ -45,7 +45,7 @@ fn counted(total: Total, verdict: Verdict) -> Total {
             Total {
                 passed: total.passed,
                 failed: wrapping_add_u64(total.failed, 1),
-                }
+            }
         }
     }
 }
@@ -66,16 +66,7 @@ fn replay_call<'a>(
         1 => judged(graph_agrees(call, k, quality, reference, ends, bases, qualities)),
         2 => judged(origin_agrees(call, k, reference, ends, bases)),
         3 => judged(lengths_agree(call)),
-        4 => judged(list_agrees_over(
-            call,
-            k,
-            quality,
-            reference,
-            ends,
-            bases,
-            qualities,
-            log10,
-        )),
+        4 => judged(list_agrees_over(call, k, quality, reference, ends, bases, qualities, log10)),
         _ => Verdict::Failed,
     }
 }

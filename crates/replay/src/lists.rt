@@ -230,7 +230,13 @@ fn outputs_agree(
     let rows = behind(told, 4);
     let s = a.search;
     let edges = wide(s.path_edges);
-    if !columns_agree(rows, wide(field(told, 1)), row_scores, row_closings, row_edges) {
+    if !columns_agree(
+        rows,
+        wide(field(told, 1)),
+        row_scores,
+        row_closings,
+        row_edges,
+    ) {
         return false;
     }
     if !bases_agree(rows, wide(a.k) + edges, out_bases) {

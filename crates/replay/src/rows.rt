@@ -48,7 +48,12 @@ pub fn columns_agree(
         let start = part.start;
         let end = part.end;
         let score = score_at(scores, row);
-        if !numbers_agree(&rows[start..end], score, field(closings, row), field(edges, row)) {
+        if !numbers_agree(
+            &rows[start..end],
+            score,
+            field(closings, row),
+            field(edges, row),
+        ) {
             return false;
         }
         row += 1;
@@ -182,7 +187,11 @@ pub fn origins_agree(rows: &[u32], stride: usize, sequences: &[u32], places: &[u
             return false;
         }
         let next = from + stride;
-        if !row_origins_agree(&rows[start..end], &sequences[from..next], &places[from..next]) {
+        if !row_origins_agree(
+            &rows[start..end],
+            &sequences[from..next],
+            &places[from..next],
+        ) {
             return false;
         }
         from = next;

@@ -84,7 +84,7 @@ returns c =
       closed = c .before .before .before .before .before .before .lent14 .ensures;
       order = c .before .before .before .before .before .lent15 .ensures;
       marks = c .before .before .before .before .lent16 .ensures;
-      walks = c .before .before .before .lent17 .ensures
+      walks = c .before .before .before .lent17 .ensures;
     }
 
 pub lengths-lent-spec : {M : Type 1} → statement M

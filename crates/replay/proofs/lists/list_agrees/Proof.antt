@@ -1,5 +1,4 @@
 -- `lists::list_agrees` is safe: each array holds as much as is lent of it, and keeps its length. Assumes nothing.
-use native.Mathlib.Omega.{arith}
 use mathlib.Core.Path.{refl, sym}
 use Rattle.replay.proofs.lists.list_agrees.Statement.{statement}
 use Rattle.replay.proofs.lists.list_agrees.Tie as tie
@@ -92,7 +91,7 @@ make-list-requires c κs =
       closed = f .closed;
       order = f .order;
       marks = f .marks;
-      walks = f .walks
+      walks = f .walks;
     }
 
 list-answered-requires : tie.Need-list-answered-requires

@@ -1,5 +1,4 @@
 -- `lists::lists_agree` is safe and ends. The invariant: there are 20 slices at most. Assumes nothing.
-use native.Mathlib.Omega.{arith}
 use Prim.Native.Nat.{_≤_, _+_, _-_}
 use borrow.Author.Needs.{needs}
 use Rattle.replay.proofs.lists.lists_agree.Statement.{statement}

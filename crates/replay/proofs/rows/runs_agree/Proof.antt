@@ -1,5 +1,4 @@
 -- `rows::runs_agree` is safe and ends. The invariant: the origins passed lie within both slices. Assumes nothing.
-use native.Mathlib.Omega.{arith}
 use Prim.Native.Nat.{_≤_, _-_}
 use lib.ListN.{length}
 use borrow.Author.Tests.{not-false}

@@ -2,7 +2,6 @@
 use Rattle.replay.specs.Scores.{no-nan}
 use mathlib.Core.Bool.{false≢true}
 use borrow.Author.Tests.{eqb-true}
-use borrow.Author.Needs.{needs}
 use Rattle.replay.proofs.scores.score_is.Statement.{statement}
 use Rattle.replay.proofs.scores.score_is.Tie as tie
 
