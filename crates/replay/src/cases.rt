@@ -9,21 +9,9 @@ use crate::numbers::low_byte;
 use crate::numbers::unpack;
 use std::num::wrapping_add_u64;
 
-pub enum Verdict {
-    Passed,
-    Failed,
-}
-
 pub struct Total {
     pub passed: u64,
     pub failed: u64,
-}
-
-fn judged(agrees: bool) -> Verdict {
-    if agrees {
-        return Verdict::Passed;
-    }
-    Verdict::Failed
 }
 
 // Tells the number of a call that failed, counted from 1 over all files.
@@ -34,19 +22,17 @@ fn report(total: Total) {
     io::write_all(1, b"\n");
 }
 
-fn counted(total: Total, verdict: Verdict) -> Total {
-    match verdict {
-        Verdict::Passed => Total {
+fn counted(total: Total, agrees: bool) -> Total {
+    if agrees {
+        return Total {
             passed: wrapping_add_u64(total.passed, 1),
             failed: total.failed,
-        },
-        Verdict::Failed => {
-            report(total);
-            Total {
-                passed: total.passed,
-                failed: wrapping_add_u64(total.failed, 1),
-            }
-        }
+        };
+    }
+    report(total);
+    Total {
+        passed: total.passed,
+        failed: wrapping_add_u64(total.failed, 1),
     }
 }
 
@@ -60,14 +46,14 @@ fn replay_call<'a>(
     bases: &'a [u8],
     qualities: &[u8],
     log10: &[f64],
-) -> Verdict {
+) -> bool {
     let kind = field(call, 0);
     match kind {
-        1 => judged(graph_agrees(call, k, quality, reference, ends, bases, qualities)),
-        2 => judged(origin_agrees(call, k, reference, ends, bases)),
-        3 => judged(lengths_agree(call)),
-        4 => judged(list_agrees_over(call, k, quality, reference, ends, bases, qualities, log10)),
-        _ => Verdict::Failed,
+        1 => graph_agrees(call, k, quality, reference, ends, bases, qualities),
+        2 => origin_agrees(call, k, reference, ends, bases),
+        3 => lengths_agree(call),
+        4 => list_agrees_over(call, k, quality, reference, ends, bases, qualities, log10),
+        _ => false,
     }
 }
 
@@ -90,7 +76,7 @@ fn replay_calls<'a>(
         let call = list_at(case, at);
         let start = call.start;
         let end = call.end;
-        let verdict = replay_call(
+        let agrees = replay_call(
             &case[start..end],
             k,
             quality,
@@ -100,7 +86,7 @@ fn replay_calls<'a>(
             qualities,
             log10,
         );
-        sum = counted(sum, verdict);
+        sum = counted(sum, agrees);
         at = end;
     }
     sum
