@@ -20,6 +20,10 @@ pub record Left (xs : List ℕ) (n u v : ℕ) : Type 0 where
   pub used : (i : ℕ) → i < n → i < length xs → getD xs i 0 ≡ u
   pub rest : (i : ℕ) → n ≤ i → i < length xs → getD xs i 0 ≡ v
 
+-- Every element from the place n on holds v.
+pub record Untouched (xs : List ℕ) (n v : ℕ) : Type 0 where
+  pub rest : (i : ℕ) → n ≤ i → i < length xs → getD xs i 0 ≡ v
+
 -- A part from 0 to n is written by the code as `take (n - 0)`, and one from n on as `take (length xs - n) (drop n xs)`.
 all-behind : (xs : List ℕ) (n v : ℕ) → All (take (length xs - n) (drop n xs)) v → (i : ℕ) → n ≤ i → i < length xs → getD xs i 0 ≡ v
 all-behind xs n v h i b l =
@@ -42,3 +46,6 @@ written-is xs rows v s h =
 
 pub left-is : (xs : List ℕ) (n u v : ℕ) → All (take (n - 0) xs) u → All (take (length xs - n) (drop n xs)) v → Left xs n u v
 left-is xs n u v s h = record { used = all-first xs n u s; rest = all-behind xs n v h }
+
+pub untouched-is : (xs : List ℕ) (n v : ℕ) → All (take (length xs - n) (drop n xs)) v → Untouched xs n v
+untouched-is xs n v h = record { rest = all-behind xs n v h }

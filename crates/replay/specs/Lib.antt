@@ -1,2 +1,4 @@
 pub mod Agree
+pub mod Lengths
 pub mod Places
+pub mod Scores

@@ -1,10 +1,13 @@
 // Whether what a call left behind is what is told.
 ghost use mathlib.Core.Path.{_≡_};
 ghost use mathlib.Core.Bool.{true};
-ghost use Rattle.replay.specs.Agree.{All, Written, Left};
+ghost use Rattle.replay.specs.Agree.{All, Written, Left, Untouched};
 
 // What every element holds that is lent: a call that should not touch it leaves it so.
 pub const LENT: u32 = 2863311530;
+
+// The same of a byte.
+pub const LENT_BYTE: u8 = 170;
 
 pub fn same(a: &[u32], b: &[u32]) -> bool
     ensures { λ r. ⌜ (r ≡ true → now (a .entry) ≡ now (b .entry)) ⌝ }
@@ -49,6 +52,16 @@ pub fn written(slice: &[u32], rows: &[u32]) -> bool
     all_are(&slice[n..], LENT)
 }
 
+// Nothing touched from a place on.
+pub fn untouched(slice: &[u32], place: usize) -> bool
+    ensures { λ r. ⌜ (r ≡ true → Untouched (now (slice .entry)) place 2863311530) ⌝ }
+{
+    if place > slice.len() {
+        return false;
+    }
+    all_are(&slice[place..], LENT)
+}
+
 // One value over the part that was used, and behind it nothing touched.
 pub fn left(slice: &[u32], used: usize, value: u32) -> bool
     ensures { λ r. ⌜ (r ≡ true → Left (now (slice .entry)) used value 2863311530) ⌝ }
@@ -82,4 +95,41 @@ pub fn same_bytes(bytes: &[u8], told: &[u32]) -> bool
         place += 1;
     }
     true
+}
+
+pub fn all_bytes_are(bytes: &[u8], value: u8) -> bool
+    ensures { λ r. ⌜ (r ≡ true → All (now (bytes .entry)) value) ⌝ }
+{
+    let mut place: usize = 0;
+    while place < bytes.len() {
+        if bytes[place] != value {
+            return false;
+        }
+        place += 1;
+    }
+    true
+}
+
+// The bytes told, and behind them nothing touched.
+pub fn bytes_written(slice: &[u8], told: &[u32]) -> bool
+    ensures { λ r. ⌜ (r ≡ true → Written (now (slice .entry)) (now (told .entry)) 170) ⌝ }
+{
+    let n = told.len();
+    if n > slice.len() {
+        return false;
+    }
+    if !same_bytes(&slice[0..n], told) {
+        return false;
+    }
+    all_bytes_are(&slice[n..], LENT_BYTE)
+}
+
+// Nothing touched from a place on.
+pub fn bytes_untouched(slice: &[u8], place: usize) -> bool
+    ensures { λ r. ⌜ (r ≡ true → Untouched (now (slice .entry)) place 170) ⌝ }
+{
+    if place > slice.len() {
+        return false;
+    }
+    all_bytes_are(&slice[place..], LENT_BYTE)
 }

@@ -11,9 +11,10 @@ use caller::GraphAnswer;
 use limits::GraphMaxima;
 use limits::LengthsTold;
 use limits::SearchMaxima;
+use limits::Workspace;
 ghost use Prim.Native.Nat.{_≤_};
 
-fn graph_maxima(call: &[u32], place: usize) -> GraphMaxima
+pub fn graph_maxima(call: &[u32], place: usize) -> GraphMaxima
     requires { ⌜ place ≤ 16 ⌝ }
 {
     GraphMaxima {
@@ -85,7 +86,7 @@ pub fn origin_agrees<'a>(
 // ---- graph: maxima, which slice is short; refusal, numbers of edges and nodes, their rows
 
 // How much of a slice is lent: as much as told, and one element fewer where it is to be short.
-fn lent(told: usize, room: usize, short: bool) -> usize
+pub fn lent(told: usize, room: usize, short: bool) -> usize
     ensures { λ r. ⌜ r ≤ room ⌝ }
 {
     let n = least(told, room);
@@ -106,41 +107,37 @@ fn told_for(k: u32, maxima: GraphMaxima) -> LengthsTold {
 }
 
 // What the workspace holds where it was told: a call refused by 1 to 7 touches nothing, any other leaves it zero.
-fn value_left(refusal: u32) -> u32 {
+pub fn value_left(refusal: u32) -> u32 {
     if 0 < refusal && refusal < 8 {
         return LENT;
     }
     0
 }
 
-// Each slice of the workspace, and how much of it was told.
+// Each slice of the workspace.
 fn workspace_left(
     refusal: u32,
+    told: Workspace,
     w_vertices: &[u32],
-    vertices: usize,
     w_edges: &[u32],
-    edges: usize,
     w_index: &[u32],
-    index: usize,
     w_nodes: &[u32],
-    nodes: usize,
     w_open: &[u32],
-    open: usize,
 ) -> bool {
     let value = value_left(refusal);
-    if !left(w_vertices, vertices, value) {
+    if !left(w_vertices, told.vertices, value) {
         return false;
     }
-    if !left(w_edges, edges, value) {
+    if !left(w_edges, told.edges, value) {
         return false;
     }
-    if !left(w_index, index, value) {
+    if !left(w_index, told.index, value) {
         return false;
     }
-    if !left(w_nodes, nodes, value) {
+    if !left(w_nodes, told.nodes, value) {
         return false;
     }
-    left(w_open, open, value)
+    left(w_open, told.open, value)
 }
 
 fn graph_answered(call: &[u32], answer: GraphAnswer) -> bool {
@@ -163,15 +160,17 @@ fn rows_written(call: &[u32], edges: &[u32], nodes: &[u32]) -> bool {
     written(nodes, &rows[n..])
 }
 
-// The call itself, in slices that hold LENT throughout.
-fn graph_agrees_in(
-    call: &[u32],
+// The call itself, in as much of each slice as is told, and one element fewer of the one that is to be short.
+fn make_graph(
     k: u32,
     quality: u8,
     reference: &[u8],
     ends: &[u32],
     bases: &[u8],
     qualities: &[u8],
+    maxima: GraphMaxima,
+    told: LengthsTold,
+    short: u32,
     edges: &mut [u32],
     nodes: &mut [u32],
     w_vertices: &mut [u32],
@@ -179,10 +178,7 @@ fn graph_agrees_in(
     w_index: &mut [u32],
     w_nodes: &mut [u32],
     w_open: &mut [u32],
-) -> bool {
-    let maxima = graph_maxima(call, 1);
-    let short = field(call, 4);
-    let told = told_for(k, maxima);
+) -> GraphAnswer {
     let a = lent(told.edges, edges.len(), short == 1);
     let b = lent(told.nodes, nodes.len(), short == 2);
     let w = told.workspace;
@@ -191,7 +187,7 @@ fn graph_agrees_in(
     let e = least(w.index, w_index.len());
     let f = least(w.nodes, w_nodes.len());
     let g = least(w.open, w_open.len());
-    let answer = caller::graph(
+    caller::graph(
         k,
         quality,
         reference,
@@ -199,32 +195,13 @@ fn graph_agrees_in(
         bases,
         qualities,
         maxima,
-        &mut edges[0..a],
-        &mut nodes[0..b],
-        &mut w_vertices[0..c],
-        &mut w_edges[0..d],
-        &mut w_index[0..e],
-        &mut w_nodes[0..f],
-        &mut w_open[0..g],
-    );
-    if !graph_answered(call, answer) {
-        return false;
-    }
-    if !rows_written(call, edges, nodes) {
-        return false;
-    }
-    workspace_left(
-        answer.refusal,
-        w_vertices,
-        c,
-        w_edges,
-        d,
-        w_index,
-        e,
-        w_nodes,
-        f,
-        w_open,
-        g,
+        &mut edges[..a],
+        &mut nodes[..b],
+        &mut w_vertices[..c],
+        &mut w_edges[..d],
+        &mut w_index[..e],
+        &mut w_nodes[..f],
+        &mut w_open[..g],
     )
 }
 
@@ -238,6 +215,9 @@ pub fn graph_agrees(
     bases: &[u8],
     qualities: &[u8],
 ) -> bool {
+    let maxima = graph_maxima(call, 1);
+    let told = told_for(k, maxima);
+    let workspace = told.workspace;
     let mut edges = [LENT; 49152];
     let mut nodes = [LENT; 65536];
     let mut w_vertices = [LENT; 49152];
@@ -245,14 +225,16 @@ pub fn graph_agrees(
     let mut w_index = [LENT; 8192];
     let mut w_nodes = [LENT; 81925];
     let mut w_open = [LENT; 32768];
-    graph_agrees_in(
-        call,
+    let answer = make_graph(
         k,
         quality,
         reference,
         ends,
         bases,
         qualities,
+        maxima,
+        told,
+        field(call, 4),
         &mut edges,
         &mut nodes,
         &mut w_vertices,
@@ -260,5 +242,20 @@ pub fn graph_agrees(
         &mut w_index,
         &mut w_nodes,
         &mut w_open,
+    );
+    if !graph_answered(call, answer) {
+        return false;
+    }
+    if !rows_written(call, &edges, &nodes) {
+        return false;
+    }
+    workspace_left(
+        answer.refusal,
+        workspace,
+        &w_vertices,
+        &w_edges,
+        &w_index,
+        &w_nodes,
+        &w_open,
     )
 }

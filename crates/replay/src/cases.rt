@@ -2,63 +2,41 @@
 use crate::calls::graph_agrees;
 use crate::calls::lengths_agree;
 use crate::calls::origin_agrees;
+use crate::lists::list_agrees_over;
 use crate::numbers::field;
 use crate::numbers::list_at;
 use crate::numbers::low_byte;
 use crate::numbers::unpack;
 use std::num::wrapping_add_u64;
 
-pub enum Verdict {
-    Passed,
-    Failed,
-    Skipped,
-}
-
 pub struct Total {
     pub passed: u64,
     pub failed: u64,
-    pub skipped: u64,
-}
-
-fn judged(agrees: bool) -> Verdict {
-    if agrees {
-        return Verdict::Passed;
-    }
-    Verdict::Failed
 }
 
 // Tells the number of a call that failed, counted from 1 over all files.
 fn report(total: Total) {
-    let before = wrapping_add_u64(total.passed, wrapping_add_u64(total.failed, total.skipped));
+    let before = wrapping_add_u64(total.passed, total.failed);
     io::write_all(1, b"not as told: call ");
     io::print_decimal(1, wrapping_add_u64(before, 1));
     io::write_all(1, b"\n");
 }
 
-fn counted(total: Total, verdict: Verdict) -> Total {
-    match verdict {
-        Verdict::Passed => Total {
+fn counted(total: Total, agrees: bool) -> Total {
+    if agrees {
+        return Total {
             passed: wrapping_add_u64(total.passed, 1),
             failed: total.failed,
-            skipped: total.skipped,
-        },
-        Verdict::Failed => {
-            report(total);
-            Total {
-                passed: total.passed,
-                failed: wrapping_add_u64(total.failed, 1),
-                skipped: total.skipped,
-            }
-        }
-        Verdict::Skipped => Total {
-            passed: total.passed,
-            failed: total.failed,
-            skipped: wrapping_add_u64(total.skipped, 1),
-        },
+        };
+    }
+    report(total);
+    Total {
+        passed: total.passed,
+        failed: wrapping_add_u64(total.failed, 1),
     }
 }
 
-// A call's first number is its kind. A call for the list, 4, is skipped until there is one to make.
+// A call's first number is its kind.
 fn replay_call<'a>(
     call: &[u32],
     k: u32,
@@ -67,14 +45,15 @@ fn replay_call<'a>(
     ends: &[u32],
     bases: &'a [u8],
     qualities: &[u8],
-) -> Verdict {
+    log10: &[f64],
+) -> bool {
     let kind = field(call, 0);
     match kind {
-        1 => judged(graph_agrees(call, k, quality, reference, ends, bases, qualities)),
-        2 => judged(origin_agrees(call, k, reference, ends, bases)),
-        3 => judged(lengths_agree(call)),
-        4 => Verdict::Skipped,
-        _ => Verdict::Failed,
+        1 => graph_agrees(call, k, quality, reference, ends, bases, qualities),
+        2 => origin_agrees(call, k, reference, ends, bases),
+        3 => lengths_agree(call),
+        4 => list_agrees_over(call, k, quality, reference, ends, bases, qualities, log10),
+        _ => false,
     }
 }
 
@@ -88,6 +67,7 @@ fn replay_calls<'a>(
     ends: &[u32],
     bases: &'a [u8],
     qualities: &[u8],
+    log10: &[f64],
     total: Total,
 ) -> Total {
     let mut sum = total;
@@ -96,7 +76,7 @@ fn replay_calls<'a>(
         let call = list_at(case, at);
         let start = call.start;
         let end = call.end;
-        let verdict = replay_call(
+        let agrees = replay_call(
             &case[start..end],
             k,
             quality,
@@ -104,15 +84,22 @@ fn replay_calls<'a>(
             ends,
             bases,
             qualities,
+            log10,
         );
-        sum = counted(sum, verdict);
+        sum = counted(sum, agrees);
         at = end;
     }
     sum
 }
 
 // The lists from a place on: where reads end, bases, qualities; then the calls.
-fn replay_reads(case: &[u32], place: usize, reference: &[u8], total: Total) -> Total {
+fn replay_reads(
+    case: &[u32],
+    place: usize,
+    reference: &[u8],
+    log10: &[f64],
+    total: Total,
+) -> Total {
     let mut bases = [0u8; 40960];
     let mut qualities = [0u8; 40960];
     let part = list_at(case, place);
@@ -135,33 +122,33 @@ fn replay_reads(case: &[u32], place: usize, reference: &[u8], total: Total) -> T
         &case[a..b],
         &bases[0..base_count],
         &qualities[0..quality_count],
+        log10,
         total,
     )
 }
 
 // A case: k, the minimum quality, the reference as a list, the reads and the calls.
-fn replay_case(case: &[u32], total: Total) -> Total {
+fn replay_case(case: &[u32], log10: &[f64], total: Total) -> Total {
     let mut reference = [0u8; 2048];
     let part = list_at(case, 2);
     let a = part.start;
     let b = part.end;
     let length = unpack(&case[a..b], &mut reference);
-    replay_reads(case, b, &reference[0..length], total)
+    replay_reads(case, b, &reference[0..length], log10, total)
 }
 
 // All cases, the lists of the data.
-pub fn replay(numbers: &[u32]) -> Total {
+pub fn replay(numbers: &[u32], log10: &[f64]) -> Total {
     let mut total = Total {
         passed: 0,
         failed: 0,
-        skipped: 0,
     };
     let mut at: usize = 0;
     while at < numbers.len() {
         let case = list_at(numbers, at);
         let start = case.start;
         let end = case.end;
-        total = replay_case(&numbers[start..end], total);
+        total = replay_case(&numbers[start..end], log10, total);
         at = end;
     }
     total

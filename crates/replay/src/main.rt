@@ -2,17 +2,31 @@
 mod agree;
 mod calls;
 mod cases;
+mod column;
+mod lists;
 mod numbers;
+mod rows;
+mod scores;
 
 fn print_part(name: &[u8], n: u64) {
     io::write_all(1, name);
     io::print_decimal(1, n);
 }
 
+// The data tell the first places of log10; those behind them hold the largest entry that a column may have, and are not read by any call of the sample.
+fn replay_data(numbers: &[u32]) -> cases::Total {
+    let mut log10 = [16.0f64; 65536];
+    let part = numbers::list_at(numbers, 0);
+    let start = part.start;
+    let end = part.end;
+    column::read_entries(&numbers[start..end], &mut log10);
+    cases::replay(&numbers[end..], &log10)
+}
+
 fn replay_text(text: &[u8]) -> cases::Total {
     let mut numbers = [0u32; 131072];
     let count = numbers::read_numbers(text, &mut numbers);
-    cases::replay(&numbers[0..count])
+    replay_data(&numbers[0..count])
 }
 
 fn main() {
@@ -21,6 +35,5 @@ fn main() {
     let total = replay_text(&text[..n]);
     print_part(b"passed ", total.passed);
     print_part(b" failed ", total.failed);
-    print_part(b" skipped ", total.skipped);
     io::write_all(1, b"\n");
 }

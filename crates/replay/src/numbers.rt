@@ -1,4 +1,5 @@
 // The form of the data: numbers in text, a list as its length and then its elements.
+use paths_text::numbers::Decimal;
 ghost use Prim.Native.Nat.{_≤_, _<_};
 ghost use mathlib.Core.Path.{_≡_};
 ghost use lib.ListN.{length};
@@ -76,6 +77,18 @@ pub fn wide(number: u32) -> usize
 
 pub fn low_byte(number: u32) -> u8 {
     (number % 256) as u8
+}
+
+// The number with a sign that has these 32 bits.
+pub fn signed(bits: u32) -> i32 {
+    if bits < 2147483648 {
+        return bits as i32;
+    }
+    let below = Decimal {
+        negative: true,
+        size: 4294967295 - bits + 1,
+    };
+    paths_text::numbers::signed(below)
 }
 
 // The number at a place, and 0 beyond the end: an answer leaves out the zeros behind a refusal.

@@ -7,10 +7,10 @@ use Rattle.replay.proofs.cases.replay.Statement.{statement}
 use Rattle.replay.proofs.cases.replay.Tie as tie
 
 abbrev Inv-loop : tie.InvT-loop
-Inv-loop numbers total₀ at₀ total at = Unit {0}
+Inv-loop numbers log10 total₀ at₀ total at = Unit {0}
 
 abbrev μ-loop : tie.MeasureT-loop
-μ-loop numbers total₀ at₀ total at = length numbers - at
+μ-loop numbers log10 total₀ at₀ total at = length numbers - at
 
 loop-holds : tie.Need-loop-holds Inv-loop μ-loop
 loop-holds c = search needs

@@ -7,10 +7,10 @@ use Rattle.replay.proofs.cases.replay_calls.Statement.{statement}
 use Rattle.replay.proofs.cases.replay_calls.Tie as tie
 
 abbrev Inv-loop : tie.InvT-loop
-Inv-loop case place k quality reference ends bases qualities sum₀ at₀ sum at = Unit {0}
+Inv-loop case place k quality reference ends bases qualities log10 sum₀ at₀ sum at = Unit {0}
 
 abbrev μ-loop : tie.MeasureT-loop
-μ-loop case place k quality reference ends bases qualities sum₀ at₀ sum at = length case - at
+μ-loop case place k quality reference ends bases qualities log10 sum₀ at₀ sum at = length case - at
 
 loop-holds : tie.Need-loop-holds Inv-loop μ-loop
 loop-holds c = search needs

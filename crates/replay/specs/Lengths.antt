@@ -1,0 +1,25 @@
+-- How much of each slice is lent. Assumes nothing.
+use Prim.Native.Nat.{ℕ, _≤_}
+use Rattle.list_call.specs.declared.Lent.{Lent}
+
+-- Each length is at most that of its slice.
+pub record Fits (l : Lent) (of-row-scores of-row-closings of-row-edges of-bases of-sequences of-places of-vertices of-edges of-index of-nodes of-targets of-paths of-scores of-active of-queue of-closed of-order of-marks of-walks : ℕ) : Type 0 where
+  pub row-scores : l .«row_scores» ≤ of-row-scores
+  pub row-closings : l .«row_closings» ≤ of-row-closings
+  pub row-edges : l .«row_edges» ≤ of-row-edges
+  pub bases : l .bases ≤ of-bases
+  pub sequences : l .sequences ≤ of-sequences
+  pub places : l .places ≤ of-places
+  pub vertices : l .vertices ≤ of-vertices
+  pub edges : l .edges ≤ of-edges
+  pub index : l .index ≤ of-index
+  pub nodes : l .nodes ≤ of-nodes
+  pub targets : l .targets ≤ of-targets
+  pub paths : l .paths ≤ of-paths
+  pub scores : l .scores ≤ of-scores
+  pub active : l .active ≤ of-active
+  pub queue : l .queue ≤ of-queue
+  pub closed : l .closed ≤ of-closed
+  pub order : l .order ≤ of-order
+  pub marks : l .marks ≤ of-marks
+  pub walks : l .walks ≤ of-walks
