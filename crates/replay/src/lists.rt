@@ -93,7 +93,7 @@ fn lengths_told(a: Settings) -> Lent {
 
 // How much of each slice is lent: as much as told, and one element fewer of the one that is to be short, by its number in `Lent` from 1.
 fn lengths_lent(told: Lent, short: u32) -> Lent
-    ensures { λ r. ⌜ Fits r 128 128 128 147456 131072 131072 49152 49152 8192 81925 8192 33856 4232 270848 4096 128 8192 8192 131072 ⌝ }
+    ensures { λ r. ⌜ Fits r 128 128 128 147456 131072 131072 49152 49152 8192 81925 8192 38088 4232 270848 4096 128 8192 8192 131072 ⌝ }
 {
     Lent {
         rows: lent(told.rows, 128, short == 1),
@@ -105,7 +105,7 @@ fn lengths_lent(told: Lent, short: u32) -> Lent
         index: lent(told.index, 8192, short == 7),
         nodes: lent(told.nodes, 81925, short == 8),
         targets: lent(told.targets, 8192, short == 9),
-        paths: lent(told.paths, 33856, short == 10),
+        paths: lent(told.paths, 38088, short == 10),
         scores: lent(told.scores, 4232, short == 11),
         active: lent(told.active, 270848, short == 12),
         queue: lent(told.queue, 4096, short == 13),
@@ -349,7 +349,7 @@ fn list_agrees(
     let mut w_index = [LENT; 8192];
     let mut w_nodes = [LENT; 81925];
     let mut w_targets = [LENT; 8192];
-    let mut w_paths = [LENT; 33856];
+    let mut w_paths = [LENT; 38088];
     let mut w_scores = [1.5f64; 4232];
     let mut w_active = [LENT; 270848];
     let mut w_queue = [LENT; 4096];

@@ -30,9 +30,10 @@ impl Program {
             Self::Binary(binary) => {
                 let input = File::open(input).map_err(|e| e.to_string())?;
                 let done = Command::new(binary).current_dir(folder).stdin(input).stderr(Stdio::null()).output().map_err(|e| e.to_string())?;
-                match done.status.code() {
-                    Some(_) => Ok(done.stdout),
-                    None => Err(format!("ended by a signal: {}", done.status)),
+                if done.status.success() {
+                    Ok(done.stdout)
+                } else {
+                    Err(format!("ended with {}", done.status))
                 }
             }
         }
