@@ -99,15 +99,26 @@ mod listing {
     use crate::lent::Lent;
 
     /// The number slices of the workspace, in the call's order, the columns of numbers last; the scores stand apart.
-    pub const LIST_WORKSPACE: [&str; 14] =
-        ["vertices", "edges", "index", "nodes", "targets", "paths", "active", "queue", "closed", "order", "marks", "walks", "closings", "edge counts"];
+    pub const LIST_WORKSPACE: [&str; 14] = [
+        "vertices",
+        "edges",
+        "index",
+        "nodes",
+        "targets",
+        "paths",
+        "active",
+        "queue",
+        "closed",
+        "order",
+        "marks",
+        "walks",
+        "closings",
+        "edge counts",
+    ];
 
     /// The lengths told of those.
     pub fn list_workspace(w: &Workspace) -> [usize; 14] {
-        [
-            w.vertices, w.edges, w.index, w.nodes, w.targets, w.paths, w.active, w.queue, w.closed, w.order, w.marks, w.walks, w.columns,
-            w.columns,
-        ]
+        [w.vertices, w.edges, w.index, w.nodes, w.targets, w.paths, w.active, w.queue, w.closed, w.order, w.marks, w.walks, w.columns, w.columns]
     }
 
     /// The lengths told of the two slices of scores: those of all paths, and those of the rows.

@@ -1,7 +1,7 @@
 //! `bench`: times of the library and of the original, on the same input, one after the other in turn.
 //!
 //! `build` is the call for edges and trees at the greatest maxima against `finish`. With the call for the list, `whole` is that call against `finish`
-//! and the search, and `search` is what is left of each without its `build`.
+//! and the search, `search` is what is left of each without its `build`, and `fitted` is `whole` with maxima and a column just large enough.
 
 mod clock;
 mod inputs;
@@ -181,6 +181,8 @@ mod library {
         build: Times,
         #[cfg(feature = "list")]
         list: List,
+        #[cfg(feature = "list")]
+        fitted: List,
     }
 
     impl<'a> Ours<'a> {
@@ -191,7 +193,9 @@ mod library {
                 graph: GraphBuffers::told(&told),
                 build: Times::default(),
                 #[cfg(feature = "list")]
-                list: List::new(&told),
+                list: List::new(input, Maxima::GREATEST),
+                #[cfg(feature = "list")]
+                fitted: List::fitted(input)?,
             };
             // Both sides do the same work, and buffers are in memory before the first round.
             let answer = ours.graph.call(borrowed(&input.sample), GRAPH);
@@ -200,7 +204,7 @@ mod library {
                 return Err(format!("{}: the library answers {answer:?}", input.name));
             }
             #[cfg(feature = "list")]
-            ours.list.call(input)?;
+            ours.list.accepted(input)?;
             Ok(ours)
         }
 
@@ -211,6 +215,8 @@ mod library {
             self.build.add(start);
             #[cfg(feature = "list")]
             self.list.round(self.input);
+            #[cfg(feature = "list")]
+            self.fitted.round(self.input);
         }
 
         #[cfg(not(feature = "list"))]
@@ -223,6 +229,7 @@ mod library {
             let less = |whole: u64, build: u64| whole.saturating_sub(build).max(1);
             let ours = [less(self.list.whole.minimum(), self.build.minimum()), less(self.list.whole.median(), self.build.median())];
             line(name, "search", ours, [rust.search.minimum(), rust.search.median()]);
+            line(name, "fitted", [self.fitted.whole.minimum(), self.fitted.whole.median()], [whole.minimum(), whole.median()]);
         }
     }
 
@@ -233,33 +240,79 @@ mod library {
         }
     }
 
+    /// What a caller sets for the call for the list: maxima, and how long a column is lent.
+    #[cfg(feature = "list")]
+    #[derive(Clone, Copy)]
+    struct Maxima {
+        graph: GraphMaxima,
+        search: SearchMaxima,
+        column: usize,
+    }
+
+    #[cfg(feature = "list")]
+    impl Maxima {
+        const GREATEST: Self = Self { graph: GRAPH, search: SEARCH, column: 65536 };
+    }
+
     /// The call for the list.
     #[cfg(feature = "list")]
     struct List {
         buffers: punelavoh::buffers::ListBuffers,
+        maxima: Maxima,
         column: Vec<f64>,
         whole: Times,
     }
 
     #[cfg(feature = "list")]
     impl List {
-        fn new(told: &punelavoh::Lengths) -> Self {
-            Self { buffers: punelavoh::buffers::ListBuffers::told(told), column: model::input::log10_column(65536), whole: Times::default() }
+        fn new(input: &Input, maxima: Maxima) -> Self {
+            let told = punelavoh::lengths(input.sample.k, input.paths, maxima.graph, maxima.search);
+            let buffers = punelavoh::buffers::ListBuffers::told(&told);
+            Self { buffers, maxima, column: model::input::log10_column(maxima.column), whole: Times::default() }
         }
 
-        fn call(&mut self, input: &Input) -> Result<(), String> {
+        /// With the sizes that the input comes to; path edges, active trees and the column are doubled until the call is accepted.
+        fn fitted(input: &Input) -> Result<Self, String> {
+            let rows = Rust::new(input).rows();
+            let pushes = Self::new(input, Maxima::GREATEST).accepted(input)?.pushes;
+            let graph = GraphMaxima { vertices: rows.vertices as u32, edges: rows.edges.len() as u32, nodes: (rows.nodes.len() as u32).max(1) };
+            let mut maxima = Maxima { graph, search: SearchMaxima { path_edges: 64, active: 1, pushes: pushes.max(1) }, column: 64 };
+            loop {
+                let mut list = Self::new(input, maxima);
+                match list.call(input).refusal {
+                    0 => return Ok(list),
+                    10 => maxima.column *= 2,
+                    11 if maxima.search.path_edges < 4096 && list.with_more_trees(input) == 11 => maxima.search.path_edges *= 2,
+                    11 => maxima.search.active *= 2,
+                    n => return Err(format!("{}: refused {n} at fitted maxima", input.name)),
+                }
+            }
+        }
+
+        /// The refusal with as many active trees as can be: 11 is then for a path's edges.
+        fn with_more_trees(&self, input: &Input) -> u32 {
+            let search = SearchMaxima { active: 64, ..self.maxima.search };
+            Self::new(input, Maxima { search, ..self.maxima }).call(input).refusal
+        }
+
+        fn call(&mut self, input: &Input) -> punelavoh::ListAnswer {
             let (paths, threshold, recover) = (input.paths, input.threshold, input.recover);
-            let settings = punelavoh::ListSettings { paths, threshold, recover, graph: GRAPH, search: SEARCH, column: &self.column };
-            let answer = black_box(self.buffers.call(black_box(borrowed(&input.sample)), settings));
+            let Maxima { graph, search, .. } = self.maxima;
+            let settings = punelavoh::ListSettings { paths, threshold, recover, graph, search, column: &self.column };
+            black_box(self.buffers.call(black_box(borrowed(&input.sample)), settings))
+        }
+
+        fn accepted(&mut self, input: &Input) -> Result<punelavoh::ListAnswer, String> {
+            let answer = self.call(input);
             if answer.refusal != 0 {
                 return Err(format!("{}: the library answers {answer:?}", input.name));
             }
-            Ok(())
+            Ok(answer)
         }
 
         fn round(&mut self, input: &Input) {
             let start = now();
-            self.call(input).expect("accepted before");
+            self.call(input);
             self.whole.add(start);
         }
     }
