@@ -108,9 +108,6 @@ over-has d x [] o h = absurd h
 over-has d x (e ∷ es) o (inl h) = rw h at (o .0)
 over-has d x (e ∷ es) o (inr h) = over-has d x es (o .1) h
 
-not-lt-gt : (o : Ordering) → o ≡ Ordering·lt → o ≡ Ordering·gt → ⊥
-not-lt-gt o h k = let z : _≡_ {A = ℕ} 0 1 = cc in omega arith
-
 module _ (p q : Ends → Bool) (x : Edge) (px : p (x .ends) ≡ true) (qx : q (x .ends) ≡ false)
     (after : (d : Ends) → compareEnds (x .ends) d ≡ Ordering·lt → q d ≡ p d) (less : (d : Ends) → p d ≡ false → q d ≡ false) where
   abbrev on-p : Edge → Bool

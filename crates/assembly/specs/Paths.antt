@@ -128,18 +128,3 @@ module _ {k : ℕ} {text vs es path : List ℕ} {e : ℕ} (x : Spells k text vs 
 
   pub path-end : (out' : List ℕ) (i : ℕ) → Written (basesOf k text vs es (take e path)) out out' at i → k + e ≤ i → out' ≡ paste out at (basesOf k text vs es (take e path)) (k + e)
   path-end out' i w l = let z : i ≡ k + e = (let y = w .within in let u = bases-length x in omega arith) in rw z at (w .is)
-
--- what the tables of a graph give
-pub spells-of : {k : ℕ} {text vs : List ℕ} {n : ℕ} {es : List ℕ} {m : ℕ} {path : List ℕ} {e : ℕ} → Good k text vs n es m → 0 < k → 0 < n → length text < 2 ^ 32 → n * 12 ≤ length vs → m * 6 ≤ length es
-    → e ≤ length path → ((j : ℕ) → j < e → getD path j 0 < m) → Spells k text vs es path e
-spells-of g a b c d f h l =
-    record {
-      some = a;
-      small = c;
-      long = h;
-      first-room = omega arith;
-      first-fits = g .fits 0 b;
-      edge-room = λ j q. (let z = l j q in omega arith);
-      to-room = λ j q. (let z = g .to-in _ (l j q) in omega arith);
-      to-fits = λ j q. g .fits _ (g .to-in _ (l j q));
-    }

@@ -153,21 +153,6 @@ pub record Orders (vs es out : List ℕ) (m : ℕ) : Type 0 where
   pub room-o : m ≤ length out
   pub few-e : m ≤ 8192
 
-pub orders-of : {k : ℕ} {text vs : List ℕ} {n : ℕ} {es : List ℕ} {m : ℕ} {out : List ℕ} → Good k text vs n es m → n * 12 ≤ length vs → m * 6 ≤ length es → m ≤ length out → m ≤ 8192 → Orders vs es out m
-orders-of {vs = vs} {n = n} {es = es} {m = m} g a b c d =
-    record {
-      distinct = good-distinct g;
-      from-in = λ i h. (let z = g .from-in i h in omega arith);
-      slots = λ v h. go v (decLt v n);
-      room-e = b;
-      room-o = c;
-      few-e = d;
-    }
-  where
-    go : (v : ℕ) → Dec (v < n) → Slots vs es m v
-    go v (yes l) = slots-of g l
-    go v (no l) = record { full = λ c h z. absurd (let w = g .zeros v c (omega arith) (omega arith) in omega arith); all = λ i h e. absurd (let w = g .from-in i h in omega arith) }
-
 -- what the pass leaves: the first numbers name the definition's edges in order; the rest of `out` is as it was
 pub record Ordered (es out out' : List ℕ) (m : ℕ) : Type 0 where
   pub is : map (edgeAt es) (take m out') ≡ edgesOf es m

@@ -145,16 +145,6 @@ module _ {k : ℕ} {text vs : List ℕ} {n : ℕ} {es : List ℕ} {m : ℕ} (g :
       (λ j k' e. (let y = in-slot v b j k' e in omega arith))
 
   -- ---- predecessors
-  pub sole-some : (v : ℕ) → v < n → field vs 12 v 9 ≡ 1 → sole (entering (edgesOf es m) v) ≡ some (edgeAt es (field vs 12 v 10 - 1))
-  unfolding entering edgesOf
-  sole-some v h e =
-      let w = g .into v h (omega arith) in
-      let s = field vs 12 v 10 - 1 in
-      sole-is (λ d. eqb (d .to) v) (edgeAt es) m s good-distinct (sym (g .ins v h) ∙ e) (let y = w .0 in let x = w .1 in omega arith) (eq-eqb (field es 6 s 1) v (w .2))
-
-  pub sole-no : (v : ℕ) → v < n → field vs 12 v 9 ≢ 1 → sole (entering (edgesOf es m) v) ≡ none
-  unfolding entering edgesOf
-  sole-no v h e = sole-none (λ d. eqb (d .to) v) (edgeAt es) m good-distinct (λ z. e (g .ins v h ∙ z))
 
   pub in-degree : (v : ℕ) → v < n → length (entering (edgesOf es m) v) ≡ field vs 12 v 9
   unfolding entering edgesOf

@@ -58,9 +58,6 @@ pub record Wrote (we wx wo wo' es es' ns ns' : List ℕ) (b : tables.Built) (n :
   pub edges : es' ≡ writtenAt 0 (flat edgeRow (edgesOf we (b .edges + 1))) es
   pub nodes : Written n wx wo wo' ns ns'
 
-pub link-asks : {wv we wx wo es ns : List ℕ} {b : tables.Built} {n cap : ℕ} → Writes wv we wx wo es ns b n cap → (b .sink * 12 + 12 ≤ length wv) × (b .edges < 8192)
-link-asks w = (w .sink-in, (let a = w .few in omega arith))
-
 pub edges-ask : {wv we wx wo es ns : List ℕ} {b : tables.Built} {n cap : ℕ} (vs : List ℕ) → Writes wv we wx wo es ns b n cap → vs ≡ linked wv (b .sink) (b .edges)
     → Orders vs we es (b .edges + 1) × ((b .edges + 1) * 6 ≤ length es)
 edges-ask vs w e = rw e (w .orders, w .long)

@@ -82,10 +82,6 @@ module _ {S : Type 0} (𝓢 : Scoring S) (f : SearchInput) (asked limit : ℕ) (
   unfolding pushMade
   push-broken k = refl
 
-pub push-none : {S : Type 0} (𝓢 : Scoring S) (limit : ℕ) (s : State S) → pushAll 𝓢 limit [] s ≡ more s
-unfolding pushAll
-push-none 𝓢 limit s = refl
-
 -- ---- a taken path
 module _ {S : Type 0} (𝓢 : Scoring S) (f : SearchInput) (p : Path S) (s : State S) where
   pub take-drops : 5 < p .since → takePath 𝓢 f p s ≡ made s []

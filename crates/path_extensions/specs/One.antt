@@ -168,12 +168,6 @@ module _ (g : Setting) (es x only to t : List ℕ) (sc : List Float) (ac : List 
         let b = P .actives in
         omega arith
 
-    pub taken-fits : taken .path * g .active ≤ length ac
-    taken-fits =
-        let a = before (taken .path) (H .known) in
-        let b = place-fits in
-        omega arith
-
     asks : Walkable (g .cap) (g .nodes) x ac at end slot
     asks =
         let a = row-step (g .active) n (n + 1) (omega arith) in

@@ -88,34 +88,6 @@ module _ (sc sd : List Float) (h : List ℕ) (n : ℕ) (e : (i : ℕ) → i < n 
   unfolding waiting
   waiting-scores = sorted-agree (leads sd) (leads sc) (nth h) n (λ i j p q. leads-same sd sc (nth h i) (nth h j) (e i p) (e j q))
 
-  pub heaped-scores : length sc ≤ length sd → ScoreHeap sc h n → ScoreHeap sd h n
-  heaped-scores l k =
-      record {
-        room = k .room;
-        known = λ i p. record { there = omega (arith, k .known i p .there); number = rw (e i p) (k .known i p .number) };
-        order = λ j p q. leads-same sd sc (nth h j) (nth h (above j)) (e j q) (e (above j) (omega arith)) ∙ k .order j p q;
-      }
-
-module _ (sc : List Float) (h : List ℕ) (n r : ℕ) (x : Float) (l : (i : ℕ) → i < n → nth h i < r) where
-  set-agrees : (i : ℕ) → i < n → getD (set sc r x) (nth h i) nan ≡ getD sc (nth h i) nan
-  set-agrees i p = getD-set-other sc r (nth h i) x nan (omega (arith, l i p))
-
-  pub waiting-set : waiting (set sc r x) h n ≡ waiting sc h n
-  waiting-set = waiting-scores sc (set sc r x) h n set-agrees
-
-  pub heaped-set : ScoreHeap sc h n → ScoreHeap (set sc r x) h n
-  heaped-set k = heaped-scores sc (set sc r x) h n set-agrees (omega (arith, length-set sc r x)) k
-
-  -- the score of the new path r is set, and it may be pushed
-  pub pushable-set : ScoreHeap sc h n → n < length h → r < length sc → isNan x ≡ false → Pushable (set sc r x) h n r
-  pushable-set k f q m =
-      record {
-        heap = heaped-set k;
-        free = f;
-        known = record { there = omega (arith, length-set sc r x); number = rw (getD-set-same sc r x nan q) m };
-        later = l;
-      }
-
 -- ---- the definition's insertion is insertion by the order, where the path is later than all
 ahead-leads : (sc : List Float) (r q : ℕ) → Known sc r → Known sc q → q < r → leads sc q r ≡ aheadOf sc q r
 ahead-leads sc r q k p l = go (Bool-cases (lt (getD sc q nan) (getD sc r nan))) (Bool-cases (lt (getD sc r nan) (getD sc q nan)))

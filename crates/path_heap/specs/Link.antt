@@ -32,7 +32,3 @@ module _ (column sc : List Float) (view : ℕ → Path Float) where
   pushed-view h n r h′ p k s =
       ap (λ (l : List ℕ). map view l) (p .is)
       ∙ insert-map (aheadOf sc) (ahead (columnScoring column)) view r (all-mono (λ q. ahead-view r q k) (waiting-all Seen sc h n s))
-
-  pub popped-view : (h : List ℕ) (n r : ℕ) (h′ : List ℕ) → Popped sc h n r h′
-      → waitingPaths view sc h n ≡ view r ∷ waitingPaths view sc h′ (n - 1)
-  popped-view h n r h′ p = ap (λ (l : List ℕ). map view l) (p .is)

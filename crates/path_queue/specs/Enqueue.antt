@@ -509,21 +509,12 @@ module _ {A : Around} {es only to t : List ℕ} {sc : List Float} {shut order ma
   nothing-waits = R .holds .waiting ∙ ap (λ q. map (pathOf (A .f) es only to (A .bs) t sc) q) (none-waiting R sc)
 
   module _ (column : List Float) where
-    pub advance-ended : s .pivotal ≡ [] → advance (columnScoring column) (A .f) s (s .waiting) (s .pivotal) ≡ atEnd
-    unfolding advance
-    advance-ended e =
-        ap (λ (w : List (Path Float)). advance (columnScoring column) (A .f) s w (s .pivotal)) nothing-waits
-        ∙ ap (λ (l : List Ends). advance (columnScoring column) (A .f) s [] l) e
-
     advance-next : (n : NextEdge es s)
         → advance (columnScoring column) (A .f) s (s .waiting) (s .pivotal) ≡ recover (columnScoring column) (A .f) (nameOf es (n .edge)) (withPivotal s (n .rest))
     unfolding advance
     advance-next n =
         ap (λ (w : List (Path Float)). advance (columnScoring column) (A .f) s w (s .pivotal)) nothing-waits
         ∙ ap (λ (l : List Ends). advance (columnScoring column) (A .f) s [] l) (n .is)
-
-    pub advance-broken : (k : ℕ) → Broken A es s column k → advance (columnScoring column) (A .f) s (s .waiting) (s .pivotal) ≡ broken k
-    advance-broken k B = advance-next (B .next) ∙ B .gives
 
     pub advance-made : (t′ : List ℕ) (sc′ : List Float) (p′ : Progress) (M : Remade A es only to shut order marks g p s column t′ sc′ p′)
         → advance (columnScoring column) (A .f) s (s .waiting) (s .pivotal)

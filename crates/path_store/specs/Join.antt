@@ -175,7 +175,3 @@ module _ (only to t : List ℕ) (sc : List Float) (n r v : ℕ) (T : Table only 
               let w = joined-visited (hasTree f) (f .source) j in
               let d : sinceOf (putCells t r (joinedRow (pathAt t sc r) v)) r ≡ 0 = put-at t r (joinedRow (pathAt t sc r) v) room 6 (omega arith) in
               rw (h, e, g, lt-ltb (length bs) (f .active) (omega arith), joinTree) (sym (rw (a, w, d)))
-
-          -- and the record tells the number of trees
-          pub join-trees : length (bs ++ b ∷ []) ≡ treesOf (putCells t r (joinedRow (pathAt t sc r) v)) r
-          join-trees = omega (arith, length-append bs (b ∷ []), put-trees t r (joinedRow (pathAt t sc r) v) room)

@@ -54,16 +54,6 @@ baseOf to last e = getD last (getD to e 0) 0
 -- ---- over the definition
 
 module _ (f : SearchInput) (only to : List ℕ) (ends : ℕ → Ends) (A : Agrees f only to ends) where
-  -- the bases behind the first kmer
-  pub bases-same : (g : Graph) (last : List ℕ) → ((v : ℕ) → getD last v 0 ≡ lastBase (g .kmers) v) → (es : List ℕ)
-      → pathBases g (map ends es) ≡ getD (g .kmers) 0 [] ++ map (baseOf to last) es
-  unfolding pathBases
-  bases-same g last h es = ap (λ (x : List ℕ). getD (g .kmers) 0 [] ++ x) (go es)
-    where
-      go : (es : List ℕ) → map (λ (e : Ends). lastBase (g .kmers) (e .to)) (map ends es) ≡ map (baseOf to last) es
-      go [] = refl
-      go (e ∷ es) = rw (A .target e, ← h (getD to e 0)) (ap (λ (x : List ℕ). baseOf to last e ∷ x) (go es))
-
   -- the origins, by what a table of records tells of each edge
   pub origins-same : (es₀ : List Edge) (tell : ℕ → Origin) (part : Origin → ℕ) → ((e : ℕ) → e < length to → originAt es₀ (ends e) ≡ tell e) → (es : List ℕ)
       → All (λ e. e < length to) es → map part (map (originAt es₀) (map ends es)) ≡ map (λ e. part (tell e)) es

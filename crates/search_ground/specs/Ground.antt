@@ -46,13 +46,6 @@ use Rattle.search_state.specs.Ground.{Ground, nameOf}
 use Rattle.search_ground.specs.Tables.{Tables, Tabled, Sole}
 use Rattle.search_ground.specs.Exact.{built-exact}
 
--- ---- a fork of the ground
-
-pub fork-of : {f : SearchInput} {g : Setting} {vs es x only to : List ℕ} → Ground f g vs es x only to → (v : ℕ) → v < length only → Fork vs es (g .edges) v
-fork-of {vs = vs} k v h =
-    let r : v * 12 + 12 ≤ length vs = (let a = k .vertices in omega arith) in
-    record { slots = k .linked .slots v r; distinct = k .linked .distinct; room-v = r; room-e = k .linked .room; few = (let a = k .linked .few in omega arith) }
-
 -- ---- what the rules give
 
 -- rules 1 to 4
@@ -146,17 +139,6 @@ pub record Lies (vs es only : List ℕ) (n m : ℕ) : Type 0 where
   pub places : n < length only
   pub room : length only * 12 ≤ length vs
   pub few : length only ≤ 4096
-
--- so it is where the tables have the lengths of the maxima, and `only` has a place for each vertex of the maximum
-pub lies-of : (i : Input) {vs₂ es₂ : List ℕ} {n m sink : ℕ} → settingsFit (i .asked) (i .graphMaxima) (i .searchMaxima) ≡ true
-    → BuiltAt (i .sample) (i .graphMaxima .vertices) (i .graphMaxima .edges) vs₂ es₂ n m sink → length vs₂ ≡ i .graphMaxima .vertices * 12 → length es₂ ≡ i .graphMaxima .edges * 6
-    → {vs : List ℕ} → vs ≡ linked vs₂ sink m → {only : List ℕ} → length only ≡ i .graphMaxima .vertices → Lies vs (take ((m + 1) * 6) es₂) only n m
-lies-of i {vs₂ = vs₂} {es₂ = es₂} {m = m} {sink = sink} fit at lv le {vs = vs} link {only = only} lo =
-    let a = at .vertices-fit in
-    let b = at .edges-fit in
-    let c = settled i fit .vertices in
-    let d : length vs ≡ length vs₂ = rw link (length-linked vs₂ sink m) in
-    record { rows = length-take-le ((m + 1) * 6) es₂ (omega arith); places = omega arith; room = omega arith; few = omega arith }
 
 module _ (i : Input) {vs₂ es : List ℕ} {n m sink : ℕ} (rules : firstBroken (sampleRules (i .sample)) ≡ 0)
     (fit : settingsFit (i .asked) (i .graphMaxima) (i .searchMaxima) ≡ true)
@@ -337,17 +319,3 @@ module _ (i : Input) {vs₂ es : List ℕ} {n m sink : ℕ} (rules : firstBroken
           pushes-fit = u .pushes;
           asked-fits = u .asked;
         }
-
--- ---- from the tables as the build leaves them: the symbolic edge is linked, and the edge table is cut off behind it
-
-module _ (i : Input) {vs₂ es₂ : List ℕ} {n m sink : ℕ} (rules : firstBroken (sampleRules (i .sample)) ≡ 0)
-    (fit : settingsFit (i .asked) (i .graphMaxima) (i .searchMaxima) ≡ true)
-    (at : BuiltAt (i .sample) (i .graphMaxima .vertices) (i .graphMaxima .edges) vs₂ es₂ n m sink)
-    (lv : length vs₂ ≡ i .graphMaxima .vertices * 12) (le : length es₂ ≡ i .graphMaxima .edges * 6)
-    {vs : List ℕ} (link : vs ≡ linked vs₂ sink m) {only to : List ℕ} (lo : length only ≡ i .graphMaxima .vertices) where
-  pub tables-for : length to ≡ m + 1 → Tables vs (take ((m + 1) * 6) es₂) (m + 1) only to
-  tables-for h = ground-tables i rules fit (built-exact es₂ m at) link (lies-of i fit at lv le link lo) to h
-
-  pub ground-for : {x op : List ℕ} {cap c : ℕ} → Evident (i .sample) vs₂ x op cap c → Tabled vs (take ((m + 1) * 6) es₂) (m + 1) sink only to → (least : ℕ) → Least (i .threshold) least
-      → Ground (searchInput i (builtFor (i .sample))) (settingFor i n m sink c cap least) vs (take ((m + 1) * 6) es₂) x only to
-  ground-for there t least l = ground-of i rules fit (built-exact es₂ m at) link (lies-of i fit at lv le link lo) there t least l

@@ -251,27 +251,3 @@ module _ (cap : ℕ) (e : Ends) (h : TS.ThreadingState) (x op : List ℕ) (o q :
 abbrev pub number : Joined → ℕ
 number (Holds k) = 0
 number (Refused k) = k
-
-pub steps-number : (F : Walk → Walk) (more : Walk → ℕ) (cap v : ℕ) (h : TS.ThreadingState) (x y op op' : List ℕ) (r : Joined) → Steps F more cap v h x y op op' r
-    → (w : Walk) (b : ℕ) (root : ℕ → ℕ) → HeldWalk w cap (h .nodes) (h .groups) b root x op → root v ≡ h .root → number r ≡ cond (ltb cap (many (F w))) 9 0
-steps-number F more cap v h x y op op' r s w b root k a = go r (s .is w b root k a)
-  where
-    go : (r : Joined) → SteppedTo F cap v (b + more w) root w y op' r → number r ≡ cond (ltb cap (many (F w))) 9 0
-    go (Holds j) t =
-        let q = held-room (t (keepRoot root v (j .root)) (keep-at root v (j .root)) (λ u n. keep-off root v (j .root) u n)) in
-        rw (le-ltb cap (many (F w)) q)
-    go (Refused m) t = rw (lt-ltb cap (many (F w)) (t .1)) (t .0)
-
--- the two halves are the definition's step over an edge of the graph with the edges es
-pub steps-pass : (es : List Edge) (e : Ends) (o q : Bool) → opens es (e .from) ≡ o → eqb (length (leaving es (e .from))) 1 ≡ q
-    → (more : Walk → ℕ) (cap v : ℕ) (h : TS.ThreadingState) (x y op op' : List ℕ) (r : Joined)
-    → Steps (λ w. takeUnless q e (openWhere o (e .from) w)) more cap v h x y op op' r → Steps (pass es e) more cap v h x y op op' r
-steps-pass es e o q yo yq more cap v h x y op op' r s =
-    record { is = λ w b root k a. go w (b + more w) root r (s .is w b root k a); beyond = s .beyond; beyond-open = s .beyond-open }
-  where
-    same : (w : Walk) → pass es e w ≡ takeUnless q e (openWhere o (e .from) w)
-    same w = rw (← yo, ← yq) (pass-is es e w)
-
-    go : (w : Walk) (b : ℕ) (root : ℕ → ℕ) (r : Joined) → SteppedTo (λ w. takeUnless q e (openWhere o (e .from) w)) cap v b root w y op' r → SteppedTo (pass es e) cap v b root w y op' r
-    go w b root (Holds k) t = λ root' c off. rw (same w) (t root' c off)
-    go w b root (Refused m) t = rw (same w) t

@@ -422,7 +422,3 @@ module _ (cap n : ℕ) (x : List ℕ) (l : ℕ) (p : Readable cap n x l) where
               rw hn
               (left-falls (2 ^ 32) x at (cols x .next at) ne (every-to x (λ i. i < 2 ^ 32) u32 at) (every-from x (λ i. i < 2 ^ 32) u32 (cols x .next at)) (every-to x (λ i. i < 2 ^ 32) u32 (cols x .next at))
               (leads-later n x at (k .rest) (k .leads) ne))
-
--- a link of the held trees may be read
-pub held-readable : {w : Walk} {cap n g b : ℕ} {root : ℕ → ℕ} {x op : List ℕ} (l : ℕ) (d : Branches) → HeldWalk w cap n g b root x op → Leads n x l d → Readable cap n x l
-held-readable l d h k = record { branches = d; leads = k; room = h .room; wide = h .wide }

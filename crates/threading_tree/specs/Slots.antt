@@ -48,11 +48,6 @@ module _ (x : List ℕ) (cap : ℕ) (h : (i : ℕ) → i < told cap → getD x i
 abbrev pub Beyond : ℕ → List ℕ → List ℕ → Type 0
 Beyond k x y = (i : ℕ) → k ≤ i → getD y i 0 ≡ getD x i 0
 
-pub beyond-drop : (k : ℕ) (x y : List ℕ) → length y ≡ length x → Beyond k x y → drop k y ≡ drop k x
-beyond-drop k x y e h =
-    ext-getD 0 (drop k y) (drop k x) (length-drop k y ∙ ap (λ (n : ℕ). n - k) e ∙ sym (length-drop k x))
-    (λ i q. getD-drop k y i 0 ∙ h (k + i) (omega arith) ∙ sym (getD-drop k x i 0))
-
 pub agree-trans : {f g h : Fields} {l : ℕ} → Agree f g l → Agree g h l → Agree f h l
 agree-trans a b = record { from = b .from ∙ a .from; to = b .to ∙ a .to; count = b .count ∙ a .count; kid = b .kid ∙ a .kid; next = b .next ∙ a .next }
 
@@ -165,11 +160,6 @@ module _ (x : List ℕ) (s : ℕ) where
   unfolding linked
   linked-later zero k z = absurd (z refl)
   linked-later (suc u) k z = refl
-
-  pub linked-length : (u k : ℕ) → length (linked x s u k) ≡ length x
-  unfolding linked
-  linked-length zero k = length-set x (s * 5 + 3) k
-  linked-length (suc u) k = length-set x (suc u * 5 + 4) k
 
   pub linked-beyond : (cap u k : ℕ) → s ≤ cap → u ≤ cap → Beyond (told cap) x (linked x s u k)
   unfolding linked
