@@ -1,24 +1,24 @@
 -- Kmers as parts of the text: their last base, equality byte by byte, and the number of one; a vertex more. Assumes nothing.
 use mathlib.Core.Path.{_≡_, refl, sym, ap, _∙_}
-use mathlib.Core.Logic.{_≢_, _⊎_, inl, inr}
-use mathlib.Core.Bool.{Bool, true, false, not, _&&_, _||_, cond}
+use mathlib.Core.Logic.{_≢_}
+use mathlib.Core.Bool.{Bool, true, false, cond}
 use mathlib.Core.List.{List, [], _∷_, _++_}
-use Prim.Native.Nat.{ℕ, zero, suc, _+_, _-_, _*_, _<_, _≤_, min}
+use Prim.Native.Nat.{ℕ, zero, suc, _+_, _-_, _*_, _<_, _≤_}
 use native.Mathlib.Omega.{arith}
 use native.Mathlib.Numerals.{add-one}
 use native.Mathlib.Decide.{ℕ-discrete}
-use lib.Dec.{eqb, leb}
-use lib.ListN.{length, getD, set, take, drop, length-set, length-take, length-drop, length-append, List·getD-append}
-use lib.Seq.{getD-take, getD-drop, drop-cons, length-take-le, getD-append-add}
-use borrow.Author.Tests.{eqb-true, eqb-false, eq-eqb, ne-eqb}
+use lib.Dec.{eqb}
+use lib.ListN.{length, getD, take, drop, length-set, length-drop, length-append, List·getD-append}
+use lib.Seq.{getD-take, getD-drop, length-take-le, getD-append-add}
+use borrow.Author.Tests.{eq-eqb, ne-eqb}
 use Rattle.laws.specs.Lists.{lastOr, position}
 use Rattle.laws.specs.Numbers.{eqList, eqList-true}
 use Rattle.definition.specs.Limits.{isBase}
 use Rattle.definition.specs.Threading.{Edge, Ends, lastBase, numberOf, withKmer}
-use Rattle.laws.specs.Rows.{rows, rows-more, rows-same, length-rows, getD-rows}
-use Rattle.laws.specs.Records.{field, putField, field-same, field-other, row-other, place-in}
-use Rattle.assembly.specs.Table.{count, count-0, count-more, count-same}
-use Rattle.assembly.specs.Store.{edgeAt, edgesOf, kmersOf, kmerAt, lastOf, code, code-lt, Good}
+use Rattle.laws.specs.Rows.{rows, rows-more, length-rows, getD-rows}
+use Rattle.laws.specs.Records.{field, putField, field-same, field-other, row-other}
+use Rattle.assembly.specs.Table.{count, count-0, count-more}
+use Rattle.assembly.specs.Store.{edgeAt, kmersOf, kmerAt, lastOf, code, code-lt, Good}
 
 -- the k bytes at a place of the text
 abbrev pub part : ℕ → List ℕ → ℕ → List ℕ

@@ -1,18 +1,18 @@
 -- What the code does to the tables, as lists, and what that is to the graph. Assumes nothing.
-use mathlib.Core.Path.{_≡_, refl, sym, ap, _∙_}
+use mathlib.Core.Path.{_≡_, refl, sym, _∙_}
 use mathlib.Core.Logic.{_≢_, _⊎_, inl, inr}
-use mathlib.Core.Bool.{Bool, true, false, not, _&&_, _||_, cond}
-use mathlib.Core.List.{List, [], _∷_, _++_}
-use Prim.Native.Nat.{ℕ, zero, suc, _+_, _-_, _*_, _<_, _≤_}
+use mathlib.Core.Bool.{Bool, true, false, not, _||_, cond}
+use mathlib.Core.List.{List, [], _∷_}
+use Prim.Native.Nat.{ℕ, _+_, _-_, _*_, _<_, _≤_}
 use native.Mathlib.Omega.{arith}
 use native.Mathlib.Decide.{ℕ-discrete}
 use lib.Dec.{eqb}
-use lib.ListN.{length, getD, set, take, drop, length-set}
-use borrow.Author.Tests.{eqb-true, eqb-false, eq-eqb, ne-eqb}
+use lib.ListN.{length, getD, length-set}
+use borrow.Author.Tests.{eq-eqb, ne-eqb}
 use Rattle.definition.specs.Threading.{Ends, Origin, Edge, merge, put, oneStep}
 use Rattle.laws.specs.Rows.{rows-same}
 use Rattle.laws.specs.Records.{field, putField, field-same, field-other, row-other, place-in, putFrom, length-putFrom, putFrom-row, putFrom-at}
-use Rattle.assembly.specs.Table.{table, Distinct, table-gain, table-more, count, count-same, count-more}
+use Rattle.assembly.specs.Table.{Distinct, table-gain, table-more, count, count-same, count-more}
 use Rattle.assembly.specs.Store.{edgeAt, edgesOf, kmersOf, kmerAt, lastOf, code, code-lt, Good, good-distinct}
 
 -- ---- an edge gains 1, and the mark where there is one

@@ -1,21 +1,21 @@
 -- Out-edges in rising target: the definition's list is in order, so the least that passes comes first and the rest follows. Assumes nothing.
 use mathlib.Core.Path.{_≡_, refl, sym, ap, _∙_}
 use mathlib.Core.Logic.{_≢_, _⊎_, inl, inr}
-use mathlib.Core.Bool.{Bool, true, false, not, _&&_, cond}
+use mathlib.Core.Bool.{Bool, true, false, _&&_}
 use mathlib.Core.List.{List, [], _∷_}
 use Prim.Native.Nat.{ℕ, zero, suc, _+_, _-_, _*_, _<_, _≤_, Ordering, Ordering·lt, Ordering·eq, Ordering·gt}
 use native.Mathlib.Omega.{arith}
-use native.Mathlib.Decide.{ℕ-discrete, decLt}
+use native.Mathlib.Decide.{ℕ-discrete}
 use lib.Dec.{eqb, leb}
-use lib.ListN.{length, getD}
-use borrow.Author.Tests.{eqb-true, eqb-false, eq-eqb, ne-eqb, le-leb, lt-leb, leb-true, leb-false}
+use lib.ListN.{length}
+use borrow.Author.Tests.{eqb-true, eq-eqb, le-leb, leb-true}
 use Rattle.laws.specs.Lists.{keep}
-use Rattle.definition.specs.Threading.{Ends, Edge, compareEnds, merge, put, leaving}
+use Rattle.definition.specs.Threading.{Ends, Edge, compareEnds, put, leaving}
 use Rattle.laws.specs.Records.{field}
-use Rattle.assembly.specs.Ends.{ends-eq, ends-self, ends-flip, ends-flip', ends-trans, Below, is-below, is-above}
+use Rattle.assembly.specs.Ends.{ends-eq, ends-flip, ends-flip', ends-trans, Below, is-below, is-above}
 use Rattle.assembly.specs.Puts.{put-nil, put-lt, put-eq, put-gt, merge-ends}
 use Rattle.assembly.specs.Table.{table, table-0, table-suc, Distinct}
-use Rattle.assembly.specs.Store.{edgeAt, edgesOf, code, code-lt, lastOf, Good, good-distinct}
+use Rattle.assembly.specs.Store.{edgeAt, edgesOf, code, code-lt, lastOf, Good}
 
 -- ---- a list in order
 abbrev Over : Ends → List Edge → Type 0

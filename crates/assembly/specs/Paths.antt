@@ -4,15 +4,15 @@ use mathlib.Core.List.{List, [], _∷_, _++_, map}
 use Prim.Native.Nat.{ℕ, zero, suc, _+_, _-_, _*_, _^_, _<_, _≤_}
 use native.Mathlib.Omega.{arith}
 use native.Mathlib.Numerals.{add-one}
-use lib.ListN.{length, getD, set, take, drop, length-append, length-map, length-set, List·getD-append, List·getD-map}
-use lib.Seq.{getD-append-add, getD-take, length-take-le, paste, paste-zero, paste-suc, length-paste}
+use lib.ListN.{length, getD, set, take, length-append, length-map, length-set, List·getD-append}
+use lib.Seq.{getD-append-add, getD-take, length-take-le, paste, paste-zero, paste-suc}
 use Rattle.laws.specs.Lists.{lastOr}
-use Rattle.laws.specs.ListLaws.{All, nil, cons}
+use Rattle.laws.specs.ListLaws.{All, cons}
 use Rattle.laws.specs.Rows.{getD-rows}
 use Rattle.laws.specs.Records.{field}
-use Rattle.definition.specs.Threading.{Ends, Graph, lastBase}
+use Rattle.definition.specs.Threading.{Ends, lastBase}
 use Rattle.definition.specs.Listing.{pathBases}
-use Rattle.assembly.specs.Store.{edgeAt, kmerAt, kmersOf, graphOf, Good}
+use Rattle.assembly.specs.Store.{edgeAt, kmerAt, kmersOf, graphOf}
 use Rattle.assembly.specs.Kmers.{part, length-part, getD-part, last-part, last-of}
 
 -- the last base of the vertex that edge i enters

@@ -1,11 +1,11 @@
 -- Laws of `put`, the definition's count of an edge: it merges into an edge of the same ends, counts of different ends commute, and what a search or
 -- a filter by ends finds after it. None of these asks that the list is in order. Assumes nothing.
 use mathlib.Core.Path.{_≡_, refl, sym, ap, _∙_}
-use mathlib.Core.Logic.{_≢_, _⊎_, inl, inr}
-use mathlib.Core.Bool.{Bool, true, false, _&&_, _||_, cond}
-use mathlib.Core.Option.{Option, none, some}
+use mathlib.Core.Logic.{_≢_}
+use mathlib.Core.Bool.{Bool, true, false, _||_, cond}
+use mathlib.Core.Option.{none, some}
 use mathlib.Core.List.{List, [], _∷_}
-use Prim.Native.Nat.{ℕ, zero, suc, _+_, _<_, _≤_, compare, Ordering, Ordering·lt, Ordering·eq, Ordering·gt}
+use Prim.Native.Nat.{ℕ, suc, Ordering, Ordering·lt, Ordering·eq, Ordering·gt}
 use native.Mathlib.Omega.{arith}
 use native.Mathlib.Nat.{add-assoc}
 use lib.ListN.{length}

@@ -1,23 +1,23 @@
 -- All edges in the definition's order, by the numbers of birth: vertex by vertex, each time the next out-edge. Assumes nothing.
 use mathlib.Core.Path.{_≡_, refl, sym, ap, _∙_}
-use mathlib.Core.Logic.{_≢_, _⊎_, inl, inr}
-use mathlib.Core.Bool.{Bool, true, false, not, _&&_, _||_, cond}
+use mathlib.Core.Logic.{_⊎_, inl, inr}
+use mathlib.Core.Bool.{Bool, true, false, _&&_, _||_}
 use mathlib.Core.List.{List, [], _∷_, _++_, map, append-assoc, append-nil, map-append}
-use Prim.Native.Nat.{ℕ, zero, suc, _+_, _-_, _*_, _<_, _≤_, Ordering, Ordering·lt, Ordering·eq, Ordering·gt}
+use Prim.Native.Nat.{ℕ, _+_, _-_, _*_, _<_, _≤_, Ordering·gt}
 use native.Mathlib.Omega.{arith}
 use native.Mathlib.Numerals.{add-one}
 use native.Mathlib.Decide.{ℕ-discrete, decLt}
 use lib.Dec.{eqb, leb, ltb}
-use lib.ListN.{length, getD, set, take, drop, length-append, length-map, length-set}
-use lib.Seq.{take-suc-set, drop-set-lt, length-take-le}
-use borrow.Author.Tests.{eqb-true, eq-eqb, ne-eqb, le-leb, leb-true, lt-ltb, le-ltb, ltb-true}
+use lib.ListN.{length, set, take, drop, length-set}
+use lib.Seq.{take-suc-set, drop-set-lt}
+use borrow.Author.Tests.{eqb-true, eq-eqb, le-leb, leb-true, lt-ltb, le-ltb, ltb-true}
 use Rattle.laws.specs.Lists.{keep}
 use Rattle.definition.specs.Threading.{Ends, Edge, compareEnds}
 use Rattle.laws.specs.Records.{field}
 use Rattle.assembly.specs.Ends.{Below, is-below, is-above}
 use Rattle.assembly.specs.Table.{table, Distinct, length-table}
-use Rattle.assembly.specs.Store.{edgeAt, edgesOf, Good, good-distinct}
-use Rattle.assembly.specs.Outs.{Each, each-table, keep-least, keep-none, rising-table, has-table, Nexts, Slots, Names, slots-of}
+use Rattle.assembly.specs.Store.{edgeAt, edgesOf}
+use Rattle.assembly.specs.Outs.{Each, each-table, keep-least, keep-none, rising-table, has-table, Nexts, Slots, Names}
 
 -- ends at or after (v, t)
 abbrev from-there : ℕ → ℕ → Ends → Bool

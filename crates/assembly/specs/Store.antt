@@ -4,24 +4,20 @@
 --   edges in the order of birth, 6 numbers each: from, to, support, mark (0 or not), origin's sequence, origin's place.
 -- The text is the reference with the read bases after it. Assumes nothing.
 use mathlib.Core.Path.{_≡_, refl, sym, ap, _∙_}
-use mathlib.Core.Logic.{_≢_, _⊎_, inl, inr}
-use mathlib.Core.Bool.{Bool, true, false, not, _&&_, _||_, cond}
-use mathlib.Core.Option.{Option, none, some}
-use mathlib.Core.List.{List, [], _∷_, _++_}
-use Prim.Native.Nat.{ℕ, zero, suc, _+_, _-_, _*_, _/_, _%_, _<_, _≤_}
+use mathlib.Core.Bool.{Bool, true, false, not, _&&_, _||_}
+use mathlib.Core.Option.{none, some}
+use mathlib.Core.List.{List, [], _∷_}
+use Prim.Native.Nat.{ℕ, _+_, _-_, _/_, _%_, _<_, _≤_}
 use native.Mathlib.Omega.{arith}
-use lib.Dec.{eqb, leb}
-use native.Mathlib.Numerals.{add-one}
-use native.Mathlib.Decide.{ℕ-discrete}
-use lib.ListN.{length, getD, set, take, drop, length-take, length-drop, length-append, List·getD-append}
-use lib.Seq.{getD-take, getD-drop, getD-at}
-use borrow.Author.Tests.{eqb-true, eqb-false, eq-eqb, ne-eqb}
-use Rattle.laws.specs.Lists.{keep, find, lastOr, sole}
+use lib.Dec.{eqb}
+use lib.ListN.{length, getD, take, drop}
+use borrow.Author.Tests.{eqb-true, eq-eqb}
+use Rattle.laws.specs.Lists.{find}
 use Rattle.definition.specs.Limits.{isBase}
-use Rattle.definition.specs.Threading.{Ends, Origin, Edge, Graph, leaving, entering, lastBase, follow}
+use Rattle.definition.specs.Threading.{Ends, Edge, Graph, leaving, entering, lastBase, follow}
 use Rattle.laws.specs.Rows.{rows}
 use Rattle.laws.specs.Records.{field}
-use Rattle.assembly.specs.Table.{table, Distinct, find-keep, find-table-none, find-table-some, count, sole-is, sole-none, length-table, length-keep}
+use Rattle.assembly.specs.Table.{table, Distinct, find-keep, find-table-none, find-table-some, count, length-keep}
 
 unfoldable pub code : ℕ → ℕ
 code b = b / 2 % 8

@@ -1,21 +1,21 @@
 -- The symbolic edge: one row more, from the sink to the number after the last kmer's. The rows before it still hold the graph, and once the sink's
 -- free slot 4 names it the slots hold every out-edge. Assumes nothing.
 use mathlib.Core.Path.{_≡_, refl, sym, ap, _∙_}
-use mathlib.Core.Logic.{_≢_, inl, inr}
-use mathlib.Core.Bool.{Bool, true, false, not, _||_}
-use mathlib.Core.List.{List, [], _∷_}
-use Prim.Native.Nat.{ℕ, zero, suc, _+_, _-_, _*_, _/_, _%_, _<_, _≤_}
+use mathlib.Core.Logic.{_≢_}
+use mathlib.Core.Bool.{Bool, true, false, _||_}
+use mathlib.Core.List.{List}
+use Prim.Native.Nat.{ℕ, _+_, _-_, _*_, _<_, _≤_}
 use native.Mathlib.Omega.{arith}
 use native.Mathlib.Decide.{ℕ-discrete, decLt}
 use lib.Dec.{eqb}
-use lib.ListN.{length, getD, length-set}
+use lib.ListN.{length, length-set}
 use borrow.Author.Tests.{eqb-true}
 use Rattle.laws.specs.Records.{field, putField, field-same, field-other, row-other}
 use Rattle.definition.specs.Limits.{isBase}
-use Rattle.definition.specs.Threading.{Ends, Origin, Edge, put}
-use Rattle.assembly.specs.Table.{table, table-same, Distinct}
-use Rattle.assembly.specs.Store.{edgeAt, edgesOf, lastOf, code, code-lt, Good, good-distinct}
-use Rattle.assembly.specs.Moves.{addedE, addedE-row, addedE-at, addedE-old, added-put, length-addedE, good-front}
+use Rattle.definition.specs.Threading.{Ends, Edge, put}
+use Rattle.assembly.specs.Table.{table-same, Distinct}
+use Rattle.assembly.specs.Store.{edgeAt, edgesOf, lastOf, code, Good, good-distinct}
+use Rattle.assembly.specs.Moves.{addedE, addedE-row, addedE-at, addedE-old, added-put, good-front}
 use Rattle.assembly.specs.Outs.{Slots, slots-of}
 use Rattle.assembly.specs.Sorted.{Orders}
 

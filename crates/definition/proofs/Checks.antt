@@ -3,7 +3,7 @@ use mathlib.Core.Path.{_≡_, refl}
 use Prim.Native.Nat.{ℕ, zero, suc, _≤_}
 use native.Mathlib.Omega.{arith}
 use mathlib.Core.Bool.{Bool, true, false, _&&_}
-use mathlib.Core.List.{List, [], _∷_}
+use mathlib.Core.List.{List, _∷_}
 use lib.Dec.{leb, eqb}
 use lib.ListN.{length}
 use lib.Ieee.{Float}
@@ -12,7 +12,7 @@ use Rattle.laws.specs.Numbers.{within}
 use Rattle.laws.specs.ListLaws.{and-left, and-right}
 use Rattle.definition.specs.Refusal.{Rule, firstBroken}
 use Rattle.definition.specs.Score.{columnScoring}
-use Rattle.definition.specs.Limits.{Sample, Input, kFits, referenceFits, referenceBases, endsFit, readsFit, graphMaximaFit, searchMaximaFit, settingsFit, columnFits, originRules, sampleRules, listRules}
+use Rattle.definition.specs.Limits.{Input, kFits, referenceFits, referenceBases, endsFit, readsFit, graphMaximaFit, searchMaximaFit, settingsFit, columnFits, originRules, sampleRules, listRules}
 use Rattle.definition.specs.Building.{built}
 use Rattle.definition.specs.Listing.{Row, listed, afterBuild, afterChecks, answer}
 use Rattle.definition.proofs.Found.{Listing, listing, refusal-listed}

@@ -5,9 +5,8 @@ use native.Mathlib.Omega.{arith}
 use mathlib.Core.Bool.{Bool, true, false, _&&_}
 use mathlib.Core.List.{List, [], _∷_}
 use mathlib.Core.Option.{none, some}
-use lib.Dec.{T, leb, ltb}
+use lib.Dec.{T, ltb}
 use lib.ListN.{length, getD}
-use lib.IntN.{pos}
 use lib.Ieee.{Float, nan, inf, fin, binary64, sub, lt, le, eq, isNan}
 use lib.Ieee.Scale.{finite}
 use borrow.Author.Tests.{ltb-true, not-true}

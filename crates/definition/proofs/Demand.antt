@@ -1,22 +1,22 @@
 -- Demand 3, over the definition: what holds of every accepted list, and of two lists of which one was asked for fewer paths.
-use mathlib.Core.Path.{_≡_, refl, sym, ap, subst, _∙_}
-use Prim.Native.Nat.{ℕ, suc, _≤_, _<_}
+use mathlib.Core.Path.{_≡_, sym, subst, _∙_}
+use Prim.Native.Nat.{ℕ, suc, _≤_}
 use native.Mathlib.Omega.{arith}
-use mathlib.Core.Bool.{true, false}
+use mathlib.Core.Bool.{false}
 use mathlib.Core.List.{List, [], _∷_}
 use lib.Dec.{leb}
 use lib.ListN.{take, drop, getD}
 use lib.Ieee.{Float, isNan}
 use Rattle.laws.specs.Lists.{keep}
 use Rattle.laws.specs.ListLaws.{clash, All, all-mono}
-use Rattle.definition.specs.Refusal.{Result, ok, firstBroken}
+use Rattle.definition.specs.Refusal.{ok, firstBroken}
 use Rattle.definition.specs.Score.{columnScoring}
 use Rattle.definition.specs.Limits.{Sample, Input, originRules, listRules}
 use Rattle.definition.specs.Threading.{Origin}
 use Rattle.definition.specs.Listing.{Row, listed, afterChecks, answer}
 use Rattle.definition.specs.Origins.{bytesAt}
-use Rattle.definition.specs.Calls.{OriginOutcome, originOf, afterOriginChecks, originCall}
-use Rattle.definition.specs.Promises.{SpelledAt, Spelled, Outscores, NoneOutscores, AllElseEqual}
+use Rattle.definition.specs.Calls.{originOf, afterOriginChecks, originCall}
+use Rattle.definition.specs.Promises.{Spelled, NoneOutscores, AllElseEqual}
 use Rattle.definition.proofs.Column.{column-ordered, column-keeps}
 use Rattle.definition.proofs.Found.{refusal-listed, Falling, fine-listing, falling-listing, withAsked, fewer-listing}
 use Rattle.definition.proofs.Origins.{SpelledRow, spelled-listing}

@@ -1,8 +1,8 @@
 -- The inputs of "Potatoes on paper" and the way a table asks about them: Cases has the twelve, Borders what lies beside them.
-use Prim.Native.Nat.{ℕ, zero, suc, _+_, _*_}
-use mathlib.Core.Bool.{Bool, true, false, cond}
+use Prim.Native.Nat.{ℕ, zero, suc, _+_}
+use mathlib.Core.Bool.{true, false, cond}
 use mathlib.Core.List.{List, [], _∷_, _++_, map}
-use lib.IntN.{ℤ, pos, negsuc}
+use lib.IntN.{pos, negsuc}
 use lib.Dec.{eqb}
 use lib.ListN.{length, take, drop, replicate}
 use lib.Ieee.{Float, fin, add, sub, lt, eq, le, binary64, toBits}
@@ -11,13 +11,13 @@ use Rattle.definition.specs.Refusal.{Result, ok, refused, openRefusal}
 use Rattle.definition.specs.Score.{openScore}
 use Rattle.definition.specs.Limits.{Sample, GraphMaxima, SearchMaxima, Input, floatZero, basesStride, toldBases, toldOrigins, openLimits}
 use Rattle.definition.specs.Stretch.{openStretch}
-use Rattle.definition.specs.Threading.{Ends, eqEnds, Origin, Edge, openThreading}
+use Rattle.definition.specs.Threading.{Ends, eqEnds, Edge, openThreading}
 use Rattle.definition.specs.Evidence.{Tree, nodes, openEvidence}
 use Rattle.definition.specs.Search.{openSearch}
 use Rattle.definition.specs.Building.{Built, built, openBuilding}
 use Rattle.definition.specs.Listing.{openListing}
 use Rattle.definition.specs.Origins.{openOrigins}
-use Rattle.definition.specs.Calls.{flat, nodeRow, PathRow, ListSlices, ListAnswer, ListOutcome, listCall, OriginOutcome, originCall, openCalls}
+use Rattle.definition.specs.Calls.{flat, nodeRow, PathRow, ListSlices, ListOutcome, listCall, OriginOutcome, originCall, openCalls}
 
 -- ---- bases
 

@@ -15,7 +15,7 @@ use Rattle.laws.specs.ListLaws.{part-part, clash, and-left, and-right, All, nil
 use Rattle.definition.specs.Refusal.{ok}
 use Rattle.definition.specs.Score.{Scoring}
 use Rattle.definition.specs.Limits.{Sample, GraphMaxima, Input, isBase}
-use Rattle.definition.specs.Stretch.{Stretch, usable, kmers, stretches}
+use Rattle.definition.specs.Stretch.{Stretch, usable, kmers}
 use Rattle.definition.specs.Threading.{Ends, eqEnds, Origin, Edge, Graph, lastBase, merge, threaded, sinkOf, symbolicOf, withSymbolic}
 use Rattle.definition.specs.Evidence.{nodes, evidence}
 use Rattle.definition.specs.Search.{Closed, endFrom}

@@ -1,6 +1,6 @@
 -- The graph with its trees, or refusal 8 or 9: "vertex or edge above its maximum", "tree node above its maximum".
-use Prim.Native.Nat.{ℕ, suc}
-use mathlib.Core.Bool.{Bool, true, false, _&&_}
+use Prim.Native.Nat.{suc}
+use mathlib.Core.Bool.{true, false, _&&_}
 use mathlib.Core.List.{List}
 use lib.Dec.{leb}
 use lib.ListN.{length}

@@ -1,10 +1,10 @@
 -- "Evidence": the junction trees. A tree stands at a vertex; its nodes below the root stand for edges taken, with a count.
 -- Each read stretch longer than k is walked again over the graph as it was before the symbolic edge, and the walk counts in the trees that it has opened.
-use Prim.Native.Nat.{ℕ, zero, suc, _+_, compare, Ordering, Ordering·lt, Ordering·eq, Ordering·gt}
-use mathlib.Core.Bool.{Bool, true, false, not, _&&_, _||_, cond}
+use Prim.Native.Nat.{ℕ, suc, _+_, compare, Ordering·lt, Ordering·eq, Ordering·gt}
+use mathlib.Core.Bool.{Bool, true, false, _||_, cond}
 use mathlib.Core.List.{List, [], _∷_, _++_, map}
 use mathlib.Core.Option.{Option, none, some}
-use lib.Dec.{leb, ltb, eqb}
+use lib.Dec.{ltb, eqb}
 use lib.ListN.{length, take, drop}
 use Rattle.laws.specs.Lists.{any, isEmpty}
 use Rattle.definition.specs.Limits.{Sample}

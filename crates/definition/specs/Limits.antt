@@ -1,5 +1,5 @@
 -- "Limits and calls": what is handed in, its limits, and refusals 1 to 7 in the table's order. Each call checks only what it is given.
-use Prim.Native.Nat.{ℕ, zero, suc, _+_, _*_}
+use Prim.Native.Nat.{ℕ, _+_, _*_}
 use mathlib.Core.Bool.{Bool, true, false, _&&_, _||_}
 use mathlib.Core.List.{List, [], _∷_, _++_}
 use lib.IntN.{ℤ, pos}

@@ -1,8 +1,8 @@
 -- The list: the rows of the closed paths, in the list's order, and the answer of a run whose checks have passed.
 use Prim.Native.Nat.{ℕ, zero, suc}
 use mathlib.Core.Bool.{Bool, true, false, not, _&&_, _||_}
-use mathlib.Core.List.{List, [], _∷_, _++_, map}
-use mathlib.Core.Option.{Option, none, some}
+use mathlib.Core.List.{List, [], _++_, map}
+use mathlib.Core.Option.{none, some}
 use lib.Dec.{eqb}
 use lib.ListN.{length, getD}
 use lib.Ieee.{Float}
@@ -11,7 +11,7 @@ use Rattle.laws.specs.Numbers.{compareList, isGt}
 use Rattle.laws.specs.Insertion.{insert, sorted}
 use Rattle.definition.specs.Refusal.{Result, ok, refused, firstBroken}
 use Rattle.definition.specs.Score.{Scoring, columnScoring}
-use Rattle.definition.specs.Limits.{Sample, Input, listRules}
+use Rattle.definition.specs.Limits.{Input, listRules}
 use Rattle.definition.specs.Threading.{Ends, eqEnds, Origin, Edge, Graph, lastBase, sinkOf, symbolicOf}
 use Rattle.definition.specs.Search.{SearchInput, Closed, State, Turn, more, ended, failed, full, search}
 use Rattle.definition.specs.Building.{Built, built}

@@ -1,6 +1,6 @@
 -- The bytes at an origin, or refusal 13: "origin naming no sequence, or whose k+1 bytes do not fit it".
 use Prim.Native.Nat.{ℕ, zero, suc, _+_, _-_}
-use mathlib.Core.Bool.{Bool, true, false}
+use mathlib.Core.Bool.{true, false}
 use mathlib.Core.List.{List, [], _∷_}
 use mathlib.Core.Option.{Option, none, some}
 use lib.Dec.{leb}

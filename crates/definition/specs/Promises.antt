@@ -12,7 +12,7 @@ use Rattle.definition.specs.Limits.{Sample, Input, isBase}
 use Rattle.definition.specs.Threading.{Origin}
 use Rattle.definition.specs.Listing.{Row}
 use Rattle.definition.specs.Origins.{readAt}
-use Rattle.definition.specs.Calls.{OriginOutcome, originCall}
+use Rattle.definition.specs.Calls.{originCall}
 
 -- ---- where an edge's bases come from
 

@@ -1,5 +1,5 @@
 -- A value, or a refusal with its number in the table "What the calls return instead".
-use Prim.Native.Nat.{ℕ, zero, suc}
+use Prim.Native.Nat.{ℕ}
 use mathlib.Core.Bool.{Bool, true, false}
 use mathlib.Core.List.{List, [], _∷_}
 

@@ -1,9 +1,9 @@
 -- "Search": the best paths, over any kind of score (Score). Names of the Rust, junction_kbest.rs, stand in brackets.
-use Prim.Native.Nat.{ℕ, zero, suc, _+_, max, compare, Ordering, Ordering·lt, Ordering·eq, Ordering·gt}
+use Prim.Native.Nat.{ℕ, zero, suc, _+_, max, compare}
 use mathlib.Core.Bool.{Bool, true, false, not, _&&_, _||_, cond}
 use mathlib.Core.List.{List, [], _∷_, _++_, map}
 use mathlib.Core.Option.{Option, none, some}
-use lib.IntN.{ℤ, pos, negsuc}
+use lib.IntN.{ℤ}
 use lib.Dec.{leb, ltb, eqb}
 use lib.ListN.{length, take}
 use Rattle.laws.specs.Lists.{keep, any, findLast, dropFirst, position, tally, total, sole, isEmpty, isSome}

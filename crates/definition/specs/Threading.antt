@@ -1,10 +1,10 @@
 -- "Threading", second half: the graph. Vertices are kmers, numbered from 0 by birth; edges stand in rising order of their ends, each pair of ends
 -- once. "The reference is threaded first, then reads in order"; the symbolic vertex and edge come last.
 use Prim.Native.Nat.{ℕ, zero, suc, _+_, _-_, compare, Ordering, Ordering·lt, Ordering·eq, Ordering·gt}
-use mathlib.Core.Bool.{Bool, true, false, not, _&&_, _||_, cond}
+use mathlib.Core.Bool.{Bool, true, false, _&&_, _||_}
 use mathlib.Core.List.{List, [], _∷_, _++_}
 use mathlib.Core.Option.{Option, none, some}
-use lib.Dec.{leb, eqb}
+use lib.Dec.{eqb}
 use lib.ListN.{length, getD}
 use Rattle.laws.specs.Lists.{keep, find, position, lastOr, sole}
 use Rattle.laws.specs.Numbers.{then, eqList}

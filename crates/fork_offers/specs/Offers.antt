@@ -1,6 +1,6 @@
 -- What a fork offers a path (Rust: applicable_next_edges).
 use mathlib.Core.Path.{_≡_, refl, sym, ap, subst, _∙_}
-use Prim.Native.Nat.{ℕ, zero, suc, _+_, _*_, _^_, _<_, _≤_}
+use Prim.Native.Nat.{ℕ, _+_, _*_, _^_, _<_, _≤_}
 use mathlib.Core.Bool.{true, false}
 use mathlib.Core.List.{List, [], _∷_, _++_, map, append-assoc}
 use native.Mathlib.Omega.{arith}

@@ -1,9 +1,8 @@
 -- At the sink: whether the active trees let a path close.
 use mathlib.Core.Path.{_≡_, refl, sym, ap, subst, _∙_}
-use Prim.Native.Nat.{ℕ, zero, suc, _+_, _<_, _≤_}
+use Prim.Native.Nat.{ℕ, _+_, _<_, _≤_}
 use mathlib.Core.Bool.{Bool, true, false}
 use mathlib.Core.List.{List, [], _∷_}
-use native.Mathlib.Omega.{arith}
 use lib.Dec.{leb}
 use lib.ListN.{getD}
 use borrow.Author.Tests.{le-leb, lt-leb}

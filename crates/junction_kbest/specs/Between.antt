@@ -1,33 +1,27 @@
 -- Between turns: the stores hold the definition's state, and there is room for whatever a turn makes.
-use mathlib.Core.Path.{_≡_, refl, sym, ap, subst, _∙_}
-use mathlib.Core.Bool.{Bool, true, false, cond}
-use mathlib.Core.List.{List, [], _∷_, map}
-use Prim.Native.Nat.{ℕ, zero, suc, _+_, _-_, _*_, _<_, _≤_}
+use mathlib.Core.Path.{_≡_}
+use mathlib.Core.Bool.{true}
+use mathlib.Core.List.{List}
+use Prim.Native.Nat.{ℕ, _+_, _-_, _*_, _<_, _≤_}
 use native.Mathlib.Nat.{mul-le-mul-right}
 use native.Mathlib.Omega.{arith}
-use lib.Dec.{eqb, ltb}
 use lib.ListN.{length}
 use lib.Ieee.{Float}
-use borrow.Author.Tests.{ltb-true, ltb-false}
 use Rattle.definition.specs.Limits.{columnFits}
 use Rattle.definition.specs.Score.{columnScoring}
-use Rattle.definition.specs.Threading.{Ends}
 use Rattle.definition.specs.Evidence.{Branches}
-use Rattle.definition.specs.Search.{SearchInput, Path, State, Made, broken, made, Turn, more, ended, failed, full, takePath, pushMade, pushAll, turn}
+use Rattle.definition.specs.Search.{SearchInput, State, Turn, more, ended, turn}
 use Rattle.definition.proofs.Column.{NotNan, column-keeps}
 use Rattle.definition.proofs.Walks.{GoodState}
 use Rattle.definition.proofs.Turns.{turn-more}
-use Rattle.laws.specs.Heaps.{nth}
-use Rattle.path_heap.specs.Heap.{waiting, all-waiting}
+use Rattle.path_heap.specs.Heap.{waiting}
 use Rattle.search_state.specs.declared.Setting.{Setting}
 use Rattle.search_state.specs.declared.Progress.{Progress}
-use Rattle.search_state.specs.declared.Step.{Step}
-use Rattle.search_state.specs.declared.Step.the-variants.{On, Refused}
-use Rattle.search_state.specs.Ground.{Ground, nameOf}
-use Rattle.search_state.specs.State.{pathOf, Idle, Holds, Apart, Made as Counted, Room, upFrom}
-use Rattle.path_queue.specs.Scene.{Scene, Stands, pathIn}
-use Rattle.junction_kbest.specs.Turn.{mostWaiting, withWaiting, Stopped, fails, fills, turn-over, turn-takes, push-made, push-broken}
-use Rattle.junction_kbest.specs.Counts.{waiting-many, closed-many, most-waiting}
+use Rattle.search_state.specs.declared.Step.the-variants.{Refused}
+use Rattle.search_state.specs.Ground.{Ground}
+use Rattle.search_state.specs.State.{Holds, Made as Counted, Room}
+use Rattle.junction_kbest.specs.Turn.{Stopped}
+use Rattle.junction_kbest.specs.Counts.{closed-many}
 use Rattle.junction_kbest.specs.Extend.{Roomy}
 use Rattle.junction_kbest.specs.declared.Turned.{Turned}
 use Rattle.junction_kbest.specs.declared.Turned.the-variants as turned

@@ -1,10 +1,10 @@
 -- A taken path is extended over the stores: the tree at the end of its chain joins, it may close, and all its extensions are made.
 use mathlib.Core.Path.{_≡_, refl, sym, ap, subst, _∙_}
-use mathlib.Core.Logic.{_⊎_, inl, inr, _≢_}
+use mathlib.Core.Logic.{_⊎_, inl, inr}
 use mathlib.Core.Bool.{Bool, true, false, _&&_, not}
 use mathlib.Core.List.{List, [], _∷_, _++_, map}
 use mathlib.Core.Option.{none, some}
-use Prim.Native.Nat.{ℕ, zero, suc, _+_, _-_, _*_, _<_, _≤_}
+use Prim.Native.Nat.{ℕ, _+_, _-_, _*_, _<_, _≤_}
 use native.Mathlib.Nat.{mul-le-mul-right}
 use native.Mathlib.Omega.{arith}
 use lib.Dec.{ltb, eqb}
@@ -18,19 +18,18 @@ use Rattle.definition.specs.Threading.{Ends, leaving}
 use Rattle.definition.specs.Evidence.{Branches, hasBranch, treeAt}
 use Rattle.definition.specs.Search.{SearchInput, Path, State, Made, broken, made, joinTree, closeAt, extensions, extendAt}
 use Rattle.path_store.specs.declared.growth.Taken.{Taken}
-use Rattle.path_store.specs.Cells.{parentOf, sinceOf}
+use Rattle.path_store.specs.Cells.{sinceOf}
 use Rattle.path_store.specs.Grow.{Following}
 use Rattle.search_state.specs.declared.Setting.{Setting}
 use Rattle.search_state.specs.declared.Progress.{Progress}
 use Rattle.search_state.specs.declared.Step.{Step}
 use Rattle.search_state.specs.declared.Step.the-variants.{On, Refused}
-use Rattle.search_state.specs.Ground.{Ground, nameOf}
-use Rattle.search_state.specs.State.{pathOf, Records, Idle, Holds, Apart, Kept, New, upFrom}
+use Rattle.search_state.specs.Ground.{Ground}
+use Rattle.search_state.specs.State.{pathOf, Idle, Holds, Apart, upFrom}
 use Rattle.search_state.specs.Keep.{withRecords, holds-kept}
 use Rattle.path_closing.specs.Joins.{Joining, Joined}
-use Rattle.path_closing.specs.Closes.{Closing, ClosedOn, chainAfter, closing, joined-holds, joined-apart, joined-chain, joined-closing}
+use Rattle.path_closing.specs.Closes.{Closing, ClosedOn, chainAfter, closing, joined-chain, joined-closing}
 use Rattle.path_closing.specs.Shuts.{withClosed}
-use Rattle.path_extensions.specs.Each.{Rooms}
 use Rattle.path_extensions.specs.Made.{MadeTo, kept-but, made-idle}
 use Rattle.path_extensions.specs.One.{Run}
 use Rattle.path_extensions.specs.Vertex.{Taking, Extends, extensionsAt}

@@ -1,26 +1,23 @@
 -- Turn after turn: what is left of the search from the state that the stores hold is the answer, and every turn lowers the measure.
 use mathlib.Core.Path.{_≡_, refl, sym, ap, subst, _∙_}
 use mathlib.Core.Logic.{_⊎_, inl, inr}
-use mathlib.Core.Bool.{Bool, true, false}
-use mathlib.Core.List.{List, [], _∷_, map}
-use Prim.Native.Nat.{ℕ, zero, suc, _+_, _-_, _*_, _<_, _≤_}
+use mathlib.Core.Bool.{Bool}
+use mathlib.Core.List.{List, []}
+use Prim.Native.Nat.{ℕ, _+_, _-_, _<_, _≤_}
 use native.Mathlib.Omega.{arith}
 use lib.ListN.{length, take, drop, length-map}
 use lib.Ieee.{Float}
-use Rattle.definition.specs.Limits.{columnFits}
 use Rattle.definition.specs.Score.{columnScoring}
 use Rattle.definition.specs.Threading.{Ends}
 use Rattle.definition.specs.Evidence.{Branches}
-use Rattle.definition.specs.Search.{SearchInput, State, Turn, more, ended, failed, full, search, firstState, pivotalEdges}
-use Rattle.definition.proofs.Column.{NotNan, column-keeps}
-use Rattle.definition.proofs.Walks.{GoodState}
+use Rattle.definition.specs.Search.{SearchInput, State, firstState}
+use Rattle.definition.proofs.Column.{column-keeps}
 use Rattle.definition.proofs.Turns.{measure, turn-more, first-good}
 use Rattle.path_store.specs.Cross.{unvisited}
 use Rattle.path_queue.specs.Begin.{Begins, Begun, begunWith}
 use Rattle.search_state.specs.declared.Setting.{Setting}
 use Rattle.search_state.specs.declared.Progress.{Progress}
 use Rattle.search_state.specs.Ground.{Ground, nameOf}
-use Rattle.search_state.specs.State.{Holds, Room}
 use Rattle.junction_kbest.specs.declared.Search as declared
 use Rattle.junction_kbest.specs.declared.Search.the-variants as found
 use Rattle.junction_kbest.specs.declared.Turned.{Turned}
@@ -28,9 +25,9 @@ use Rattle.junction_kbest.specs.declared.Turned.the-variants as turned
 use Rattle.junction_kbest.specs.Turn.{Stopped, fails, fills, turn-done}
 use Rattle.junction_kbest.specs.Run.{rest, pivotalFor, rest-start, rest-ended, rest-failed, rest-full, rest-more}
 use Rattle.junction_kbest.specs.Counts.{waiting-many, closed-many}
-use Rattle.junction_kbest.specs.Between.{At, turnOf, Onward, Rests, TurnBy, TurnAsks, NextTurn, TurnMade, room-kept}
-use Rattle.junction_kbest.specs.Pivot.{TurnMadeIn, PivotTurn, PivotMade, made-in}
-use Rattle.junction_kbest.specs.Find.{searched, Finds, Ended, FoundBy, Found}
+use Rattle.junction_kbest.specs.Between.{At, turnOf, Onward, TurnBy, TurnAsks, NextTurn, room-kept}
+use Rattle.junction_kbest.specs.Pivot.{TurnMadeIn, PivotTurn}
+use Rattle.junction_kbest.specs.Find.{searched, Finds, Ended, Found}
 
 -- ---- one turn
 module _ (g : Setting) (vs es x only to : List ℕ) (column : List Float) (t : List ℕ) (sc : List Float) (ac queue shut order marks walk : List ℕ) (p : Progress)

@@ -1,35 +1,33 @@
 -- A turn where paths wait, by what each callee answers.
 use mathlib.Core.Path.{_≡_, refl, sym, ap, subst, _∙_}
 use mathlib.Core.Bool.{Bool, true, false, cond}
-use mathlib.Core.List.{List, [], _∷_, map}
-use Prim.Native.Nat.{ℕ, zero, suc, _+_, _-_, _*_, _<_, _≤_}
+use mathlib.Core.List.{List, [], _∷_}
+use Prim.Native.Nat.{ℕ, _-_, _<_, _≤_}
 use native.Mathlib.Omega.{arith}
 use lib.Dec.{eqb, ltb}
 use lib.ListN.{length}
 use lib.Ieee.{Float}
 use borrow.Author.Tests.{ltb-true, ltb-false}
-use Rattle.laws.specs.Heaps.{nth}
 use Rattle.definition.specs.Score.{columnScoring}
 use Rattle.definition.specs.Evidence.{Branches}
-use Rattle.definition.specs.Search.{SearchInput, Path, State, Made, broken, made, Turn, more, ended, failed, full, takePath, pushMade, pushAll, turn}
+use Rattle.definition.specs.Search.{SearchInput, State, Made, broken, takePath, pushMade}
 use Rattle.search_state.specs.declared.Setting.{Setting}
 use Rattle.search_state.specs.declared.Progress.{Progress}
 use Rattle.search_state.specs.declared.Step.{Step}
 use Rattle.search_state.specs.declared.Step.the-variants.{On, Refused}
-use Rattle.search_state.specs.State.{pathOf, Idle, Holds, Apart, upFrom}
+use Rattle.search_state.specs.State.{pathOf}
 use Rattle.path_queue.specs.declared.Taking.{Taking}
 use Rattle.path_queue.specs.Scene.{Scene}
 use Rattle.path_queue.specs.Push.{Ready, Pushes, pushesFrom, Filled, Pushed-all, AllPushed}
-use Rattle.path_queue.specs.Take.{Takes, First, oneLess}
+use Rattle.path_queue.specs.Take.{Takes, First}
 use Rattle.path_queue.specs.Take as first
-use Rattle.junction_kbest.specs.declared.Turned.{Turned}
 use Rattle.junction_kbest.specs.declared.Turned.the-variants as turned
 use Rattle.junction_kbest.specs.Answers.{stepRefusal}
-use Rattle.junction_kbest.specs.Turn.{mostWaiting, withWaiting, Stopped, fails, fills, turn-over, turn-takes, push-made, push-broken}
+use Rattle.junction_kbest.specs.Turn.{withWaiting, fails, fills, turn-over, turn-takes, push-made, push-broken}
 use Rattle.junction_kbest.specs.Counts.{waiting-many, most-waiting}
-use Rattle.junction_kbest.specs.Extend.{Roomy, firstNew, Further, Makes, MakesBy}
+use Rattle.junction_kbest.specs.Extend.{firstNew, Makes, MakesBy}
 use Rattle.junction_kbest.specs.Take.{Going, TakesPath, PathTaken}
-use Rattle.junction_kbest.specs.Between.{At, turnOf, Onward, Rests, TurnBy, TurnAsks, NextTurn, TurnMade, closed-unmet, roomy, good-on, room-kept}
+use Rattle.junction_kbest.specs.Between.{At, turnOf, NextTurn, TurnMade, closed-unmet, roomy, good-on, room-kept}
 
 -- the first of a list that is not empty
 record Head {A : Type 0} (xs : List A) : Type 0 where

@@ -1,36 +1,32 @@
 -- A turn where nothing waits: the next pivotal edge is tried, and what is recovered is pushed.
 use mathlib.Core.Path.{_≡_, refl, sym, ap, subst, _∙_}
-use mathlib.Core.Bool.{Bool, true, false}
-use mathlib.Core.List.{List, [], _∷_, map}
-use Prim.Native.Nat.{ℕ, zero, suc, _+_, _-_, _*_, _<_, _≤_}
+use mathlib.Core.List.{List, []}
+use Prim.Native.Nat.{ℕ, _+_, _-_, _*_, _<_, _≤_}
 use native.Mathlib.Nat.{mul-le-mul-right}
 use native.Mathlib.Omega.{arith}
 use lib.ListN.{length}
 use lib.Ieee.{Float}
-use Rattle.laws.specs.Heaps.{nth}
 use Rattle.definition.specs.Score.{columnScoring}
-use Rattle.definition.specs.Threading.{Ends}
 use Rattle.definition.specs.Evidence.{Branches}
-use Rattle.definition.specs.Search.{SearchInput, Path, State, Made, broken, made, Turn, more, ended, failed, full, recover, pushMade, pushAll, turn}
+use Rattle.definition.specs.Search.{SearchInput, State, Made}
 use Rattle.search_state.specs.declared.Setting.{Setting}
 use Rattle.search_state.specs.declared.Progress.{Progress}
 use Rattle.search_state.specs.declared.Step.{Step}
 use Rattle.search_state.specs.declared.Step.the-variants.{On, Refused}
 use Rattle.search_state.specs.Ground.{nameOf}
-use Rattle.search_state.specs.State.{pathOf, Holds, upFrom}
 use Rattle.path_queue.specs.declared.Recovery.{Recovery}
 use Rattle.path_queue.specs.declared.Recovery.the-variants as recovery
 use Rattle.path_queue.specs.Scene.{Scene}
-use Rattle.path_queue.specs.Push.{Ready, Pushes, pushesFrom, Filled, Pushed-all, AllPushed}
-use Rattle.path_queue.specs.Enqueue.{Around, Resting, TriesNext, Broken, Remade, Moved, Tried}
+use Rattle.path_queue.specs.Push.{Ready, Pushes, pushesFrom, AllPushed}
+use Rattle.path_queue.specs.Enqueue.{Around, Resting, TriesNext, Remade, Tried}
 use Rattle.junction_kbest.specs.declared.Turned.{Turned}
 use Rattle.junction_kbest.specs.declared.Turned.the-variants as turned
 use Rattle.junction_kbest.specs.Answers.{stepRefusal}
-use Rattle.junction_kbest.specs.Turn.{withPivotal, Stopped, fails, fills, turn-ended, turn-recovers, push-made, push-broken}
+use Rattle.junction_kbest.specs.Turn.{withPivotal, fails, fills, turn-ended, turn-recovers, push-made, push-broken}
 use Rattle.junction_kbest.specs.Counts.{none-wait}
 use Rattle.junction_kbest.specs.Extend.{Roomy}
 use Rattle.junction_kbest.specs.Next.{sceneOf}
-use Rattle.junction_kbest.specs.Between.{At, turnOf, Onward, Rests, TurnBy, TurnAsks, TurnMade, closed-unmet, roomy, good-on, room-kept}
+use Rattle.junction_kbest.specs.Between.{At, turnOf, TurnBy, TurnAsks, TurnMade, closed-unmet, roomy, good-on, room-kept}
 
 -- ---- what the contracts say
 

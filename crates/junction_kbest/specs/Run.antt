@@ -1,8 +1,8 @@
 -- The definition's search as what is left of it from a state: a turn that goes on leaves the same answer, with a lower measure.
-use mathlib.Core.Path.{_≡_, refl, sym, ap, _∙_}
+use mathlib.Core.Path.{_≡_, refl, ap, _∙_}
 use mathlib.Core.Bool.{Bool, true, false}
-use mathlib.Core.List.{List, [], _∷_}
-use Prim.Native.Nat.{ℕ, zero, suc, _+_, _-_, _<_, _≤_}
+use mathlib.Core.List.{List, []}
+use Prim.Native.Nat.{ℕ, suc, _+_, _-_, _<_}
 use native.Mathlib.Omega.{arith}
 use lib.ListN.{length}
 use Rattle.definition.specs.Score.{Scoring}
@@ -11,7 +11,7 @@ use Rattle.definition.specs.Search.{SearchInput, Path, State, Turn, more, ended
 use Rattle.definition.proofs.Order.{Keeps}
 use Rattle.definition.proofs.Walks.{GoodState}
 use Rattle.definition.proofs.Runs.{run-ended, run-failed, run-full}
-use Rattle.definition.proofs.Turns.{measure, Turned, turn-more, run-more, first-good}
+use Rattle.definition.proofs.Turns.{measure, turn-more, run-more}
 
 -- the pivotal edges that the search starts with
 abbrev pub pivotalFor : SearchInput → Bool → List Ends

@@ -1,14 +1,13 @@
 -- The path that was taken: dropped where it has too many decisions since guidance, else its chain is followed and it is extended.
 use mathlib.Core.Path.{_≡_, refl, sym, ap, subst, _∙_}
 use mathlib.Core.Bool.{true}
-use mathlib.Core.List.{List, [], _∷_, map}
-use Prim.Native.Nat.{ℕ, zero, suc, _+_, _-_, _*_, _<_, _≤_}
+use mathlib.Core.List.{List, map}
+use Prim.Native.Nat.{ℕ, _+_, _-_, _<_, _≤_}
 use native.Mathlib.Omega.{arith}
 use lib.ListN.{length}
 use lib.Ieee.{Float}
 use Rattle.definition.specs.Limits.{columnFits}
 use Rattle.definition.specs.Score.{columnScoring}
-use Rattle.definition.specs.Threading.{Ends}
 use Rattle.definition.specs.Evidence.{Branches}
 use Rattle.definition.specs.Search.{SearchInput, Path, State, Made, made, extendAt, takePath}
 use Rattle.definition.specs.Search as defs
@@ -18,17 +17,17 @@ use Rattle.path_store.specs.Cells.{endOf, sinceOf, Inside, pathAt}
 use Rattle.path_store.specs.Path.{Table, edges, inside, table-front}
 use Rattle.path_store.specs.Grow.{Following}
 use Rattle.path_store.specs.Held.{following-own}
-use Rattle.path_store.specs.Link.{Agrees, chain-same, end-same}
+use Rattle.path_store.specs.Link.{chain-same, end-same}
 use Rattle.path_store.specs.Walk.{run, end-run}
 use Rattle.search_state.specs.declared.Setting.{Setting}
 use Rattle.search_state.specs.declared.Progress.{Progress}
 use Rattle.search_state.specs.declared.Step.{Step}
-use Rattle.search_state.specs.declared.Step.the-variants.{On, Refused}
+use Rattle.search_state.specs.declared.Step.the-variants.{On}
 use Rattle.search_state.specs.Ground.{Ground, nameOf}
 use Rattle.search_state.specs.State.{pathOf, Idle, Holds, Apart, upFrom}
 use Rattle.path_closing.specs.Closes.{chainAfter}
 use Rattle.junction_kbest.specs.Turn.{take-drops, take-extends}
-use Rattle.junction_kbest.specs.Extend.{Roomy, Extending, firstNew, Further, Makes, MakesBy, ExtendsTaken, extendedAt, TakenExtended}
+use Rattle.junction_kbest.specs.Extend.{Roomy, Extending, firstNew, MakesBy, ExtendsTaken, extendedAt, TakenExtended}
 
 -- ---- what the contract says
 

@@ -1,16 +1,15 @@
 -- The definition's turn, by what its steps give.
-use mathlib.Core.Path.{_≡_, refl, sym, ap, _∙_}
-use mathlib.Core.Bool.{Bool, true, false, cond}
-use mathlib.Core.List.{List, [], _∷_, _++_}
-use Prim.Native.Nat.{ℕ, zero, suc, _+_, _<_, _≤_}
+use mathlib.Core.Path.{_≡_, refl, ap, _∙_}
+use mathlib.Core.Bool.{cond}
+use mathlib.Core.List.{List, [], _∷_}
+use Prim.Native.Nat.{ℕ, _<_, _≤_}
 use borrow.Author.Tests.{lt-leb, le-leb, lt-ltb, le-ltb}
-use lib.Dec.{leb, ltb, eqb}
 use lib.ListN.{length}
 use Rattle.laws.specs.Lists.{isEmpty}
-use Rattle.definition.specs.Refusal.{Result, ok, refused}
+use Rattle.definition.specs.Refusal.{ok, refused}
 use Rattle.definition.specs.Score.{Scoring}
 use Rattle.definition.specs.Threading.{Ends, leaving}
-use Rattle.definition.specs.Search.{SearchInput, Path, Closed, State, Made, atEnd, broken, made, Turn, more, ended, failed, full, pushAll, endFrom, chain, joinTree, closeAt, extensions, madeOf, extendAt, takePath, recover, advance, pushMade, turn}
+use Rattle.definition.specs.Search.{SearchInput, Path, Closed, State, Made, atEnd, broken, made, Turn, ended, failed, full, pushAll, endFrom, chain, joinTree, closeAt, extensions, madeOf, extendAt, takePath, recover, advance, pushMade, turn}
 
 -- the most that may wait
 abbrev pub mostWaiting : {S : Type 0} → List (Closed S) → ℕ

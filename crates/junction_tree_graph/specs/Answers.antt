@@ -1,14 +1,14 @@
 -- What the enums of the code answer, case by case. Assumes nothing.
-use mathlib.Core.Path.{_≡_, refl, sym, ap, _∙_}
-use mathlib.Core.Bool.{Bool, true, false, _&&_}
-use mathlib.Core.List.{List, _++_}
+use mathlib.Core.Path.{_≡_, ap, _∙_}
+use mathlib.Core.Bool.{true, false, _&&_}
+use mathlib.Core.List.{List}
 use lib.Dec.{leb}
 use Rattle.laws.specs.ListLaws.{and-left, and-right}
 use Rattle.laws.specs.Numbers.{within}
 use Prim.Native.Nat.{ℕ, _+_, _-_, _*_, _^_, _<_, _≤_}
 use native.Mathlib.Omega.{arith}
 use lib.ListN.{length}
-use Rattle.definition.specs.Refusal.{Result, ok, refused}
+use Rattle.definition.specs.Refusal.{ok, refused}
 use Rattle.definition.specs.Limits.{Sample, GraphMaxima, graphMaximaFit}
 use Rattle.definition.specs.Evidence.{evidence, nodes}
 use Rattle.definition.specs.Building.{built, builtOf}

@@ -1,10 +1,9 @@
 -- Every edge of a threaded graph joins two of its vertices, so the symbolic edge, to the number after the last, is one edge more. Assumes nothing.
-use mathlib.Core.Path.{_≡_, refl, sym, ap, _∙_}
-use mathlib.Core.Logic.{_≢_}
+use mathlib.Core.Path.{_≡_, refl, ap}
 use mathlib.Core.Bool.{Bool, true, false}
 use mathlib.Core.Option.{Option, none, some}
 use mathlib.Core.List.{List, [], _∷_}
-use Prim.Native.Nat.{ℕ, zero, suc, _+_, _-_, _<_, _≤_}
+use Prim.Native.Nat.{ℕ, suc, _-_, _<_, _≤_}
 use native.Mathlib.Omega.{arith}
 use lib.Dec.{eqb}
 use lib.ListN.{length}
@@ -12,7 +11,7 @@ use Rattle.laws.specs.Lists.{lastOr}
 use Rattle.laws.specs.ListLaws.{All, nil, cons, all-mono, all-keep, all-find}
 use Rattle.definition.specs.Limits.{Sample}
 use Rattle.definition.specs.Stretch.{Stretch, kmers, stretches}
-use Rattle.definition.specs.Threading.{Ends, Origin, Edge, Graph, Threading, leaving, lastBase, oneStep, put, numberOf, withKmer, follow, stepTo, step, steps, backward, startAt, threadKmers, thread, threadAll, threaded, symbolicOf, withSymbolic}
+use Rattle.definition.specs.Threading.{Ends, Origin, Edge, Graph, Threading, leaving, lastBase, oneStep, numberOf, withKmer, follow, stepTo, step, steps, startAt, threadKmers, thread, threadAll, threaded, symbolicOf, withSymbolic}
 use Rattle.assembly.specs.Puts.{Absent, length-put}
 use Rattle.assembly.specs.Kmers.{with-grows}
 use Rattle.junction_tree_graph.specs.Spelling.{with-has, all-put, all-backward}

@@ -1,13 +1,13 @@
 -- The whole build: what the sample's rules give, the reference first and then the reads, the symbolic edge last, and when the graph fits the maxima.
 -- Assumes nothing.
 use mathlib.Core.Path.{_≡_, refl, sym, ap, _∙_}
-use mathlib.Core.Logic.{_≢_, _⊎_, inl, inr}
+use mathlib.Core.Logic.{_⊎_, inl, inr}
 use mathlib.Core.Bool.{Bool, true, false, _&&_}
 use mathlib.Core.List.{List, [], _∷_, _++_}
 use Prim.Native.Nat.{ℕ, zero, suc, _+_, _-_, _*_, _^_, _<_, _≤_}
 use native.Mathlib.Omega.{arith}
 use lib.Dec.{eqb, leb}
-use lib.ListN.{length, getD, take, drop, length-append, List·getD-append}
+use lib.ListN.{length, getD, length-append, List·getD-append}
 use lib.Seq.{take-append-seam}
 use borrow.Author.Tests.{leb-true, eqb-true, le-leb, lt-leb}
 use Rattle.laws.specs.Lists.{all, lastOr}
@@ -15,9 +15,9 @@ use Rattle.laws.specs.ListLaws.{and-left, and-right, clash}
 use Rattle.laws.specs.Numbers.{within}
 use Rattle.laws.specs.Records.{field}
 use Rattle.definition.specs.Refusal.{Rule, firstBroken}
-use Rattle.definition.specs.Limits.{Sample, GraphMaxima, kFits, referenceFits, isBase, referenceBases, rising, endsFit, readsFit, graphMaximaFit, sampleRules}
-use Rattle.definition.specs.Stretch.{Stretch, usable, kmers, stretches, stretchesFrom}
-use Rattle.definition.specs.Threading.{Ends, Edge, Graph, put, numberOf, thread, threadAll, threaded, lastPlace, sinkOf, symbolicOf, withSymbolic}
+use Rattle.definition.specs.Limits.{Sample, kFits, referenceFits, isBase, referenceBases, rising, endsFit, readsFit, sampleRules}
+use Rattle.definition.specs.Stretch.{kmers, stretches}
+use Rattle.definition.specs.Threading.{Graph, put, numberOf, thread, threadAll, threaded, lastPlace, sinkOf, symbolicOf, withSymbolic}
 use Rattle.assembly.specs.Table.{table-0, length-table}
 use Rattle.assembly.specs.Store.{edgeAt, edgesOf, kmersOf, graphOf, Good, good-distinct}
 use Rattle.assembly.specs.Moves.{addedE, addedE-row}
@@ -27,8 +27,7 @@ use Rattle.junction_tree_graph.specs.declared.Most.{Most}
 use Rattle.junction_tree_graph.specs.declared.At.{At}
 use Rattle.junction_tree_graph.specs.declared.Step.{Step}
 use Rattle.junction_tree_graph.specs.declared.Step.the-variants.{Next, Refused}
-use Rattle.junction_tree_graph.specs.Steps.{Fine}
-use Rattle.junction_tree_graph.specs.Starts.{Starts, good-empty}
+use Rattle.junction_tree_graph.specs.Starts.{good-empty}
 use Rattle.junction_tree_graph.specs.Stretches.{CameG, OverG, Threaded, Threads, stretchAt}
 use Rattle.junction_tree_graph.specs.Spelling.{Has, spelled-empty, thread-has, threadAll-has, number-in, last-kmer}
 use Rattle.junction_tree_graph.specs.Reads.{ReadsThread, readsOf, all-grow, over-on}

@@ -1,14 +1,14 @@
 -- A run, a read and all reads: what each call asks, and the loops that keep "what is left of the threading from here is the whole". Assumes nothing.
 use mathlib.Core.Path.{_≡_, refl, sym, ap, _∙_}
 use mathlib.Core.Logic.{_⊎_, inl, inr}
-use mathlib.Core.Bool.{Bool, true, false, not, _&&_}
+use mathlib.Core.Bool.{Bool, true, false}
 use mathlib.Core.Option.{Option, none, some}
 use mathlib.Core.List.{List, [], _∷_, _++_}
-use Prim.Native.Nat.{ℕ, zero, suc, _+_, _-_, _*_, _^_, _<_, _≤_}
+use Prim.Native.Nat.{ℕ, zero, suc, _+_, _-_, _*_, _<_, _≤_}
 use native.Mathlib.Omega.{arith}
 use native.Mathlib.Numerals.{add-one}
 use native.Mathlib.Decide.{ℕ-discrete}
-use lib.Dec.{eqb, leb}
+use lib.Dec.{leb}
 use lib.ListN.{length, getD, take, drop, length-append, length-drop}
 use lib.Seq.{drop-cons, drop-drop, length-take-le, drop-append-add, getD-append-add, drop-length}
 use borrow.Author.Tests.{leb-true}
@@ -16,15 +16,14 @@ use Rattle.laws.specs.Lists.{lastOr, sole}
 use Rattle.laws.specs.ListLaws.{and-left, and-right}
 use Rattle.definition.specs.Limits.{isBase, rising}
 use Rattle.definition.specs.Stretch.{Stretch, usable, runs, stretchesFrom, kmers}
-use Rattle.definition.specs.Threading.{Edge, Graph, Threading, entering, oneStep, put, backward, withKmer, numberOf, startAt, steps, threadKmers, thread, threadAll}
+use Rattle.definition.specs.Threading.{Edge, Graph, entering, oneStep, put, backward, numberOf, startAt, steps, threadKmers, thread, threadAll}
 use Rattle.junction_tree_graph.specs.declared.Most.{Most}
 use Rattle.junction_tree_graph.specs.declared.At.{At}
 use Rattle.junction_tree_graph.specs.declared.Step.{Step}
 use Rattle.junction_tree_graph.specs.declared.Step.the-variants.{Next, Refused}
 use Rattle.assembly.specs.Store.{graphOf}
-use Rattle.assembly.specs.Kmers.{part, with-grows}
+use Rattle.assembly.specs.Kmers.{with-grows}
 use Rattle.junction_tree_graph.specs.Steps.{Fine}
-use Rattle.junction_tree_graph.specs.Starts.{Starts}
 use Rattle.junction_tree_graph.specs.Stretches.{More, put-grows, steps-grow, CameG, OverG, Threaded, Threads, stretchAt}
 use Rattle.junction_tree_graph.specs.Runs.{longOf, runsAt, runsAt-start, RunEnd, threadRun, run-long, run-short, all-none, all-append, thread-ahead, thread-end}
 

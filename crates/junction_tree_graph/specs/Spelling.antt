@@ -1,18 +1,17 @@
 -- Every edge joins two kmers that overlap in all but one base, so threading reaches the vertex of each kmer that it steps to: the reference's last
 -- kmer has a vertex, the sink, in every graph that grows from the reference's. Assumes nothing.
 use mathlib.Core.Path.{_≡_, refl, sym, ap, _∙_}
-use mathlib.Core.Logic.{_≢_}
-use mathlib.Core.Bool.{Bool, true, false, _&&_}
+use mathlib.Core.Bool.{Bool, true, false}
 use mathlib.Core.Option.{Option, none, some}
 use mathlib.Core.List.{List, [], _∷_, _++_}
 use Prim.Native.Nat.{ℕ, zero, suc, _+_, _-_, _<_, _≤_, Ordering, Ordering·lt, Ordering·eq, Ordering·gt}
 use native.Mathlib.Omega.{arith}
 use native.Mathlib.Decide.{ℕ-discrete}
 use lib.Dec.{eqb}
-use lib.ListN.{length, getD, take, drop, length-append, length-drop, length-take, List·getD-append}
-use lib.Seq.{getD-at, take-take, drop-drop, length-take-le, take-append-le}
+use lib.ListN.{length, getD, take, drop, length-append, List·getD-append}
+use lib.Seq.{getD-at, take-take, drop-drop}
 use borrow.Author.Tests.{eqb-true}
-use Rattle.laws.specs.Lists.{lastOr, keep, find, position, sole}
+use Rattle.laws.specs.Lists.{lastOr, position, sole}
 use Rattle.laws.specs.ListLaws.{All, nil, cons, all-mono, all-zip, all-keep, all-passed, all-find, all-sole}
 use Rattle.laws.specs.Numbers.{eqList, eqList-true, eqList-self}
 use Rattle.definition.specs.Stretch.{Stretch, kmers}

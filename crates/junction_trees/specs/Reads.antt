@@ -9,7 +9,7 @@ use lib.Dec.{leb}
 use lib.ListN.{length, getD, take, drop, length-append, length-drop}
 use lib.Seq.{drop-cons, drop-drop, length-take-le, drop-append-add, getD-append-add, drop-length}
 use borrow.Author.Tests.{leb-true, leb-false}
-use Rattle.laws.specs.Lists.{keep, lastOr}
+use Rattle.laws.specs.Lists.{lastOr}
 use Rattle.laws.specs.ListLaws.{and-left, and-right}
 use Rattle.definition.specs.Limits.{isBase, rising}
 use Rattle.definition.specs.Stretch.{Stretch, usable, runs, stretchesFrom}

@@ -2,7 +2,7 @@
 use mathlib.Core.Path.{_≡_, sym, ap, _∙_}
 use mathlib.Core.Bool.{true}
 use mathlib.Core.List.{List, [], _++_}
-use Prim.Native.Nat.{ℕ, zero, suc, _*_, _^_, _<_, _≤_}
+use Prim.Native.Nat.{ℕ, suc, _*_, _^_, _<_, _≤_}
 use native.Mathlib.Omega.{arith}
 use native.Mathlib.Nat.{mul-le-mul-right}
 use native.Mathlib.Decide.{decLt}
@@ -11,7 +11,6 @@ use lib.ListN.{length, getD, length-append}
 use borrow.Author.Tests.{leb-true, le-leb, lt-leb}
 use Rattle.laws.specs.ListLaws.{and-right}
 use Rattle.laws.specs.Numbers.{within}
-use Rattle.laws.specs.Records.{field}
 use Rattle.definition.specs.Refusal.{firstBroken, ok, refused}
 use Rattle.definition.specs.Building.{built, builtOf}
 use Rattle.definition.specs.Limits.{Sample, sampleRules}

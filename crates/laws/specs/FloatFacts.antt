@@ -1,15 +1,14 @@
 -- The laws of Order as equations of Booleans, which is what a branch of the code gives; `le` and `eq` by `lt`; sums that are no NaN. Assumes nothing.
-use mathlib.Core.Path.{_≡_, refl, sym, subst, ap, _∙_}
+use mathlib.Core.Path.{_≡_, refl, sym, subst, _∙_}
 use mathlib.Core.Logic.{_⊎_, inl, inr}
-use Prim.Native.Nat.{ℕ, zero, suc, _+_, _-_, _*_, _≤_, _<_, _^_, compare}
+use Prim.Native.Nat.{ℕ, _+_, _-_, _*_, _≤_, _<_}
 use native.Mathlib.Nat.{eq-or-lt-of-le}
 use native.Mathlib.Decide.{decLt}
 use native.Mathlib.Omega.{arith}
-use mathlib.Core.Bool.{Bool, true, false, not, _&&_, _||_, Bool·beq, cond}
+use mathlib.Core.Bool.{Bool, true, false, not, _&&_, _||_}
 use borrow.Author.Tests.{lt-ltb, le-ltb, eq-eqb, ne-eqb}
-use lib.Dec.{T, ltb, eqb, ltb→lt, lt→ltb, nltb→le, T-not, not-T, eqb→eq, eqb-refl}
-use lib.IntN.{ℤ, pos, negsuc}
-use lib.Ieee.{Float, nan, inf, fin, Format, up, down, lt, le, eq, below, level, isNan, add, sub, neg, sum, round, units, odd}
+use lib.Dec.{T, ltb, eqb, not-T}
+use lib.Ieee.{Float, nan, inf, fin, up, down, lt, le, below, level, isNan}
 use Rattle.laws.specs.FloatOrder.{lt-irrefl, lt-trans, nlt-trans, lt-asym}
 
 yes-T : (b : Bool) → b ≡ true → T b

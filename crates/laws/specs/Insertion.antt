@@ -1,6 +1,6 @@
 -- Insertion into a list by an order, and sorting by it. `before x y` says that x stands before y.
 use mathlib.Core.Path.{_≡_, refl, sym, ap, _∙_}
-use Prim.Native.Nat.{ℕ, suc}
+use Prim.Native.Nat.{suc}
 use mathlib.Core.Bool.{Bool, true, false}
 use mathlib.Core.List.{List, [], _∷_}
 use lib.ListN.{length}

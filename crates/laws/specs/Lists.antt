@@ -1,6 +1,6 @@
 -- Small total functions on lists that the definition is made of. Their laws are in ListLaws.
 -- Style: a branch that holds a recursive or a costly call stands in an `elim`, never in a `cond`, since antt computes a call's arguments first.
-use Prim.Native.Nat.{ℕ, zero, suc, _+_}
+use Prim.Native.Nat.{ℕ, suc, _+_}
 use mathlib.Core.Bool.{Bool, true, false, _&&_, _||_, cond}
 use mathlib.Core.List.{List, [], _∷_}
 use mathlib.Core.Option.{Option, none, some}

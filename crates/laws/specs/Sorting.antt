@@ -3,13 +3,13 @@ use mathlib.Core.Path.{_≡_, refl, sym, ap, _∙_}
 use mathlib.Core.Logic.{_⊎_, inl, inr, _≢_}
 use mathlib.Core.Bool.{Bool, true, false}
 use mathlib.Core.List.{List, [], _∷_, map}
-use Prim.Native.Nat.{ℕ, zero, suc, _+_, _-_, _<_, _≤_}
+use Prim.Native.Nat.{ℕ, zero, suc, _-_, _<_}
 use native.Mathlib.Nat.{eq-or-lt-of-le}
 use native.Mathlib.Omega.{arith}
 use lib.ListN.{length}
 use Rattle.laws.specs.ListLaws.{All, nil, cons, all-head, all-tail}
 use Rattle.laws.specs.BoolLaws.{Bool-cases, both-ways}
-use Rattle.laws.specs.Insertion.{insert, sorted, insert-past, insert-here, insert-front, all-insert, all-sorted, length-sorted}
+use Rattle.laws.specs.Insertion.{insert, sorted, insert-past, insert-here, insert-front, all-sorted, length-sorted}
 
 -- `before x y`: x stands before y. Of two different values one stands before the other.
 pub record LinearOrder {A : Type 0} (before : A → A → Bool) : Type 0 where

@@ -1,18 +1,14 @@
 -- 1 to 7 of the call for the list: the rules 1 to 6 first, then 7, once the settings are known to be within the limits. Assumes nothing.
 use mathlib.Core.Path.{_≡_, refl, sym, ap, _∙_}
 use mathlib.Core.Bool.{Bool, true, false, _&&_}
-use mathlib.Core.List.{List, [], _∷_, _++_, append-assoc}
+use mathlib.Core.List.{List, [], _∷_, _++_}
 use Prim.Native.Nat.{ℕ, zero, suc, _<_, _≤_}
 use native.Mathlib.Omega.{arith}
-use lib.IntN.{ℤ}
-use lib.Ieee.{Float}
 use Rattle.definition.specs.Refusal.{Rule, firstBroken}
 use Rattle.definition.specs.Limits.{Input, settingsFit, columnFits, longEnough, sampleRules, listRules}
-use Rattle.definition.proofs.Checks.{Checked, checked}
-use Rattle.limits.specs.Handed.{graphMaximaOf, searchMaximaOf, sampleOf, inputOf}
+use Rattle.definition.proofs.Checks.{checked}
 use Rattle.limits.specs.Bounds.{InLimits, settings-most, k-most}
-use Rattle.limits.specs.Rules.{rule, Numbered, first-broken, first-hold, broken, holds, all-hold, sample-numbered}
-use Rattle.list_work.specs.declared.Settings.{Settings}
+use Rattle.limits.specs.Rules.{rule, Numbered, first-broken, first-hold, broken, holds, all-hold}
 use Rattle.list_call.specs.declared.Lent as lent
 use Rattle.list_call.specs.Lent.{toldOf, lentOf, outputsTold, outputsLent, graphTold, graphLent, searchTold, searchLent, long-is}
 

@@ -1,15 +1,15 @@
 -- The order of the waiting records: the greater score first, and of equal scores the smaller number. A linear order, whatever stands in the table:
 -- a NaN counts as the least score.
-use mathlib.Core.Path.{_≡_, refl, sym, ap, _∙_}
-use mathlib.Core.Logic.{_⊎_, inl, inr, _≢_}
+use mathlib.Core.Path.{_≡_, sym, _∙_}
+use mathlib.Core.Logic.{_⊎_, inl, inr}
 use mathlib.Core.Bool.{Bool, true, false}
-use mathlib.Core.List.{List, [], _∷_}
-use Prim.Native.Nat.{ℕ, zero, suc, _+_, _-_, _<_, _≤_}
+use mathlib.Core.List.{List}
+use Prim.Native.Nat.{ℕ, _-_, _<_, _≤_}
 use native.Mathlib.Omega.{arith}
 use lib.Dec.{ltb}
 use lib.ListN.{length, getD}
 use lib.Ieee.{Float, nan, inf, lt, isNan}
-use borrow.Author.Tests.{lt-ltb, le-ltb, ltb-true, ltb-false}
+use borrow.Author.Tests.{le-ltb, ltb-true, ltb-false}
 use Rattle.laws.specs.FloatFacts.{lt-chain, nlt-chain, lt-flip, lt-nlt, nlt-lt}
 use Rattle.laws.specs.BoolLaws.{Bool-cases, both-ways}
 use Rattle.laws.specs.Sorting.{LinearOrder}

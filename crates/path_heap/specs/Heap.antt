@@ -1,19 +1,17 @@
 -- The heap of waiting paths by their scores: what its functions say, and how it goes with the definition's insertion.
-use mathlib.Core.Path.{_≡_, refl, sym, ap, _∙_}
-use mathlib.Core.Logic.{_⊎_, inl, inr, _≢_}
+use mathlib.Core.Path.{_≡_, sym, ap, _∙_}
+use mathlib.Core.Logic.{_⊎_, inl, inr}
 use mathlib.Core.Bool.{Bool, true, false, not}
 use mathlib.Core.List.{List, [], _∷_}
-use Prim.Native.Nat.{ℕ, zero, suc, _+_, _-_, _*_, _/_, _<_, _≤_}
-use native.Mathlib.Omega.{arith}
-use lib.ListN.{length, getD, set, drop, length-set}
-use lib.Seq.{getD-set-same, getD-set-other}
-use lib.Ieee.{Float, nan, lt, isNan}
+use Prim.Native.Nat.{ℕ, _+_, _-_, _<_}
+use lib.ListN.{length, getD, drop}
+use lib.Ieee.{Float, nan, lt}
 use borrow.Author.Tests.{lt-ltb}
 use Rattle.laws.specs.ListLaws.{All, all-head, all-tail}
 use Rattle.laws.specs.BoolLaws.{Bool-cases}
 use Rattle.laws.specs.Insertion.{insert, all-insert}
 use Rattle.laws.specs.Sorting.{sortedTo, sorted-zero, all-sortedTo, sortedTo-all, length-sortedTo, sorted-agree, insert-agree}
-use Rattle.laws.specs.Heaps.{above, nth, Heaped, Put, Taken}
+use Rattle.laws.specs.Heaps.{nth, Heaped, Put, Taken}
 use Rattle.path_heap.specs.First.{Known, leads, leads-more, leads-less, leads-tie, leads-same}
 
 -- ---- what the contracts say

@@ -1,17 +1,16 @@
 -- The heap's list, read as paths, is the definition's list of waiting paths: a push is the definition's `wait`, a pop takes the head.
 -- `view` is how a record number gives a path.
-use mathlib.Core.Path.{_≡_, refl, sym, ap, _∙_}
-use mathlib.Core.Bool.{Bool, true, false, not}
-use mathlib.Core.List.{List, [], _∷_, map}
-use Prim.Native.Nat.{ℕ, _+_, _-_, _<_, _≤_}
-use lib.ListN.{length, getD}
-use lib.Ieee.{Float, nan, lt}
-use Rattle.laws.specs.ListLaws.{All, all-mono}
+use mathlib.Core.Path.{_≡_, ap, _∙_}
+use mathlib.Core.List.{List, map}
+use Prim.Native.Nat.{ℕ, _+_, _-_, _<_}
+use lib.ListN.{getD}
+use lib.Ieee.{Float, nan}
+use Rattle.laws.specs.ListLaws.{all-mono}
 use Rattle.laws.specs.Sorting.{insert-map}
 use Rattle.laws.specs.Heaps.{nth}
 use Rattle.definition.specs.Score.{columnScoring}
 use Rattle.definition.specs.Search.{Path, wait, ahead}
-use Rattle.path_heap.specs.Heap.{waiting, aheadOf, Pushed, Popped, waiting-all}
+use Rattle.path_heap.specs.Heap.{waiting, aheadOf, Pushed, waiting-all}
 
 -- the paths that wait, as the definition keeps them
 abbrev pub waitingPaths : (ℕ → Path Float) → List Float → List ℕ → ℕ → List (Path Float)

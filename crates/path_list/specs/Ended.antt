@@ -1,26 +1,25 @@
 -- What the end of a search gives the list: the closed paths are among the records, none takes the symbolic edge, and the tables show the graph built.
-use mathlib.Core.Path.{_≡_, refl, sym, ap, _∙_}
+use mathlib.Core.Path.{_≡_, sym, ap, _∙_}
 use mathlib.Core.Logic.{_⊎_, inl, inr}
 use mathlib.Core.List.{List, [], _∷_, _++_, map}
 use Prim.Native.Nat.{ℕ, zero, suc, _+_, _-_, _*_, _^_, _<_, _≤_}
 use native.Mathlib.Omega.{arith}
-use lib.ListN.{length, getD, take, length-map}
+use lib.ListN.{length, getD, take}
 use lib.Seq.{getD-take, length-take-le}
 use lib.Ieee.{Float}
 use Rattle.laws.specs.ListLaws.{All, nil, cons}
 use Rattle.laws.specs.Records.{field}
 use Rattle.laws.specs.Sorting.{same-or}
 use Rattle.definition.specs.Limits.{Sample}
-use Rattle.definition.specs.Threading.{Ends, Edge, Graph, threaded, withSymbolic}
+use Rattle.definition.specs.Threading.{Edge, threaded, withSymbolic}
 use Rattle.definition.specs.Evidence.{Branches}
 use Rattle.definition.specs.Search.{SearchInput, Closed, State, endFrom}
 use Rattle.definition.specs.Building.{Built}
 use Rattle.definition.proofs.Walks.{Linked, GoodClosed, GoodState, Numbered}
 use Rattle.assembly.specs.Table.{Distinct}
-use Rattle.assembly.specs.Store.{edgeAt, edgesOf, graphOf, Good}
+use Rattle.assembly.specs.Store.{edgeAt, edgesOf, graphOf}
 use Rattle.assembly.specs.Moves.{kmers-same}
 use Rattle.junction_tree_graph.specs.Built.{BuiltAt}
-use Rattle.path_store.specs.Cells.{countOf}
 use Rattle.path_store.specs.Path.{Table, edges}
 use Rattle.path_store.specs.Recover.{all-at, edges-in}
 use Rattle.search_state.specs.declared.Setting.{Setting}

@@ -1,13 +1,12 @@
 -- What the writer of the list asks of its slices, and what it leaves there.
 use mathlib.Core.Path.{_≡_, refl, sym, ap, _∙_}
 use mathlib.Core.Bool.{Bool, false}
-use mathlib.Core.List.{List, [], _∷_, _++_, map}
-use Prim.Native.Nat.{ℕ, zero, suc, _+_, _-_, _*_, _^_, _<_, _≤_}
+use mathlib.Core.List.{List, map}
+use Prim.Native.Nat.{ℕ, _+_, _-_, _*_, _^_, _<_, _≤_}
 use native.Mathlib.Omega.{arith}
 use lib.ListN.{length, getD, take, drop, length-map, length-drop}
 use lib.Seq.{getD-take, length-take-le}
 use lib.Ieee.{Float, nan}
-use Rattle.laws.specs.ListLaws.{All}
 use Rattle.laws.specs.Records.{field}
 use Rattle.laws.specs.Rows.{rows}
 use Rattle.definition.specs.Score.{columnScoring}
@@ -23,10 +22,10 @@ use Rattle.assembly.specs.Paths.{Spells}
 use Rattle.path_store.specs.Cells.{countOf}
 use Rattle.path_store.specs.Recover.{all-at}
 use Rattle.path_rows.specs.declared.PathRow.{PathRow}
-use Rattle.path_rows.specs.Rows.{told, rowAt, finished, finished-is, Filled}
+use Rattle.path_rows.specs.Rows.{told, rowAt, finished-is, Filled}
 use Rattle.path_list.specs.Laid.{Laid, row-low}
 use Rattle.path_list.specs.Walked.{recordAt, walkOf, Walkable, Walked, walk-length, walk-inside, walked-read}
-use Rattle.path_list.specs.Ranks.{Lists, lists, Ready, countAt, walkAt, aboveAt, Ranked, ranked-known}
+use Rattle.path_list.specs.Ranks.{Lists, lists, Ready, walkAt, aboveAt, Ranked, ranked-known}
 use Rattle.path_list.specs.Rows.{Placed, Known, Columns, scoreRow, closingRow, edgesRow, Filed, basesAt, fieldsAt}
 use Rattle.path_list.specs.Told.{Drawn, Shows, Told, row, row-score, row-closing, row-isRef, row-edges, row-bases, row-origins, order-is, part-is}
 

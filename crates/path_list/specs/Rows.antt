@@ -1,8 +1,8 @@
 -- The rows of the list in the order of the ranks: what the columns hold, and the bases and origins laid out row by row.
 use mathlib.Core.Path.{_≡_, refl, sym, ap, subst, _∙_}
 use mathlib.Core.Logic.{_⊎_, inl, inr}
-use mathlib.Core.List.{List, [], _∷_, _++_, append-assoc, map}
-use Prim.Native.Nat.{ℕ, zero, suc, _+_, _-_, _*_, _<_, _≤_}
+use mathlib.Core.List.{List, _++_, append-assoc, map}
+use Prim.Native.Nat.{ℕ, _+_, _-_, _*_, _<_, _≤_}
 use native.Mathlib.Numerals.{add-one}
 use native.Mathlib.Omega.{arith}
 use native.Mathlib.Decide.{decLt}
@@ -13,7 +13,7 @@ use Rattle.laws.specs.Records.{field}
 use Rattle.laws.specs.Rows.{rows, length-rows, getD-rows}
 use Rattle.laws.specs.Sorting.{same-or}
 use Rattle.definition.specs.Calls.{writtenAt}
-use Rattle.assembly.specs.Paths.{endBase, Spells, basesOf, bases-length}
+use Rattle.assembly.specs.Paths.{Spells, basesOf, bases-length}
 use Rattle.path_store.specs.Cells.{countOf, scoreOf, Inside}
 use Rattle.path_list.specs.Laid.{Laid, row-low, laid-next, laid-sets}
 use Rattle.path_list.specs.Walked.{recordAt}

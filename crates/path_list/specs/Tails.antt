@@ -1,13 +1,13 @@
 -- The bases that the edges of a path add, read off the tables, and two paths compared by them.
 use mathlib.Core.Path.{_≡_, refl, sym, ap, _∙_}
-use mathlib.Core.Bool.{Bool, true, false}
+use mathlib.Core.Bool.{true, false}
 use mathlib.Core.List.{List, [], _∷_, _++_, map}
 use Prim.Native.Nat.{ℕ, zero, suc, _+_, _-_, _*_, _^_, _<_, _≤_, compare, Ordering, Ordering·lt, Ordering·eq, Ordering·gt}
 use native.Mathlib.Numerals.{add-one}
 use native.Mathlib.Omega.{arith}
 use lib.Dec.{ltb}
 use lib.ListN.{length, getD, take, drop, length-map}
-use lib.Seq.{drop-cons, drop-nil, getD-take, length-take-le, take-all}
+use lib.Seq.{drop-cons, drop-nil, getD-take, length-take-le}
 use borrow.Author.Tests.{lt-ltb, le-ltb}
 use Rattle.laws.specs.Lists.{lastOr}
 use Rattle.laws.specs.Records.{field}

@@ -1,22 +1,19 @@
 -- The list as the definition has it: what the columns and the laid out rows hold is `listOrder` of the closed paths' rows.
 use mathlib.Core.Path.{_≡_, refl, sym, ap, _∙_}
-use mathlib.Core.Bool.{Bool, true, false, not, _&&_, _||_}
+use mathlib.Core.Bool.{Bool, false}
 use mathlib.Core.List.{List, [], _∷_, _++_, map, map-append}
-use mathlib.Core.Option.{Option, none, some}
-use Prim.Native.Nat.{ℕ, zero, suc, _+_, _-_, _*_, _<_, _≤_}
-use native.Mathlib.Numerals.{add-one}
+use mathlib.Core.Option.{some}
+use Prim.Native.Nat.{ℕ, zero, suc, _+_, _-_, _<_, _≤_}
 use native.Mathlib.Omega.{arith}
-use lib.Dec.{eqb}
 use lib.ListN.{length, getD, take, drop, length-map}
 use lib.Seq.{drop-cons, take-suc, getD-take, length-take-le}
-use lib.Ieee.{Float, lt}
+use lib.Ieee.{Float}
 use borrow.Author.Tests.{eq-eqb}
 use Rattle.laws.specs.Lists.{find}
 use Rattle.laws.specs.ListLaws.{All, nil, cons, all-mono}
 use Rattle.laws.specs.Records.{field}
-use Rattle.laws.specs.Rows.{rows, rows-more, rows-same, length-rows}
-use Rattle.laws.specs.Numbers.{compareList, isGt}
-use Rattle.laws.specs.Insertion.{insert, sorted, all-sorted, length-sorted}
+use Rattle.laws.specs.Rows.{rows, rows-more, rows-same}
+use Rattle.laws.specs.Insertion.{insert, sorted, all-sorted}
 use Rattle.laws.specs.Sorting.{insert-map}
 use Rattle.definition.specs.Score.{columnScoring}
 use Rattle.definition.specs.Threading.{Ends, Origin, Edge, Graph, eqEnds}
@@ -28,16 +25,13 @@ use Rattle.definition.proofs.Walks.{Numbered, eqEnds-true}
 use Rattle.assembly.specs.Table.{table, Distinct, find-table-some}
 use Rattle.assembly.specs.Store.{edgeAt, edgesOf, kmerAt, graphOf}
 use Rattle.assembly.specs.Kmers.{rows-0}
-use Rattle.assembly.specs.Paths.{endBase, basesOf, bases-is}
-use Rattle.path_store.specs.Cells.{countOf, scoreOf}
-use Rattle.path_rows.specs.Rows.{told, rowAt, finished, finished-is}
+use Rattle.assembly.specs.Paths.{basesOf, bases-is}
+use Rattle.path_rows.specs.Rows.{finished}
 use Rattle.search_state.specs.Ground.{nameOf}
 use Rattle.search_state.specs.State.{shutOf, upFrom}
-use Rattle.path_list.specs.Laid.{Laid}
 use Rattle.path_list.specs.Walked.{recordAt, walkOf}
 use Rattle.path_list.specs.Tails.{compare-same}
 use Rattle.path_list.specs.Ranks.{Lists, scoreAt, countAt, walkAt, tailAt, aboveAt, above-is, Ranked, all-low}
-use Rattle.path_list.specs.Rows.{Columns, basesAt, fieldsAt}
 
 -- the closed paths are spelled by the graph of n vertices and m edges: none takes the symbolic edge
 pub record Drawn (text vs es only to t shut : List ℕ) (k count n m : ℕ) : Type 0 where

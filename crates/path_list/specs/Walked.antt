@@ -1,14 +1,14 @@
 -- The edges of the closed paths, one row of `most` places for each.
-use mathlib.Core.Path.{_≡_, refl, sym, ap, _∙_}
-use mathlib.Core.List.{List, []}
-use Prim.Native.Nat.{ℕ, zero, suc, _+_, _-_, _*_, _<_, _≤_}
+use mathlib.Core.Path.{_≡_, ap, _∙_}
+use mathlib.Core.List.{List}
+use Prim.Native.Nat.{ℕ, _+_, _-_, _*_, _<_, _≤_}
 use native.Mathlib.Omega.{arith}
 use lib.ListN.{length, getD, take, drop}
 use lib.Seq.{sets}
 use lib.Ieee.{Float}
 use Rattle.path_store.specs.Cells.{countOf, Inside}
 use Rattle.path_store.specs.Path.{Table, edges, inside, table-front}
-use Rattle.path_list.specs.Laid.{Laid, laid-start, laid-sets, laid-read, row-low}
+use Rattle.path_list.specs.Laid.{Laid, laid-sets, laid-read, row-low}
 
 -- the record of the closed path i
 abbrev pub recordAt : List ℕ → ℕ → ℕ

@@ -15,8 +15,7 @@ use Rattle.laws.specs.ListLaws.{All, nil, all-mono, keep-all}
 use Rattle.laws.specs.Sorting.{insert-nil}
 use Rattle.definition.specs.Threading.{Ends}
 use Rattle.definition.specs.Score.{columnScoring}
-use Rattle.definition.specs.Search.{SearchInput, Path, endsOf, pivotalEdges, firstState}
-use Rattle.assembly.specs.Store.{edgesOf}
+use Rattle.definition.specs.Search.{SearchInput, Path, pivotalEdges, firstState}
 use Rattle.pivotal_edges.specs.Turns.{Pivots, Pivoted}
 use Rattle.definition.proofs.Tables.{Once}
 use Rattle.pivotal_edges.specs.Once.{edges-once}

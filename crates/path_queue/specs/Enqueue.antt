@@ -16,7 +16,7 @@ use Rattle.laws.specs.Records.{field}
 use Rattle.definition.specs.Threading.{Ends}
 use Rattle.definition.specs.Evidence.{Branches}
 use Rattle.definition.specs.Score.{columnScoring}
-use Rattle.definition.specs.Search.{SearchInput, Path, State, atEnd, made, broken, recover, advance}
+use Rattle.definition.specs.Search.{SearchInput, Path, State, made, broken, recover, advance}
 use Rattle.definition.proofs.Counts.{Small}
 use Rattle.path_store.specs.Cells.{countOf, joinedOf, treesOf, scoreOf, Inside, putCells, put-at, put-other, put-trees}
 use Rattle.path_store.specs.Grow.{recoveredRow}

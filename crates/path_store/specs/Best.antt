@@ -1,14 +1,14 @@
 -- The best closed path through a vertex: the greatest score, ties to the later closed. A found path is its number + 1; 0 says that there is none.
 use mathlib.Core.Path.{_≡_, refl, sym, ap, _∙_}
 use mathlib.Core.Logic.{_⊎_, inl, inr}
-use mathlib.Core.Bool.{Bool, true, false, _||_, cond}
+use mathlib.Core.Bool.{Bool, true, false, cond}
 use mathlib.Core.List.{List, [], _∷_, _++_, map}
 use mathlib.Core.Option.{Option, none, some}
-use Prim.Native.Nat.{ℕ, zero, suc, _+_, _-_, _*_, _<_, _≤_}
+use Prim.Native.Nat.{ℕ, zero, suc, _+_, _-_, _<_, _≤_}
 use native.Mathlib.Numerals.{add-one}
 use native.Mathlib.Omega.{arith}
 use borrow.Author.Tests.{lt-ltb, le-ltb}
-use lib.Dec.{eqb, ltb}
+use lib.Dec.{eqb}
 use lib.ListN.{length, getD, take}
 use lib.Seq.{take-suc}
 use lib.Ieee.{Float, isNan, lt}
@@ -17,7 +17,7 @@ use Rattle.laws.specs.BoolLaws.{Bool-cases, both-ways}
 use Rattle.laws.specs.ListLaws.{All, nil, cons}
 use Rattle.laws.specs.FloatFacts.{lt-chain, nlt-chain}
 use Rattle.definition.specs.Threading.{Ends}
-use Rattle.definition.specs.Score.{Scoring, columnScoring}
+use Rattle.definition.specs.Score.{columnScoring}
 use Rattle.definition.specs.Search.{SearchInput, Closed, greatest, verticesFrom}
 use Rattle.path_store.specs.Walk.{times}
 use Rattle.path_store.specs.Cells.{scoreOf}

@@ -1,16 +1,16 @@
 -- The record of a path in two slices: nine numbers and a score. Cell 0 has the parent's number + 1, 1 the length of the chain, 2 the last edge + 1,
 -- 3 the count of edges, 4 the last vertex, 5 the vertex that the chain leads to, 6 the decisions since guidance, 7 the joined tree's vertex + 1, 8 twice
 -- the number of active trees, with 1 more for a recovered path.
-use mathlib.Core.Path.{_≡_, refl, sym, ap, _∙_}
-use mathlib.Core.Logic.{_⊎_, inl, inr, _≢_}
+use mathlib.Core.Path.{_≡_, ap, _∙_}
+use mathlib.Core.Logic.{_≢_}
 use mathlib.Core.Bool.{Bool, true, false, cond}
 use mathlib.Core.List.{List, [], _∷_}
-use Prim.Native.Nat.{ℕ, zero, suc, _+_, _-_, _*_, _/_, _%_, _<_, _≤_}
+use Prim.Native.Nat.{ℕ, _+_, _-_, _*_, _/_, _%_, _<_, _≤_}
 use native.Mathlib.Omega.{arith}
 use lib.Dec.{eqb}
 use borrow.Author.Tests.{eq-eqb, ne-eqb}
-use lib.ListN.{length, getD, set, length-set}
-use lib.Seq.{getD-set-same, getD-set-other}
+use lib.ListN.{length, getD, set}
+use lib.Seq.{getD-set-same}
 use lib.Ieee.{Float, nan}
 use Rattle.laws.specs.Records.{field, putFrom, length-putFrom, putFrom-row, putFrom-at}
 use Rattle.path_store.specs.declared.records.PathRecord.{PathRecord}

@@ -1,14 +1,13 @@
 -- The definition's `closeAt`, by what close_path and cross_off tell.
-use mathlib.Core.Path.{_≡_, refl, sym, ap, _∙_}
-use mathlib.Core.Bool.{Bool, true, false}
+use mathlib.Core.Path.{_≡_}
+use mathlib.Core.Bool.{true, false}
 use mathlib.Core.List.{List, [], _∷_, _++_, map}
-use Prim.Native.Nat.{ℕ, zero, suc, _+_, _-_, _<_, _≤_}
+use Prim.Native.Nat.{ℕ, suc, _+_, _-_, _<_, _≤_}
 use native.Mathlib.Omega.{arith}
 use borrow.Author.Tests.{le-leb, lt-leb, eq-eqb, ne-eqb}
-use lib.Dec.{eqb, leb}
 use lib.ListN.{length, set}
 use lib.Ieee.{Float}
-use Rattle.definition.specs.Refusal.{Result, ok, refused}
+use Rattle.definition.specs.Refusal.{ok, refused}
 use Rattle.definition.specs.Threading.{Ends}
 use Rattle.definition.specs.Evidence.{Branches}
 use Rattle.definition.specs.Search.{SearchInput, State, closeAt, crossOff, hasStoppingEvidence}
@@ -18,7 +17,7 @@ use Rattle.path_store.specs.Cells.{scoreOf, Inside, putCells}
 use Rattle.path_store.specs.Path.{Table, Rooted, edges}
 use Rattle.path_store.specs.Grow.{closedRow, Following}
 use Rattle.path_store.specs.Link.{Agrees}
-use Rattle.path_store.specs.View.{viewOf, closedOf, closed-edges, closed-length, closed-view}
+use Rattle.path_store.specs.View.{viewOf, closedOf, closed-length, closed-view}
 
 module _ (f : SearchInput) (ends : ℕ → Ends) (only to : List ℕ) (A : Agrees f only to ends) (t : List ℕ) (sc : List Float) (n : ℕ) (taken : Taken) (T : Table only to t sc n)
     (R : Rooted only to (f .source) t n) (I : Inside t sc n) (K : taken .path < n) (F : Following only to t (taken .path) taken) (bs : List Branches) (v : ℕ) (s : State Float) where

@@ -2,20 +2,20 @@
 -- their marks. The list of the definition is the edges in their order that are still marked.
 use mathlib.Core.Path.{_≡_, refl, sym, ap, _∙_}
 use mathlib.Core.Logic.{_⊎_, inl, inr, _≢_}
-use mathlib.Core.Bool.{Bool, true, false, cond}
+use mathlib.Core.Bool.{true, false}
 use mathlib.Core.List.{List, [], _∷_, _++_, map}
-use Prim.Native.Nat.{ℕ, zero, suc, _+_, _-_, _*_, _<_, _≤_}
+use Prim.Native.Nat.{ℕ, _+_, _-_, _<_, _≤_}
 use native.Mathlib.Decide.{ℕ-discrete}
 use native.Mathlib.Omega.{arith}
-use borrow.Author.Tests.{eq-eqb, ne-eqb, eqb-true, eqb-false, lt-ltb, le-ltb}
+use borrow.Author.Tests.{eq-eqb, ne-eqb}
 use lib.Dec.{eqb, ltb}
 use lib.ListN.{length, getD, set, length-set}
 use lib.Seq.{set-comm, getD-set-same, getD-set-other}
 use lib.Ieee.{Float}
 use Rattle.laws.specs.Lists.{keep, dropFirst}
-use Rattle.laws.specs.ListLaws.{All, nil, cons, all-head, all-tail, all-mono, all-keep}
+use Rattle.laws.specs.ListLaws.{All, cons, all-mono, all-keep}
 use Rattle.laws.specs.Finding.{drop-hit, drop-past, drop-map}
-use Rattle.laws.specs.BoolLaws.{Bool-cases, both-ways}
+use Rattle.laws.specs.BoolLaws.{Bool-cases}
 use Rattle.definition.specs.Threading.{Ends, eqEnds}
 use Rattle.definition.specs.Search.{SearchInput, crossOff}
 use Rattle.path_store.specs.Walk.{run, Runs, Graph, sole, next, run-zero, run-more, runs-now, runs-next, next-low}

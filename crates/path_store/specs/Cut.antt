@@ -2,20 +2,18 @@
 -- other, with no cut of its own.
 use mathlib.Core.Path.{_≡_, refl, sym, ap, _∙_}
 use mathlib.Core.Logic.{_⊎_, inl, inr}
-use mathlib.Core.Bool.{Bool, true, false}
-use mathlib.Core.List.{List, [], _∷_, _++_, append-assoc}
+use mathlib.Core.Bool.{true, false}
+use mathlib.Core.List.{List}
 use Prim.Native.Nat.{ℕ, zero, suc, _+_, _-_, _*_, _<_, _≤_}
 use native.Mathlib.Omega.{arith}
 use borrow.Author.Tests.{le-leb, lt-leb, leb-true, leb-false}
 use lib.Dec.{leb}
-use lib.ListN.{length, getD, take, length-append}
-use lib.Seq.{take-append-le, take-append-add, take-all, take-length}
+use lib.ListN.{length}
 use lib.Ieee.{Float}
 use Rattle.laws.specs.BoolLaws.{Bool-cases}
 use Rattle.path_store.specs.declared.growth.Cut.{Cut}
-use Rattle.path_store.specs.Walk.{run, Runs, next, sole, run-length, run-zero, runs-zero}
-use Rattle.path_store.specs.Cells.{parentOf, chainOf, edgeOf, countOf, endOf, Inside}
-use Rattle.path_store.specs.Path.{Table, edges, edges-up, edges-none, count-up, pieceOf, piece, piece-is, piece-length, lastEdge, last-short, Nat-cases}
+use Rattle.path_store.specs.Cells.{parentOf, chainOf, countOf, Inside}
+use Rattle.path_store.specs.Path.{Table, edges-none, Nat-cases}
 
 -- the count of edges before the record's own piece
 pub before : List ℕ → ℕ → ℕ

@@ -2,28 +2,26 @@
 -- the front of a path and an edge.
 use mathlib.Core.Path.{_≡_, refl, sym, ap, _∙_}
 use mathlib.Core.Logic.{_⊎_, inl, inr}
-use mathlib.Core.Bool.{Bool, true, false}
+use mathlib.Core.Bool.{true, false}
 use mathlib.Core.List.{List, [], _∷_, _++_, append-assoc, append-nil}
-use Prim.Native.Nat.{ℕ, zero, suc, _+_, _-_, _*_, _<_, _≤_}
+use Prim.Native.Nat.{ℕ, zero, suc, _+_, _-_, _<_, _≤_}
 use native.Mathlib.Numerals.{add-one}
 use native.Mathlib.Omega.{arith}
 use borrow.Author.Tests.{leb-true, leb-false}
 use lib.Dec.{leb}
-use lib.ListN.{length, getD, take, set, length-append, length-set}
+use lib.ListN.{length, take, set, length-set}
 use lib.Seq.{take-append-le, take-append-add, take-all}
 use lib.Ieee.{Float}
 use Rattle.laws.specs.BoolLaws.{Bool-cases}
-use Rattle.path_store.specs.declared.records.PathRecord.{PathRecord}
 use Rattle.path_store.specs.declared.growth.Taken.{Taken}
 use Rattle.path_store.specs.declared.growth.Extension.{Extension}
 use Rattle.path_store.specs.declared.growth.Cut.{Cut}
 use Rattle.path_store.specs.Walk.{chain, endFrom, run, after, Runs, Graph, sole, next, run-length, run-zero, runs-zero, end-nil}
-use Rattle.path_store.specs.Steps.{Chained}
-use Rattle.path_store.specs.Cells.{parentOf, chainOf, edgeOf, countOf, endOf, Inside, pathAt, putCells, put-length, put-other, put-at, put-read}
-use Rattle.path_store.specs.Path.{Table, Rooted, Right, Same, inside, edges, edges-up, edges-none, count-up, pieceOf, piece, piece-is, piece-length, piece-end, chain-end-at, lastEdge, last-short}
-use Rattle.path_store.specs.Push.{Fresh, Pushed, put-same}
+use Rattle.path_store.specs.Cells.{parentOf, chainOf, edgeOf, countOf, endOf, Inside, putCells, put-length, put-at}
+use Rattle.path_store.specs.Path.{Table, Rooted, Right, inside, edges, edges-up, edges-none, count-up, pieceOf, piece, piece-is, piece-length, piece-end, chain-end-at, lastEdge, last-short}
+use Rattle.path_store.specs.Push.{Fresh}
 use Rattle.path_store.specs.Cut.{before, ownerBy, ownerOf, cutAt, cutOf, Owned, owned, owner-here, owner-up, has-parent, before-some, table-links}
-use Rattle.path_store.specs.Grow.{startRow, extendedRow, closedRow, recoveredRow, joinedRow, Following}
+use Rattle.path_store.specs.Grow.{startRow, extendedRow, closedRow, recoveredRow, Following}
 
 -- the path of the edges es with its chain, and then the edge l - 1 where l is not 0
 pub longer : List ℕ → List ℕ → ℕ → List ℕ → ℕ → List ℕ

@@ -1,34 +1,32 @@
 -- What a caller carries along: a table of n paths that all start at the source. Each function's outcome keeps it, and the other paths stay what they are.
-use mathlib.Core.Path.{_≡_, refl, sym, ap, _∙_}
+use mathlib.Core.Path.{_≡_, refl, sym, ap}
 use mathlib.Core.Logic.{_⊎_, inl, inr, _≢_}
-use mathlib.Core.Bool.{Bool, true, false}
-use mathlib.Core.List.{List, [], _∷_, _++_, map}
-use Prim.Native.Nat.{ℕ, zero, suc, _+_, _-_, _*_, _<_, _≤_}
+use mathlib.Core.Bool.{true, false}
+use mathlib.Core.List.{List}
+use Prim.Native.Nat.{ℕ, _+_, _-_, _<_, _≤_}
 use native.Mathlib.Omega.{arith}
 use borrow.Author.Tests.{leb-true, leb-false, ltb-true, ltb-false}
 use lib.Dec.{leb, ltb}
-use lib.ListN.{length, getD, take, set}
+use lib.ListN.{length, set}
 use lib.Seq.{getD-set-other}
 use lib.Ieee.{Float, nan}
 use Rattle.laws.specs.BoolLaws.{Bool-cases}
 use Rattle.definition.specs.Threading.{Ends}
 use Rattle.definition.specs.Evidence.{Branches}
-use Rattle.definition.specs.Search.{SearchInput, Path}
+use Rattle.definition.specs.Search.{SearchInput}
 use Rattle.path_store.specs.declared.records.PathRecord.{PathRecord}
-use Rattle.path_store.specs.declared.growth.PathAnswer.{PathAnswer}
 use Rattle.path_store.specs.declared.growth.PathAnswer.the-variants.{Made, Refused}
 use Rattle.path_store.specs.declared.growth.Taken.{Taken}
 use Rattle.path_store.specs.declared.growth.Extension.{Extension}
 use Rattle.path_store.specs.Walk.{Graph}
-use Rattle.path_store.specs.Cells.{parentOf, joinedOf, treesOf, countOf, endOf, sinceOf, scoreOf, Inside, pathAt, putCells, put-other}
-use Rattle.path_store.specs.Path.{Table, Rooted, Same, edges}
-use Rattle.path_store.specs.Push.{Fresh, Pushed, pushed, pushed-rooted, put-same, edges-kept}
+use Rattle.path_store.specs.Cells.{treesOf, countOf, endOf, scoreOf, Inside, pathAt, putCells, put-other}
+use Rattle.path_store.specs.Path.{Table, Rooted, edges}
+use Rattle.path_store.specs.Push.{Fresh, pushed, pushed-rooted, put-same, edges-kept}
 use Rattle.path_store.specs.Cut.{cutOf}
 use Rattle.path_store.specs.Grow.{startRow, extendedRow, closedRow, recoveredRow, joinedRow, Following, Store, grow, Grown, join, Joined}
 use Rattle.path_store.specs.Extend.{started, started-rooted, extended-fresh, closed-fresh, recovered-fresh}
-use Rattle.path_store.specs.Visit.{visited}
 use Rattle.path_store.specs.View.{viewOf, closedOf, hasTree, view-kept, closed-kept}
-use Rattle.path_store.specs.Join.{Childless, joined-same, joined-scores, joined-table, joined-rooted, joined-apart}
+use Rattle.path_store.specs.Join.{Childless, joined-same, joined-table, joined-rooted, joined-apart}
 
 pub record Held (only to : List ℕ) (source : ℕ) (t : List ℕ) (sc : List Float) (n : ℕ) : Type 0 where
   pub table : Table only to t sc n

@@ -1,31 +1,31 @@
 -- A tree joins a taken path: its record changes in place, and no path but it sees that, since it has no children yet.
-use mathlib.Core.Path.{_≡_, refl, sym, ap, _∙_}
+use mathlib.Core.Path.{_≡_, sym, ap, _∙_}
 use mathlib.Core.Logic.{_⊎_, inl, inr, _≢_}
-use mathlib.Core.Bool.{Bool, true, false, not, _&&_}
-use mathlib.Core.List.{List, [], _∷_, _++_, map}
-use mathlib.Core.Option.{Option, none, some}
+use mathlib.Core.Bool.{Bool, true, false}
+use mathlib.Core.List.{List, [], _∷_, _++_}
+use mathlib.Core.Option.{none, some}
 use Prim.Native.Nat.{ℕ, zero, suc, _+_, _-_, _*_, _<_, _≤_}
 use native.Mathlib.Decide.{ℕ-discrete}
 use native.Mathlib.Numerals.{add-one}
 use native.Mathlib.Omega.{arith}
 use borrow.Author.Tests.{lt-ltb, le-ltb}
-use lib.Dec.{eqb, ltb}
-use lib.ListN.{length, getD, set, length-set, length-append}
+use lib.Dec.{eqb}
+use lib.ListN.{length, set}
 use lib.Seq.{set-getD}
 use lib.Ieee.{Float, nan}
 use Rattle.laws.specs.Lists.{any, keep}
 use Rattle.laws.specs.Records.{field}
 use Rattle.laws.specs.BoolLaws.{Bool-cases}
-use Rattle.definition.specs.Refusal.{Result, ok, refused}
+use Rattle.definition.specs.Refusal.{ok, refused}
 use Rattle.definition.specs.Threading.{Ends}
 use Rattle.definition.specs.Evidence.{Branches, hasBranch, treeAt}
-use Rattle.definition.specs.Search.{SearchInput, Path, joinTree}
+use Rattle.definition.specs.Search.{SearchInput, joinTree}
 use Rattle.path_store.specs.declared.records.PathRecord.{PathRecord}
-use Rattle.path_store.specs.Cells.{parentOf, countOf, endOf, sinceOf, joinedOf, treesOf, recoveredOf, scoreOf, Inside, pathAt, putCells, put-length, put-at, put-other, put-trees, put-recovered}
-use Rattle.path_store.specs.Path.{Table, Rooted, Same, edges, edges-same, inside, Nat-cases}
+use Rattle.path_store.specs.Cells.{parentOf, sinceOf, joinedOf, treesOf, recoveredOf, scoreOf, pathAt, putCells, put-length, put-at, put-other, put-recovered}
+use Rattle.path_store.specs.Path.{Table, Rooted, Same, edges, inside, Nat-cases}
 use Rattle.path_store.specs.Push.{edges-kept, table-kept, rooted-kept}
 use Rattle.path_store.specs.Grow.{joinedRow}
-use Rattle.path_store.specs.Visit.{verticesOf, joinedTo, visited, visited-same, visited-recovered, visited-start, visited-next}
+use Rattle.path_store.specs.Visit.{verticesOf, visited, visited-same, visited-recovered, visited-start, visited-next}
 use Rattle.path_store.specs.View.{viewOf, hasTree}
 
 -- no record has r for its parent

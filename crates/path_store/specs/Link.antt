@@ -1,10 +1,10 @@
 -- Edge numbers and the definition's edges: the chain, the vertices and the end of a path over `Ends` are those over numbers.
 use mathlib.Core.Path.{_≡_, refl, sym, ap, _∙_}
 use mathlib.Core.Logic.{_⊎_, inl, inr}
-use mathlib.Core.Bool.{Bool, true, false, _||_, _&&_, cond}
+use mathlib.Core.Bool.{Bool, true, false, _||_}
 use mathlib.Core.List.{List, [], _∷_, _++_, map, append-nil, map-append}
-use mathlib.Core.Option.{Option, none, some}
-use Prim.Native.Nat.{ℕ, zero, suc, _+_, _-_, _<_, _≤_}
+use mathlib.Core.Option.{none, some}
+use Prim.Native.Nat.{ℕ, zero, suc, _+_, _-_, _<_}
 use native.Mathlib.Omega.{arith}
 use lib.Dec.{eqb}
 use lib.ListN.{length, getD, take}
@@ -14,7 +14,6 @@ use Rattle.definition.specs.Threading.{Ends, Edge, eqEnds}
 use Rattle.definition.specs.Search.{SearchInput, onward, among}
 use Rattle.definition.specs.Search as defs
 use Rattle.path_store.specs.Walk.{Graph, times, endFrom, chain, chainFrom, any-append, any-one, any-nil, any-hit}
-use Rattle.path_store.specs.Path.{lastEdge}
 use Rattle.path_store.specs.Extend.{longer, longer-is}
 
 pub record On (f : SearchInput) (ends : ℕ → Ends) (v e : ℕ) : Type 0 where

@@ -1,16 +1,16 @@
 -- No edge is pivotal twice: an edge is listed when it is first seen, and is then among the visited ones. So the pivotal edges, as numbers, are distinct,
 -- which is what striking them out by marks asks (Cross).
-use mathlib.Core.Path.{_≡_, refl, sym, ap, _∙_}
-use mathlib.Core.Logic.{_⊎_, inl, inr, _≢_}
-use mathlib.Core.Bool.{Bool, true, false, not, _&&_, _||_, cond}
+use mathlib.Core.Path.{_≡_, refl, sym}
+use mathlib.Core.Logic.{_≢_}
+use mathlib.Core.Bool.{Bool, true, false, not, _&&_, cond}
 use mathlib.Core.List.{List, [], _∷_, _++_, map}
 use Prim.Native.Nat.{ℕ, zero, suc, _+_}
 use borrow.Author.Tests.{eq-eqb}
 use lib.Dec.{eqb, ltb}
 use lib.ListN.{length}
 use Rattle.laws.specs.Lists.{any, keep}
-use Rattle.laws.specs.ListLaws.{All, nil, cons, all-head, all-tail, all-append, all-mono, all-keep, all-passed, or-none, clash}
-use Rattle.laws.specs.BoolLaws.{Bool-cases, both-ways}
+use Rattle.laws.specs.ListLaws.{All, nil, cons, all-append, all-mono, all-passed, or-none, clash}
+use Rattle.laws.specs.BoolLaws.{both-ways}
 use Rattle.definition.specs.Threading.{Ends, eqEnds, Edge, leaving, supportOf}
 use Rattle.definition.specs.Search.{SearchInput, Queued, among, endsOf, pivotalOf, pivotalFrom, pivotalEdges, enqueueAll}
 use Rattle.definition.proofs.Tables.{Once}

@@ -4,15 +4,14 @@ use mathlib.Core.Logic.{_⊎_, inl, inr}
 use mathlib.Core.List.{List, [], _∷_, _++_}
 use Prim.Native.Nat.{ℕ, zero, suc, _+_, _-_, _*_, _<_, _≤_}
 use native.Mathlib.Nat.{eq-or-lt-of-le}
-use native.Mathlib.Numerals.{add-one}
 use native.Mathlib.Omega.{arith}
 use lib.ListN.{length, getD, set, length-append, length-set}
 use lib.Ieee.{Float}
 use Rattle.laws.specs.Records.{field}
 use Rattle.path_store.specs.declared.records.PathRecord.{PathRecord}
-use Rattle.path_store.specs.Walk.{endFrom, run, after, Runs, Graph, end-append}
+use Rattle.path_store.specs.Walk.{endFrom, after, Runs, Graph, end-append}
 use Rattle.path_store.specs.Steps.{after-low}
-use Rattle.path_store.specs.Cells.{parentOf, chainOf, edgeOf, countOf, endOf, forkOf, Inside, pathAt, putCells, put-length, put-other, put-at, put-read}
+use Rattle.path_store.specs.Cells.{parentOf, countOf, endOf, Inside, pathAt, putCells, put-length, put-other, put-at, put-read}
 use Rattle.path_store.specs.Path.{lastEdge, piece, piece-length, piece-end, chain-end-at, edges, edges-same, edges-next, Right, Table, Rooted, Same, table-rising}
 
 -- ---- a table whose first n records have the same parents, pieces, counts and ends

@@ -4,11 +4,10 @@ use mathlib.Core.Logic.{_⊎_, inl, inr}
 use mathlib.Core.Bool.{Bool, true, false, cond}
 use mathlib.Core.List.{List, [], _∷_, _++_, map}
 use mathlib.Core.Option.{Option, none, some}
-use Prim.Native.Nat.{ℕ, zero, suc, _+_, _-_, _*_, _<_, _≤_}
-use native.Mathlib.Numerals.{add-one}
+use Prim.Native.Nat.{ℕ, zero, suc, _+_, _-_, _<_, _≤_}
 use native.Mathlib.Omega.{arith}
 use borrow.Author.Tests.{eq-eqb, le-leb, lt-leb}
-use lib.Dec.{eqb, leb}
+use lib.Dec.{eqb}
 use lib.ListN.{length, getD, take, set}
 use lib.Ieee.{Float}
 use Rattle.laws.specs.Lists.{any, keep, findLast, position}
@@ -16,11 +15,11 @@ use Rattle.laws.specs.ListLaws.{All, nil, cons, all-append, all-findLast}
 use Rattle.laws.specs.BoolLaws.{Bool-cases}
 use Rattle.laws.specs.Finding.{position-hit, position-past, last-later, last-first, onSome}
 use Rattle.definition.specs.Threading.{Ends, eqEnds}
-use Rattle.definition.specs.Score.{Scoring, columnScoring}
-use Rattle.definition.specs.Search.{SearchInput, Path, Closed, State, Made, made, broken, greatest, verticesFrom, recover}
+use Rattle.definition.specs.Score.{columnScoring}
+use Rattle.definition.specs.Search.{SearchInput, Path, State, made, broken, greatest, verticesFrom, recover}
 use Rattle.path_store.specs.Walk.{Graph, run, Runs, sole, next}
 use Rattle.path_store.specs.Cells.{parentOf, chainOf, edgeOf, countOf, endOf, scoreOf, Inside, putCells}
-use Rattle.path_store.specs.Path.{Table, Right, edges, edges-none, edges-up, lastEdge, piece, piece-is, pieceOf, Nat-cases}
+use Rattle.path_store.specs.Path.{Table, edges, edges-none, edges-up, lastEdge, piece-is, pieceOf, Nat-cases}
 use Rattle.path_store.specs.Grow.{recoveredRow}
 use Rattle.path_store.specs.Link.{Agrees}
 use Rattle.path_store.specs.View.{viewOf, closedOf, recovered-view, recovered-length}

@@ -1,16 +1,16 @@
 -- Where a closed path is split: behind the first place of its last edge into the pivotal vertex. Over the edges written out, as numbers.
 use mathlib.Core.Path.{_≡_, refl, sym, ap, _∙_}
 use mathlib.Core.Logic.{_⊎_, inl, inr}
-use mathlib.Core.Bool.{Bool, true, false, cond}
+use mathlib.Core.Bool.{true, false}
 use mathlib.Core.List.{List, [], _∷_, _++_, map}
 use mathlib.Core.Option.{Option, none, some}
-use Prim.Native.Nat.{ℕ, zero, suc, _+_, _-_, _*_, _<_, _≤_}
+use Prim.Native.Nat.{ℕ, suc, _+_, _-_, _<_, _≤_}
 use native.Mathlib.Numerals.{add-one}
 use native.Mathlib.Omega.{arith}
 use borrow.Author.Tests.{eq-eqb, ne-eqb}
 use lib.Dec.{eqb}
 use lib.ListN.{length, getD, take, drop, drop-of-length-le}
-use lib.Seq.{take-suc, drop-cons, length-take-le, getD-take, take-take}
+use lib.Seq.{take-suc, drop-cons, length-take-le, getD-take}
 use Rattle.laws.specs.Lists.{findLast, position}
 use Rattle.laws.specs.ListLaws.{All, nil, cons, all-mono}
 use Rattle.laws.specs.BoolLaws.{Bool-cases}

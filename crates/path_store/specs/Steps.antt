@@ -1,15 +1,14 @@
 -- The loops over chains: what each keeps, and a law for each of its ways.
 use mathlib.Core.Path.{_≡_, refl, sym, ap, _∙_}
-use mathlib.Core.Bool.{Bool, true, false, _||_, cond}
-use mathlib.Core.List.{List, [], _∷_, _++_}
+use mathlib.Core.Bool.{true, false, cond}
+use mathlib.Core.List.{List}
 use Prim.Native.Nat.{ℕ, zero, suc, _+_, _-_, _<_, _≤_}
 use native.Mathlib.Numerals.{add-one}
 use native.Mathlib.Omega.{arith}
-use borrow.Author.Tests.{eq-eqb, ne-eqb}
 use lib.Dec.{eqb}
 use lib.ListN.{length, getD, set, length-set}
 use lib.Seq.{sets}
-use Rattle.laws.specs.Lists.{any, tally}
+use Rattle.laws.specs.Lists.{any}
 use Rattle.path_store.specs.Walk.{hits, chain, chainFrom, run, after, Runs, Graph, sole, next, run-zero, run-more, run-length, run-snoc, after-zero, after-more, runs-zero, runs-more, runs-now, runs-next, next-low, chain-end, chain-had, chain-on, chain-out, chain-plain, any-nil, hits-nil, hits-le, hits-step, any-hit, any-miss}
 
 module _ (only to : List ℕ) where

@@ -1,13 +1,12 @@
 -- A vertex where chains stop stands in a chain nowhere but at its end, so that a path's visits to it are counted without walking its chains.
 use mathlib.Core.Path.{_≡_, refl, sym, ap, _∙_}
-use mathlib.Core.Logic.{_⊎_, inl, inr}
 use mathlib.Core.Bool.{Bool, true, false, cond}
-use mathlib.Core.List.{List, [], _∷_}
+use mathlib.Core.List.{List, []}
 use Prim.Native.Nat.{ℕ, zero, suc, _+_, _-_, _<_, _≤_}
 use native.Mathlib.Omega.{arith}
 use borrow.Author.Tests.{ne-eqb, eqb-true}
 use lib.Dec.{eqb}
-use lib.ListN.{length, getD}
+use lib.ListN.{getD}
 use lib.Ieee.{Float}
 use Rattle.path_store.specs.Walk.{hits, run, after, Runs, sole, next, hits-nil, hits-step, hits-le}
 use Rattle.path_store.specs.Cells.{parentOf, chainOf, edgeOf, endOf, forkOf}

@@ -1,39 +1,33 @@
 -- A record as the definition's path, and what each function's tables say of it: the start path, an extension, a joined tree, a closed path, a recovered
 -- path, the repeat rule. `bs` are the active trees of the path, which another table holds.
 use mathlib.Core.Path.{_≡_, refl, sym, ap, _∙_}
-use mathlib.Core.Logic.{_⊎_, inl, inr, _≢_}
-use mathlib.Core.Bool.{Bool, true, false, not, _&&_, _||_, cond}
+use mathlib.Core.Bool.{Bool, false, not, _||_, cond}
 use mathlib.Core.List.{List, [], _∷_, _++_, map}
-use mathlib.Core.Option.{Option, none, some}
-use Prim.Native.Nat.{ℕ, zero, suc, _+_, _-_, _*_, _<_, _≤_}
-use native.Mathlib.Decide.{ℕ-discrete}
+use Prim.Native.Nat.{ℕ, suc, _+_, _-_, _<_, _≤_}
 use native.Mathlib.Numerals.{add-one}
 use native.Mathlib.Omega.{arith}
-use borrow.Author.Tests.{le-leb, lt-leb, lt-ltb, le-ltb}
-use lib.Dec.{eqb, leb, ltb}
-use lib.ListN.{length, getD, take, set, length-set, length-map}
-use lib.Seq.{getD-set-same, getD-set-other, set-getD}
+use borrow.Author.Tests.{le-leb, lt-leb}
+use lib.ListN.{length, take, set, length-map}
+use lib.Seq.{getD-set-same}
 use lib.Ieee.{Float, nan}
-use Rattle.laws.specs.Lists.{any, keep, tally, isSome, isEmpty}
-use Rattle.laws.specs.Records.{field}
-use Rattle.laws.specs.BoolLaws.{Bool-cases}
-use Rattle.definition.specs.Refusal.{Result, ok, refused}
-use Rattle.definition.specs.Threading.{Ends, Edge, eqEnds}
-use Rattle.definition.specs.Evidence.{Branches, hasBranch, treeAt}
-use Rattle.definition.specs.Search.{SearchInput, Path, Closed, walkTrees, lengthen, joinTree, repeatRule}
+use Rattle.laws.specs.Lists.{keep, isSome, isEmpty}
+use Rattle.definition.specs.Refusal.{ok, refused}
+use Rattle.definition.specs.Threading.{Ends}
+use Rattle.definition.specs.Evidence.{Branches, treeAt}
+use Rattle.definition.specs.Search.{SearchInput, Path, Closed, walkTrees, lengthen, repeatRule}
 use Rattle.definition.specs.Search as defs
 use Rattle.path_store.specs.declared.records.PathRecord.{PathRecord}
 use Rattle.path_store.specs.declared.growth.Taken.{Taken}
 use Rattle.path_store.specs.declared.growth.Extension.{Extension}
-use Rattle.path_store.specs.Walk.{Graph, times, endFrom, chain}
-use Rattle.path_store.specs.Cells.{parentOf, chainOf, edgeOf, countOf, endOf, sinceOf, joinedOf, treesOf, recoveredOf, scoreOf, Inside, pathAt, putCells, put-at, put-other, put-recovered, put-read}
-use Rattle.path_store.specs.Path.{Table, Rooted, Same, edges, edges-same, inside, piece, Nat-cases}
-use Rattle.path_store.specs.Push.{Fresh, Pushed, pushed, put-same}
+use Rattle.path_store.specs.Walk.{times, endFrom, chain}
+use Rattle.path_store.specs.Cells.{parentOf, countOf, endOf, sinceOf, joinedOf, scoreOf, Inside, putCells, put-at, put-recovered}
+use Rattle.path_store.specs.Path.{Table, Rooted, Same, edges, edges-same}
+use Rattle.path_store.specs.Push.{Fresh, pushed}
 use Rattle.path_store.specs.Cut.{cutOf}
-use Rattle.path_store.specs.Grow.{startRow, extendedRow, closedRow, recoveredRow, joinedRow, Following}
+use Rattle.path_store.specs.Grow.{startRow, extendedRow, closedRow, recoveredRow, Following}
 use Rattle.path_store.specs.Extend.{longer, started-edges, extended-fresh, closed-fresh, piece-longer, recovered-fresh, recovered-piece}
-use Rattle.path_store.specs.Visit.{verticesOf, joinedTo, visited, visitedBy, visited-same, visited-recovered, visited-start, visited-next, keeps, keeps-is}
-use Rattle.path_store.specs.Link.{Agrees, chain-same, end-same, targets-same, times-same, longer-same, closed-same, recovered-same}
+use Rattle.path_store.specs.Visit.{verticesOf, visited, visited-same, visited-recovered, visited-start, visited-next, keeps, keeps-is}
+use Rattle.path_store.specs.Link.{Agrees, end-same, targets-same, times-same, longer-same, closed-same, recovered-same}
 
 -- the vertices that have a tree
 abbrev pub hasTree : SearchInput → ℕ → Bool

@@ -2,17 +2,16 @@
 -- recovered path starts anew, with all its vertices that have a tree.
 use mathlib.Core.Path.{_≡_, refl, sym, ap, _∙_}
 use mathlib.Core.Logic.{_⊎_, inl, inr}
-use mathlib.Core.Bool.{Bool, true, false, _||_, cond}
-use mathlib.Core.List.{List, [], _∷_, _++_, map}
-use Prim.Native.Nat.{ℕ, zero, suc, _+_, _-_, _*_, _<_, _≤_}
+use mathlib.Core.Bool.{Bool, true, false, _||_}
+use mathlib.Core.List.{List, [], _∷_, map}
+use Prim.Native.Nat.{ℕ, zero, suc, _+_, _-_, _<_, _≤_}
 use native.Mathlib.Omega.{arith}
-use borrow.Author.Tests.{eq-eqb, ne-eqb, eqb-true, lt-ltb, le-ltb, ltb-true, ltb-false, le-leb, lt-leb}
+use borrow.Author.Tests.{eq-eqb, ne-eqb, eqb-true, lt-ltb}
 use lib.Dec.{eqb, ltb, leb}
-use lib.ListN.{length, getD}
+use lib.ListN.{getD}
 use lib.Ieee.{Float}
 use Rattle.laws.specs.Lists.{any, keep, tally}
-use Rattle.laws.specs.ListLaws.{clash}
-use Rattle.laws.specs.BoolLaws.{Bool-cases, both-ways, or-right}
+use Rattle.laws.specs.BoolLaws.{Bool-cases, both-ways}
 use Rattle.path_store.specs.Walk.{times}
 use Rattle.path_store.specs.Cells.{parentOf, endOf, sinceOf, joinedOf, recoveredOf, Inside}
 use Rattle.path_store.specs.Path.{edges, edges-same, Same, Table, table-front, inside, Nat-cases}

@@ -1,17 +1,15 @@
 -- The bases and the origins of a path, from its edges written out: loops that copy what a table tells of each edge.
 use mathlib.Core.Path.{_≡_, refl, sym, ap, _∙_}
-use mathlib.Core.Bool.{Bool}
 use mathlib.Core.List.{List, [], _∷_, _++_, map, map-append}
-use Prim.Native.Nat.{ℕ, zero, suc, _+_, _-_, _*_, _<_, _≤_}
+use Prim.Native.Nat.{ℕ, _+_, _-_, _<_, _≤_}
 use native.Mathlib.Numerals.{add-one}
 use native.Mathlib.Omega.{arith}
-use lib.ListN.{length, getD, take, set, length-map, length-set}
+use lib.ListN.{length, getD, take, set, length-map}
 use lib.Seq.{sets, take-suc, length-take-le, length-sets}
-use Rattle.laws.specs.Records.{field}
 use Rattle.laws.specs.Stores.{sets-more}
 use Rattle.laws.specs.ListLaws.{All, nil, cons}
-use Rattle.definition.specs.Threading.{Ends, Origin, Edge, Graph, lastBase}
-use Rattle.definition.specs.Listing.{pathBases, originAt}
+use Rattle.definition.specs.Threading.{Ends, Origin, Edge}
+use Rattle.definition.specs.Listing.{originAt}
 use Rattle.definition.specs.Search.{SearchInput}
 use Rattle.path_store.specs.Link.{Agrees}
 

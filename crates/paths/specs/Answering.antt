@@ -1,19 +1,18 @@
 -- The lines written from the columns of the call for the list are those that the definition prints.
 use mathlib.Core.Path.{_≡_, refl, sym, ap, subst, _∙_}
-use mathlib.Core.Bool.{Bool, true, false, not}
+use mathlib.Core.Bool.{false, not}
 use mathlib.Core.List.{List, [], _∷_, _++_}
-use mathlib.Core.Option.{Option, none, some}
+use mathlib.Core.Option.{Option, some}
 use Prim.Native.Nat.{ℕ, zero, suc, _+_, _*_, _<_, _≤_}
 use native.Mathlib.Nat.{mul-le-mul}
 use native.Mathlib.Omega.{arith}
 use lib.Dec.{T}
 use lib.ListN.{length, take, getD}
 use lib.Ieee.{Float, nan, isNan}
-use Rattle.laws.specs.ListLaws.{All, nil, cons, all-mono, all-zip}
+use Rattle.laws.specs.ListLaws.{All, cons, all-mono, all-zip}
 use Rattle.definition.specs.Refusal.{firstBroken}
 use Rattle.definition.specs.Limits.{Input, basesStride}
 use Rattle.definition.specs.Listing.{Row, Answer, refusal, listed, answer}
-use Rattle.definition.specs.Promises.{Spelled}
 use Rattle.definition.specs.Text.{Text, textOf, columnOf, textRules, graphMaxima, searchMaxima, firstLine, refusedLine, printedOf, printed}
 use Rattle.definition.proofs.Demand.{paths-spelled, no-nan, within-bounds}
 use Rattle.definition.proofs.Late.{no-zero}
@@ -21,7 +20,7 @@ use Rattle.list_call.specs.Lent.{toldOf, lentOf}
 use Rattle.list_work.specs.Outcome.{Outputs, Tables, outputsAfter, writtenList, summary}
 use Rattle.list_call.specs.Within.{lengthsOf, Called}
 use Rattle.list_work.specs.declared.ListAnswer.{ListAnswer}
-use Rattle.paths_text.specs.Listing.{Columns, Held, none-left, one-more, linesFrom, list-prints, list-most}
+use Rattle.paths_text.specs.Listing.{Columns, Held, one-more, linesFrom, list-prints, list-most}
 use Rattle.paths_text.specs.Lines.{refused-most}
 use Rattle.paths_text.specs.Rows.{Sized, held-listed}
 use Rattle.paths_text.specs.Sources.{Ready}

@@ -1,5 +1,5 @@
 -- Once the sink's free slot names the symbolic edge, the graph is as the walk asks: where the symbolic vertex has a record. Assumes nothing.
-use mathlib.Core.Path.{_≡_, sym, ap, _∙_}
+use mathlib.Core.Path.{_≡_}
 use mathlib.Core.List.{List}
 use Prim.Native.Nat.{ℕ, _+_, _*_, _<_, _≤_}
 use native.Mathlib.Omega.{arith}

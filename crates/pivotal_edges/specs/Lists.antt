@@ -1,12 +1,12 @@
 -- Listing: of a fork's out-edges that are not visited, those that are no reference edge of support 1, in order. Assumes nothing.
-use mathlib.Core.Path.{_≡_, refl, sym, ap, subst, _∙_}
-use mathlib.Core.Bool.{Bool, true, false, not, _&&_, _||_, cond}
+use mathlib.Core.Path.{_≡_, refl, sym, ap, _∙_}
+use mathlib.Core.Bool.{Bool, true, false, not, _&&_}
 use mathlib.Core.List.{List, [], _∷_, _++_, map, append-assoc, append-nil, map-append}
-use Prim.Native.Nat.{ℕ, zero, suc, _+_, _-_, _*_, _<_, _≤_}
+use Prim.Native.Nat.{ℕ, suc, _+_, _-_, _<_, _≤_}
 use native.Mathlib.Omega.{arith}
 use native.Mathlib.Numerals.{add-one}
 use lib.Dec.{ltb, eqb}
-use lib.ListN.{length, getD, set, take, drop, length-append, length-set}
+use lib.ListN.{length, getD, set, take, drop}
 use lib.Seq.{take-suc-set, drop-set-lt, drop-drop}
 use borrow.Author.Tests.{lt-ltb, le-ltb, eq-eqb, ne-eqb}
 use Rattle.laws.specs.Lists.{keep}
@@ -17,7 +17,7 @@ use Rattle.definition.specs.Search.{among, endsOf, pivotalOf}
 use Rattle.assembly.specs.Store.{edgeAt, edgesOf}
 use Rattle.assembly.specs.Outs.{Slots, Nexts, outFrom}
 use Rattle.pivotal_edges.specs.Queue.{endsAt}
-use Rattle.pivotal_edges.specs.Walk.{Here, Seen, fresh, leaving-from, next-is, next-none, next-some, next-in, next-again}
+use Rattle.pivotal_edges.specs.Walk.{Here, Seen, fresh, leaving-from, next-is, next-none, next-some, next-in}
 
 -- no reference edge of support 1
 abbrev pub counts : Edge → Bool

@@ -1,24 +1,24 @@
 -- Marking the out-edges of a vertex: those that were not visited join the visited ones. Assumes nothing.
-use mathlib.Core.Path.{_≡_, refl, sym, ap, subst, _∙_}
+use mathlib.Core.Path.{_≡_, refl, sym, ap, _∙_}
 use mathlib.Core.Logic.{_⊎_, inl, inr}
-use mathlib.Core.Bool.{Bool, true, false, not, _&&_, _||_, cond}
-use mathlib.Core.List.{List, [], _∷_, _++_, map}
-use Prim.Native.Nat.{ℕ, zero, suc, _+_, _-_, _*_, _<_, _≤_}
+use mathlib.Core.Bool.{Bool, true, false, not, _&&_, _||_}
+use mathlib.Core.List.{List, [], _∷_, _++_}
+use Prim.Native.Nat.{ℕ, _+_, _-_, _<_, _≤_}
 use native.Mathlib.Omega.{arith}
 use native.Mathlib.Decide.{ℕ-discrete, decLt}
 use lib.Dec.{ltb, eqb}
 use lib.ListN.{length, getD, set, drop, length-set}
 use lib.Seq.{getD-set-same, getD-set-other, drop-set-lt}
-use borrow.Author.Tests.{lt-ltb, le-ltb, eq-eqb, ne-eqb, eqb-true, ltb-true}
+use borrow.Author.Tests.{lt-ltb, le-ltb, eq-eqb, eqb-true}
 use Rattle.laws.specs.Lists.{keep, any}
 use Rattle.laws.specs.Records.{field}
 use Rattle.definition.specs.Threading.{Ends, Edge, eqEnds, leaving}
 use Rattle.definition.specs.Search.{among, endsOf}
 use Rattle.assembly.specs.Table.{Distinct, table}
 use Rattle.assembly.specs.Store.{edgeAt, edgesOf}
-use Rattle.assembly.specs.Outs.{Slots, Nexts, outFrom, has-table}
+use Rattle.assembly.specs.Outs.{Slots, Nexts, has-table}
 use Rattle.pivotal_edges.specs.Queue.{endsAt}
-use Rattle.pivotal_edges.specs.Walk.{Linked, Here, Seen, fresh, next-is, next-in}
+use Rattle.pivotal_edges.specs.Walk.{Here, Seen, fresh, next-is, next-in}
 
 -- ---- among
 eqEnds-same : (a b : Ends) → eqEnds a b ≡ true → (p : Ends → Bool) → p a ≡ p b

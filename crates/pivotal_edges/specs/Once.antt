@@ -1,9 +1,9 @@
 -- The edges stand in rising order of their ends, so no ends stand twice: what a caller needs to know that no edge is pivotal twice. Assumes nothing.
 use mathlib.Core.Path.{_≡_, sym}
-use mathlib.Core.Logic.{_⊎_, inl, inr}
-use mathlib.Core.Bool.{Bool, true, false, _&&_}
+use mathlib.Core.Logic.{inl, inr}
+use mathlib.Core.Bool.{false}
 use mathlib.Core.List.{List, [], _∷_}
-use Prim.Native.Nat.{ℕ, _<_, Ordering, Ordering·lt}
+use Prim.Native.Nat.{ℕ, Ordering·lt}
 use native.Mathlib.Omega.{arith}
 use borrow.Author.Tests.{eq-eqb, ne-eqb}
 use Rattle.laws.specs.ListLaws.{All, nil, cons}

@@ -1,8 +1,8 @@
 -- The queue: a list of numbers, each an edge's number with its distance from the source 8192 times; the part between two places is the definition's
 -- queue, in its order. Assumes nothing.
 use mathlib.Core.Path.{_≡_, refl, sym, ap, subst, _∙_}
-use mathlib.Core.Bool.{Bool, true, false, not}
-use mathlib.Core.List.{List, [], _∷_, _++_, map, append-assoc, append-nil}
+use mathlib.Core.Bool.{Bool, true, false}
+use mathlib.Core.List.{List, [], _∷_, _++_, append-assoc}
 use Prim.Native.Nat.{ℕ, zero, suc, _+_, _-_, _*_, _/_, _%_, _<_, _≤_, compare, Ordering, Ordering·lt, Ordering·eq, Ordering·gt}
 use native.Mathlib.Omega.{arith}
 use native.Mathlib.Numerals.{add-one}
@@ -10,12 +10,12 @@ use lib.Dec.{ltb}
 use lib.ListN.{length, getD, set, take, drop, length-append, length-set, length-drop}
 use lib.Seq.{sets, sets-eq, length-sets, take-at, take-suc, drop-cons, drop-append-le, drop-set-lt, take-set-lt, length-take-le, getD-take}
 use borrow.Author.Tests.{lt-ltb, le-ltb}
-use Rattle.laws.specs.ListLaws.{All, nil, cons, all-head, all-tail}
+use Rattle.laws.specs.ListLaws.{All, all-head, all-tail}
 use Rattle.laws.specs.Insertion.{insert, insert-past, insert-here}
-use Rattle.laws.specs.Numbers.{then, isGt, compare-lt, compare-eq, compare-gt, lt-compare, eq-compare, gt-compare}
+use Rattle.laws.specs.Numbers.{isGt, compare-lt, compare-eq, compare-gt, lt-compare, eq-compare, gt-compare}
 use Rattle.laws.specs.Records.{field}
-use Rattle.definition.specs.Threading.{Ends, Edge, compareEnds}
-use Rattle.definition.specs.Search.{Queued, earlier, enqueue}
+use Rattle.definition.specs.Threading.{Ends}
+use Rattle.definition.specs.Search.{Queued, earlier}
 use Rattle.assembly.specs.Store.{edgeAt}
 
 -- the ends of edge i

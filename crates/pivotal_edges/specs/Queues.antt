@@ -1,23 +1,21 @@
 -- Queueing the out-edges of a vertex that are not visited. Assumes nothing.
 use mathlib.Core.Path.{_≡_, refl, sym, ap, subst, _∙_}
-use mathlib.Core.Bool.{Bool, true, false, not, _&&_, _||_, cond}
-use mathlib.Core.List.{List, [], _∷_, _++_, map}
-use Prim.Native.Nat.{ℕ, zero, suc, _+_, _-_, _*_, _/_, _%_, _<_, _≤_}
+use mathlib.Core.Bool.{Bool, true, false}
+use mathlib.Core.List.{List, [], _∷_, map}
+use Prim.Native.Nat.{ℕ, _+_, _-_, _*_, _/_, _%_, _<_, _≤_}
 use native.Mathlib.Omega.{arith}
 use native.Mathlib.Decide.{ℕ-discrete}
-use lib.Dec.{ltb, eqb}
 use lib.ListN.{length, getD, drop}
 use borrow.Author.Tests.{lt-ltb, le-ltb}
-use Rattle.laws.specs.Lists.{keep}
-use Rattle.laws.specs.ListLaws.{All, nil, cons, all-mono}
+use Rattle.laws.specs.ListLaws.{All, all-mono}
 use Rattle.laws.specs.Insertion.{insert, insert-past, insert-here, all-insert}
 use Rattle.laws.specs.Records.{field}
 use Rattle.definition.specs.Threading.{Ends, Edge, leaving}
 use Rattle.definition.specs.Search.{among, Queued, earlier, enqueue, enqueueAll}
 use Rattle.assembly.specs.Store.{edgeAt, edgesOf}
 use Rattle.assembly.specs.Outs.{Slots, Nexts, outFrom}
-use Rattle.pivotal_edges.specs.Queue.{endsAt, queuedAt, before, part, Fits, Known, Enqueued}
-use Rattle.pivotal_edges.specs.Walk.{Linked, Here, Seen, fresh, leaving-from, next-is, next-none, next-some, next-in}
+use Rattle.pivotal_edges.specs.Queue.{endsAt, queuedAt, before, part, Known, Enqueued}
+use Rattle.pivotal_edges.specs.Walk.{Here, Seen, fresh, leaving-from, next-is, next-none, next-some, next-in}
 
 -- the definition's queue
 abbrev pub view : List ℕ → List ℕ → ℕ → ℕ → List Queued

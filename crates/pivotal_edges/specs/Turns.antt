@@ -11,7 +11,7 @@ use lib.ListN.{length, getD, take, drop}
 use lib.Seq.{drop-drop}
 use borrow.Author.Tests.{le-ltb}
 use Rattle.laws.specs.Lists.{keep}
-use Rattle.laws.specs.ListLaws.{All, nil, cons, Mem, all-head, all-tail, all-mono, all-self, all-from, keep-all, mem-map}
+use Rattle.laws.specs.ListLaws.{All, nil, all-head, all-tail, all-mono, all-from, keep-all, mem-map}
 use Rattle.laws.specs.Records.{field}
 use Rattle.definition.specs.Threading.{Ends, Edge, leaving}
 use Rattle.definition.specs.Search.{SearchInput, among, endsOf, Queued, enqueueAll, pivotalOf, pivotalFrom, pivotalEdges}

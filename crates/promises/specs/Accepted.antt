@@ -1,18 +1,17 @@
 -- An accepted call for the list: the definition has made a list, the slices are long enough for it, and the rows read off them are its rows. Assumes nothing.
 use mathlib.Core.Path.{_≡_, refl, ap, _∙_}
-use Prim.Native.Nat.{ℕ, suc, _+_, _*_, _≤_}
+use Prim.Native.Nat.{ℕ, suc, _≤_}
 use native.Mathlib.Omega.{arith}
-use mathlib.Core.Bool.{Bool, true, false, _&&_}
-use mathlib.Core.List.{List, [], _∷_}
+use mathlib.Core.Bool.{Bool, true, false}
+use mathlib.Core.List.{List, _∷_}
 use lib.Dec.{leb}
-use lib.ListN.{length}
 use lib.Ieee.{Float}
 use borrow.Author.Tests.{leb-true}
 use Rattle.laws.specs.ListLaws.{and-left, and-right, All, all-mono, all-zip}
 use Rattle.definition.specs.Refusal.{Rule, firstBroken}
 use Rattle.definition.specs.Limits.{Input, longEnough, basesStride, toldBases, toldOrigins, listTold, sampleRules, listRules}
 use Rattle.definition.specs.Listing.{Row, Answer, refusal, listed, answer}
-use Rattle.definition.specs.Calls.{ListSlices, ListOutcome, listOutcome, listLent, listCall}
+use Rattle.definition.specs.Calls.{ListSlices, listOutcome, listLent, listCall}
 use Rattle.definition.specs.Promises.{Spelled}
 use Rattle.definition.proofs.Bounds.{Bounded}
 use Rattle.definition.proofs.Checks.{passed}

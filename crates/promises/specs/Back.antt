@@ -12,7 +12,7 @@ use Rattle.laws.specs.ListLaws.{All, nil, cons, all-map, all-mono, part-part}
 use Rattle.definition.specs.Limits.{Input, basesStride}
 use Rattle.definition.specs.Threading.{Origin}
 use Rattle.definition.specs.Listing.{Row}
-use Rattle.definition.specs.Calls.{writtenAt, writtenRows, PathRow, pathRow, ListSlices, listedSlices}
+use Rattle.definition.specs.Calls.{writtenAt, writtenRows, pathRow, ListSlices, listedSlices}
 use Rattle.promises.specs.Reading.{noRecord, originsOf, rowBeside, readRow, readFrom, readRows}
 
 -- ---- rows that lie one behind the other

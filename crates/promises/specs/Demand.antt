@@ -8,12 +8,11 @@ use Rattle.laws.specs.Lists.{keep}
 use Rattle.laws.specs.ListLaws.{All}
 use Rattle.definition.specs.Limits.{Input, listTold}
 use Rattle.definition.specs.Listing.{Row}
-use Rattle.definition.specs.Calls.{ListSlices, ListAnswer, ListOutcome, listOutcome, listLent, listCall}
+use Rattle.definition.specs.Calls.{ListSlices, ListAnswer, listOutcome, listLent, listCall}
 use Rattle.definition.specs.Promises.{Spelled, NoneOutscores, AllElseEqual}
-use Rattle.definition.proofs.Bounds.{Bounded}
 use Rattle.definition.proofs.Demand.{demand-3a, demand-3b}
 use Rattle.promises.specs.Reading.{readRows, readList}
-use Rattle.promises.specs.Accepted.{Made, made, bounded, outcome, rows-read}
+use Rattle.promises.specs.Accepted.{made, bounded, outcome, rows-read}
 
 -- ---- the promises
 

@@ -8,8 +8,7 @@ use Prim.Native.Nat.{ℕ, suc, _+_, _-_, _*_, _<_, _≤_}
 use native.Mathlib.Omega.{arith}
 use native.Mathlib.Decide.{ℕ-discrete, decLt}
 use lib.Dec.{leb, eqb}
-use lib.ListN.{length, getD, take, List·getD-eq-default}
-use lib.Seq.{length-take-le}
+use lib.ListN.{length, getD, List·getD-eq-default}
 use borrow.Author.Tests.{leb-true, eq-eqb, ne-eqb}
 use Rattle.laws.specs.Lists.{sole, isSome}
 use Rattle.laws.specs.ListLaws.{clash, or-none, and-left, and-right, All, nil, cons}
@@ -40,11 +39,9 @@ use Rattle.pivotal_edges.specs.Walk.{Linked, leaving-from}
 use Rattle.pivotal_edges.specs.Links.{linked-of}
 use Rattle.path_store.specs.Link.{Agrees}
 use Rattle.fork_offers.specs.Actives.{Least}
-use Rattle.fork_offers.specs.Real.{Fork}
 use Rattle.search_state.specs.declared.Setting.{Setting}
 use Rattle.search_state.specs.Ground.{Ground, nameOf}
 use Rattle.search_ground.specs.Tables.{Tables, Tabled, Sole}
-use Rattle.search_ground.specs.Exact.{built-exact}
 
 -- ---- what the rules give
 

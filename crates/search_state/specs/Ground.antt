@@ -2,11 +2,11 @@
 use mathlib.Core.Path.{_≡_}
 use mathlib.Core.List.{List}
 use mathlib.Core.Option.{none, some}
-use Prim.Native.Nat.{ℕ, _+_, _*_, _<_, _≤_}
+use Prim.Native.Nat.{ℕ, _*_, _<_, _≤_}
 use lib.ListN.{length}
 use Rattle.laws.specs.Lists.{total}
 use Rattle.laws.specs.Records.{field}
-use Rattle.definition.specs.Threading.{Ends, Edge, supportOf, leaving}
+use Rattle.definition.specs.Threading.{Ends, supportOf, leaving}
 use Rattle.definition.specs.Evidence.{Branches, treeAt}
 use Rattle.definition.specs.Search.{SearchInput}
 use Rattle.definition.proofs.Counts.{Small}

@@ -10,7 +10,7 @@ use Rattle.laws.specs.Records.{field}
 use Rattle.definition.specs.Threading.{Ends}
 use Rattle.threading_tree.specs.Ends.{eqEnds-false}
 use Rattle.definition.specs.Evidence.{Walk, takeEdge}
-use Rattle.threading_tree.specs.Nodes.{Nodes, node, At, here, down, along, Rising, Fields}
+use Rattle.threading_tree.specs.Nodes.{Nodes, At, here, down, along, Rising, Fields}
 use Rattle.threading_tree.specs.Table.{snoc-front}
 use Rattle.threading_tree.specs.Good.{Good, own-at, at-live}
 use Rattle.threading_tree.specs.Walks.{Group, onward, raise, Same, same-take}

@@ -1,5 +1,5 @@
 -- Numbers of the code that fit their types: an index of a slice, the next turn of a loop.
-use Prim.Native.Nat.{ℕ, _+_, _*_, _^_, _<_}
+use Prim.Native.Nat.{ℕ, _+_, _^_, _<_}
 use native.Mathlib.Omega.{arith}
 use mir.Val.{Fits}
 use mathlib.Core.Path.{_≡_}

@@ -8,7 +8,7 @@ use lib.ListN.{length, getD, length-append, replicate}
 use Rattle.definition.specs.Threading.{Ends}
 use Rattle.definition.specs.Evidence.{Walk, takeEdge, openTree, nodes}
 use Rattle.threading_tree.specs.Ends.{ends}
-use Rattle.threading_tree.specs.Nodes.{Nodes, nil, node, erase, size, reachN, takeN, At, Rising, Links, Own, at-take, rising-take, takeN-here}
+use Rattle.threading_tree.specs.Nodes.{Nodes, nil, erase, size, reachN, takeN, At, Rising, Links, Own, at-take, rising-take, takeN-here}
 use Rattle.threading_tree.specs.Good.{Good}
 use Rattle.threading_tree.specs.Slots.{cols, told, zero-kid, zero-count}
 use Rattle.threading_tree.specs.Forest.{forest, rootPath}

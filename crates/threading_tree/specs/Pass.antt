@@ -6,8 +6,8 @@ use mathlib.Core.Bool.{Bool, true, false, cond}
 use mathlib.Core.List.{List}
 use native.Mathlib.Omega.{arith}
 use native.Mathlib.Decide.{ℕ-discrete}
-use lib.Dec.{eqb, ltb}
-use borrow.Author.Tests.{eq-eqb, ne-eqb, lt-ltb, le-ltb}
+use lib.Dec.{eqb}
+use borrow.Author.Tests.{eq-eqb, ne-eqb}
 use lib.ListN.{length}
 use Rattle.definition.specs.Threading.{Ends, Edge, leaving}
 use Rattle.definition.specs.Evidence.{Walk, opens, takeEdge, openTree, pass, nodes}
@@ -16,7 +16,7 @@ use Rattle.threading_tree.specs.Slots.{told, Beyond}
 use Rattle.threading_tree.specs.Take.{Packable}
 use Rattle.threading_tree.specs.All.{Walking, TookAll}
 use Rattle.threading_tree.specs.Join.{Joinable, JoinedTo}
-use Rattle.threading_tree.specs.Held.{HeldWalk, held-room, held-roots, held-under, held-few, held-walking, held-takes, held-full, held-joinable, held-opens, held-turned}
+use Rattle.threading_tree.specs.Held.{HeldWalk, held-roots, held-under, held-few, held-walking, held-takes, held-full, held-joinable, held-opens, held-turned}
 use Rattle.threading_tree.specs.Grows.{many, take-edge-grows, open-many}
 use Rattle.threading_tree.specs.declared.ThreadingState as TS
 use Rattle.threading_tree.specs.declared.Grown.{Grown}

@@ -5,8 +5,8 @@ use Prim.Native.Nat.{ℕ, zero, suc, _+_, _*_, _-_, _<_, _≤_}
 use mathlib.Core.List.{List, [], _∷_}
 use native.Mathlib.Omega.{arith}
 use native.Mathlib.Decide.{ℕ-discrete}
-use lib.ListN.{length, getD, drop, length-set, length-drop}
-use lib.Seq.{getD-set-other, getD-drop, ext-getD}
+use lib.ListN.{length, getD, length-set}
+use lib.Seq.{getD-set-other}
 use Rattle.laws.specs.Records.{field, putField, putFrom, field-same, field-other, row-other, length-putFrom, putFrom-row, putFrom-at}
 use Rattle.threading_tree.specs.Ends.{ends}
 use Rattle.threading_tree.specs.Nodes.{Fields}

@@ -1,6 +1,6 @@
 use mathlib.Core.Path.{_≡_, refl, sym, _∙_}
 use native.Mathlib.Omega.{arith}
-use Rattle.junction_tree_graph.specs.Backs.{back-none, backs-vertex, backs-many, backs-pos, backs-room, backs-gain, backs-next, backs-on}
+use Rattle.junction_tree_graph.specs.Backs.{back-none, backs-many, backs-pos, backs-room, backs-gain, backs-next, backs-on}
 use Prim.Native.Nat.{ℕ, _<_}
 use borrow.Fn.Kinds.{In}
 use borrow.Fn.PlainCycle.{Measures, is, falls, and}

@@ -4,7 +4,7 @@ use Prim.Native.Nat.{_-_, _≤_, _*_, _+_, _/_, _%_}
 use native.Mathlib.Omega.{arith}
 use lib.ListN.{length, getD, length-append}
 use Rattle.assembly.specs.Store.{code}
-use Rattle.junction_tree_graph.specs.Steps.{originOf, ext-gets, ext-in, ext-gain, ext-known, ext-full, ext-stop, ext-adds, ext-new}
+use Rattle.junction_tree_graph.specs.Steps.{originOf, ext-gets, ext-gain, ext-known, ext-full, ext-stop, ext-adds, ext-new}
 use borrow.Author.Needs.{needs}
 use Rattle.junction_tree_graph.proofs.extend_chain_by_one.Statement.{statement}
 use Rattle.junction_tree_graph.proofs.extend_chain_by_one.Tie as tie
