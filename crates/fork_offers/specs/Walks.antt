@@ -90,6 +90,8 @@ pub record Walkable (cap n : ℕ) (x a : List ℕ) (at end to : ℕ) : Type 0 wh
   pub active : Active cap n x a at end
   pub apart : (to ≤ at) ⊎ (end ≤ to)
   pub room : to + (end - at) ≤ length a
+  -- a slot fits in 16 bits
+  pub few : cap < 2 ^ 16
 
 -- r trees are left, from `to` on; no other place has changed but those that the trees may need
 pub record Walked (cap n : ℕ) (x a a' : List ℕ) (at end to : ℕ) (e : Ends) (r : ℕ) : Type 0 where
@@ -105,6 +107,7 @@ pub record Walking (cap n : ℕ) (x a a' : List ℕ) (at end to : ℕ) (e : Ends
   pub run : (bs : List Branches) → Actives cap n x a at end bs → done ++ walkTrees e (rest .branches) ≡ walkTrees e bs
   pub apart : (to ≤ at) ⊎ (end ≤ to)
   pub room : to + (end - at) ≤ length a'
+  pub few : cap < 2 ^ 16
   pub long : length a' ≡ length a
   pub from : at ≤ i
   pub start : to ≤ j
@@ -134,6 +137,7 @@ module _ (cap n : ℕ) (x a : List ℕ) (at end to : ℕ) (e : Ends) where
         run = λ bs h. ap (walkTrees e) (actives-one cap n x a at end (p .active .branches) bs (p .active .stands) h);
         apart = p .apart;
         room = p .room;
+        few = p .few;
         long = refl;
         from = omega arith;
         start = omega arith;
@@ -194,16 +198,16 @@ module _ (cap n : ℕ) (x a : List ℕ) (at end to : ℕ) (e : Ends) where
         leads : Leads n x (cols x .kid s) (first .head)
         leads = subst (λ (d : ℕ). Leads n x (cols x .kid d) (first .head)) (sym hs) (first .leads)
 
-        pub walking-small : c < 2 ^ 32
+        pub walking-small : c < 2 ^ 16
         unfolding first leads
         walking-small = go (ℕ-discrete c 0)
           where
-            go : Dec (c ≡ 0) → c < 2 ^ 32
+            go : Dec (c ≡ 0) → c < 2 ^ 16
             go (yes z) = omega arith
             go (no z) =
                 let q = hc .there (first .head) leads z .0 in
                 let r = k .rest .stands .room in
-                let w = k .rest .stands .wide .few in
+                let w = k .few in
                 omega arith
 
         module _ (a'' : List ℕ) (j' : ℕ) (st : Stored a' a'' j c j') where
@@ -221,6 +225,7 @@ module _ (cap n : ℕ) (x a : List ℕ) (at end to : ℕ) (e : Ends) where
                     ∙ k .run bs h;
                 apart = k .apart;
                 room = k .room;
+                few = k .few;
                 long = k .long;
                 from = omega arith;
                 start = k .start;
@@ -263,6 +268,7 @@ module _ (cap n : ℕ) (x a : List ℕ) (at end to : ℕ) (e : Ends) where
                     ∙ ap (λ (d : List Branches). k .done ++ d) (sym (ap (walkTrees e) (first .is) ∙ walk-keep e (first .head) (first .tail) (w .2))) ∙ k .run bs h;
                 apart = k .apart;
                 room = omega arith;
+                few = k .few;
                 long = len ∙ k .long;
                 from = omega arith;
                 start = omega arith;

@@ -40,12 +40,19 @@ pub fn least_total(threshold: i32) -> usize
     threshold as usize
 }
 
+// A slot as a number; it is kept in 16 bits.
+fn wide_slot(s: u16) -> usize
+    ensures { λ r. ⌜ r ≡ s ⌝ }
+{
+    s as usize
+}
+
 // The slot of the active tree at place i.
-fn active_slot(active: &[u32], i: usize) -> usize
+fn active_slot(active: &[u16], i: usize) -> usize
     requires { ⌜ i < length (now active) ⌝ }
     ensures { λ r. ⌜ r ≡ getD (now (active .entry)) i 0 ⌝ }
 {
-    wide(active[i])
+    wide_slot(active[i])
 }
 
 // At the sink: no active tree reaches the threshold, or it or an earlier one offers the symbolic edge (a, b). `least` is the least total that
@@ -54,7 +61,7 @@ pub fn has_stopping_evidence(
     nodes: &[u32],
     n: usize,
     cap: usize,
-    active: &[u32],
+    active: &[u16],
     at: usize,
     count: usize,
     a: u32,
@@ -98,14 +105,14 @@ fn walk_tree(nodes: &[u32], n: usize, cap: usize, s: usize, a: u32, b: u32) -> u
 }
 
 // A slot that is not 0 is stored at place j; the answer is the next place to store at.
-fn store_slot(active: &mut [u32], j: usize, s: usize) -> usize
-    requires { ⌜ (j < length (now active)) × (s < 2 ^ 32) ⌝ }
+fn store_slot(active: &mut [u16], j: usize, s: usize) -> usize
+    requires { ⌜ (j < length (now active)) × (s < 2 ^ 16) ⌝ }
     ensures { λ r. ⌜ Stored (now (active .entry)) (now (active .exit)) j s r ⌝ }
 {
     if s == 0 {
         return j;
     }
-    active[j] = s as u32;
+    active[j] = s as u16;
     j + 1
 }
 
@@ -114,7 +121,7 @@ pub fn walk_trees(
     nodes: &[u32],
     n: usize,
     cap: usize,
-    active: &mut [u32],
+    active: &mut [u16],
     at: usize,
     count: usize,
     to: usize,
@@ -447,7 +454,7 @@ pub fn applicable_next_edges(
     nodes: &[u32],
     n: usize,
     cap: usize,
-    active: &[u32],
+    active: &[u16],
     at: usize,
     count: usize,
     v: usize,
