@@ -181,11 +181,11 @@ module _ (f : SearchInput) (g : Setting) (vs es x only to : List ℕ) (bs : ℕ 
         ap (λ (d : ℕ). any (eqb v) (seen only to d t r)) (sym (J .ground .source))
         ∙ seen-visited (hasTree f) only to (f .source) v (rw (tree .is)) t r
 
-    pub joining-small : s < 4294967296
+    pub joining-small : s < 65536
     joining-small =
         let a = tree .live in
         let b = J .ground .nodes in
-        let c = J .ground .wide .few in
+        let c = J .ground .cap-fits in
         let d = at-root in
         omega arith
 
@@ -381,7 +381,7 @@ module _ (g : Setting) (vs x only to t : List ℕ) (sc : List Float) (ac : List 
                 let b = trees in
                 omega arith
 
-            pub added-small : Joins g vs x only to t sc ac taken → s < 4294967296
+            pub added-small : Joins g vs x only to t sc ac taken → s < 65536
             added-small P = joining-small (P .input) g vs (P .edges) x only to (P .branches) t sc ac (P .count) taken (P .all) s here ne
 
             pub added-made : (i : ℕ) (ac′ : List ℕ) → ac′ ≡ set ac (taken .path * g .active + row .trees) s → TreeAdded g vs x only to t sc ac taken (Made i) t′ sc′ ac′

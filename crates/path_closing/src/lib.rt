@@ -38,12 +38,12 @@ fn joining_slot(vertices: &[u32], nodes: &[u32], v: usize) -> usize
 }
 
 // The slot s is stored as the next of the active trees of a path that has `trees` of them; each path has places for `most`.
-fn store_tree(active: &mut [u32], path: u32, most: usize, trees: u32, s: usize)
-    requires { ⌜ (path * most + trees < length (now active)) × (s < 4294967296) ⌝ }
+fn store_tree(active: &mut [u16], path: u32, most: usize, trees: u32, s: usize)
+    requires { ⌜ (path * most + trees < length (now active)) × (s < 65536) ⌝ }
     ensures { λ _. ⌜ now (active .exit) ≡ set (now (active .entry)) (path * most + trees) s ⌝ }
 {
     let at = wide(path) * most + wide(trees);
-    active[at] = s as u32;
+    active[at] = s as u16;
 }
 
 // The tree at the vertex that the path leads to joins it, unless the path has visited it or it has no branch; more active trees than the maximum is 11.
@@ -54,7 +54,7 @@ pub fn add_junction_tree(
     to: &[u32],
     paths: &mut [u32],
     scores: &mut [f64],
-    active: &mut [u32],
+    active: &mut [u16],
     g: Setting,
     taken: Taken,
 ) -> PathAnswer
@@ -84,7 +84,7 @@ fn shut_path(
     nodes: &[u32],
     paths: &mut [u32],
     scores: &mut [f64],
-    active: &[u32],
+    active: &[u16],
     shut: &mut [u32],
     g: Setting,
     taken: Taken,
@@ -133,7 +133,7 @@ pub fn close_at_sink(
     to: &[u32],
     paths: &mut [u32],
     scores: &mut [f64],
-    active: &[u32],
+    active: &[u16],
     shut: &mut [u32],
     marks: &mut [u32],
     g: Setting,

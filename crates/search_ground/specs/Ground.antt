@@ -286,9 +286,9 @@ module _ (i : Input) {vs₂ es : List ℕ} {n m sink : ℕ} (rules : firstBroken
           on = λ v e h. record { edge = edgeAt es e; is = goes v e h; name = refl };
         }
 
-    pub ground-of : (least : ℕ) → Least (i .threshold) least → Ground (searchInput i (builtFor (i .sample))) (settingFor i n m sink c cap least) vs es x only to
+    pub ground-of : (least : ℕ) → Least (i .threshold) least → cap ≤ 16384 → Ground (searchInput i (builtFor (i .sample))) (settingFor i n m sink c cap least) vs es x only to
     unfolding searchInput symbolicOf
-    ground-of least l =
+    ground-of least l cap-low =
         let r = ruled s rules in
         let k = fits-of s rules in
         let u = settled i fit in
@@ -303,6 +303,7 @@ module _ (i : Input) {vs₂ es : List ℕ} {n m sink : ℕ} (rules : firstBroken
           sink = sym (at .sink-is);
           sink-in = (let a = at .inside in let b = lies .places in omega arith);
           nodes = there .held .room;
+          cap-fits = cap-low;
           wide = there .held .wide;
           tree = λ v h z. (let w = a-tree v z in record { below = w .below; is = w .is; live = w .live; leads = w .leads });
           no-tree = λ v h z. no-tree v z;

@@ -44,6 +44,7 @@ pub record Ground (f : SearchInput) (g : Setting) (vs es x only to : List ℕ) :
   pub sink-in : g .sink < length only
   -- the trees
   pub nodes : g .nodes ≤ g .cap
+  pub cap-fits : g .cap ≤ 16384
   pub wide : Wide (g .cap) x
   pub tree : (v : ℕ) → v < length only → (field vs 12 v 11 ≡ 0 → ⊥) → TreeIn f x (g .nodes) (field vs 12 v 11) v
   pub no-tree : (v : ℕ) → v < length only → field vs 12 v 11 ≡ 0 → treeAt (f .trees) v ≡ none
