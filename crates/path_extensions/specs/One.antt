@@ -177,6 +177,7 @@ module _ (g : Setting) (es x only to t : List ℕ) (sc : List Float) (ac : List 
           active = record { branches = bs (taken .path); stands = stood };
           apart = inr (before (taken .path) (H .known));
           room = omega arith;
+          few = omega (arith, H .ground .cap-fits);
         }
 
     module _ (i k j : ℕ) (ei : i ≡ taken .path * g .active) (ek : k ≡ treesOf t (taken .path)) (ej : j ≡ n * g .active) where
