@@ -34,7 +34,7 @@ pub fn write_list(
     k: usize,
     most: usize,
     walks: &mut [u32],
-    rank: &mut [u32],
+    rank: &mut [u16],
     scored: &mut [f64],
     closings: &mut [u32],
     lengths: &mut [u32],

@@ -95,6 +95,13 @@ fn stands_above(
     )
 }
 
+// The number of a closed path; it is kept in 16 bits.
+fn wide_number(x: u16) -> usize
+    ensures { λ r. ⌜ r ≡ x ⌝ }
+{
+    x as usize
+}
+
 // The closed path x goes in front of the first that does not stand above it, among those from place x + 1 on; those passed move up by one.
 fn insert_path(
     reference: &[u8],
@@ -109,7 +116,7 @@ fn insert_path(
     most: usize,
     count: usize,
     x: usize,
-    rank: &mut [u32],
+    rank: &mut [u16],
 )
     requires { ⌜ Ready (lists (now reference ++ now bases) (now vertices) (now edges) (now paths) (now scores) (now shut) (now walks) k most) count × Inserts count x (now rank) ⌝ }
     ensures { λ _. ⌜ Inserted (aboveAt (lists (now (reference .entry) ++ now (bases .entry)) (now (vertices .entry)) (now (edges .entry)) (now (paths .entry)) (now (scores .entry)) (now (shut .entry)) (now (walks .entry)) k most)) count x (now (rank .entry)) (now (rank .exit)) ⌝ }
@@ -129,16 +136,16 @@ fn insert_path(
             k,
             most,
             count,
-            wide(y),
+            wide_number(y),
             x,
         ) {
-            rank[j - 1] = x as u32;
+            rank[j - 1] = x as u16;
             return;
         }
         rank[j - 1] = y;
         j += 1;
     }
-    rank[j - 1] = x as u32;
+    rank[j - 1] = x as u16;
 }
 
 // The numbers of the closed paths, from 0, in the list's order.
@@ -154,7 +161,7 @@ pub fn rank_paths(
     k: usize,
     most: usize,
     count: usize,
-    rank: &mut [u32],
+    rank: &mut [u16],
 )
     requires { ⌜ Ready (lists (now reference ++ now bases) (now vertices) (now edges) (now paths) (now scores) (now shut) (now walks) k most) count × (count ≤ length (now rank)) ⌝ }
     ensures { λ _. ⌜ Ranked (aboveAt (lists (now (reference .entry) ++ now (bases .entry)) (now (vertices .entry)) (now (edges .entry)) (now (paths .entry)) (now (scores .entry)) (now (shut .entry)) (now (walks .entry)) k most)) count 0 (now (rank .exit)) ⌝ }

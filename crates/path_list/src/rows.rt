@@ -17,7 +17,7 @@ pub fn write_columns(
     paths: &[u32],
     scores: &[f64],
     shut: &[u32],
-    rank: &[u32],
+    rank: &[u16],
     count: usize,
     scored: &mut [f64],
     closings: &mut [u32],
@@ -28,7 +28,7 @@ pub fn write_columns(
 {
     let mut r: usize = 0;
     while r < count {
-        let i = rank[r];
+        let i = rank[r] as u32;
         let row = path_at(paths, scores, at(shut, i));
         scored[r] = row.score;
         closings[r] = i + 1;
@@ -47,7 +47,7 @@ pub fn write_spellings(
     scores: &[f64],
     shut: &[u32],
     walks: &[u32],
-    rank: &[u32],
+    rank: &[u16],
     k: usize,
     most: usize,
     count: usize,
@@ -58,7 +58,7 @@ pub fn write_spellings(
 {
     let mut r: usize = 0;
     while r < count {
-        let i = rank[r];
+        let i = rank[r] as u32;
         let row = path_at(paths, scores, at(shut, i));
         let p = wide(i) * most;
         let from = r * (k + most);
@@ -84,7 +84,7 @@ pub fn write_origins(
     scores: &[f64],
     shut: &[u32],
     walks: &[u32],
-    rank: &[u32],
+    rank: &[u16],
     most: usize,
     count: usize,
     field: usize,
@@ -95,7 +95,7 @@ pub fn write_origins(
 {
     let mut r: usize = 0;
     while r < count {
-        let i = rank[r];
+        let i = rank[r] as u32;
         let row = path_at(paths, scores, at(shut, i));
         let p = wide(i) * most;
         let from = r * most;

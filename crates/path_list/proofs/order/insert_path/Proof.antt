@@ -2,7 +2,7 @@ use Rattle.path_list.proofs.order.insert_path.Statement.{statement}
 use Rattle.path_list.proofs.order.insert_path.Tie as tie
 use Rattle.path_list.proofs.order.insert_path.Reads as reads
 use Rattle.path_list.proofs.order.insert_path.Lts as lts
-use Rattle.assembly.proofs.wide.Reads as wide-reads
+use Rattle.path_list.proofs.order.wide_number.Reads as wide-number-reads
 use Rattle.path_list.proofs.order.stands_above.Reads as stands-above-reads
 use mathlib.Core.Path.{_≡_, refl, sym, ap, _∙_}
 use mathlib.Core.List.{_++_}
@@ -28,11 +28,11 @@ mul-y c = omega (arith, (c .before .before .before .before .before .before .befo
 slice-read-y : tie.Need-slice-read-y Inv-loop μ-loop
 slice-read-y c = omega (arith, (c .before .before .loop) .inv .size, (c .before .before .before .before .before .before .before .before .before .before .before .before .pre) .1 .room, (c .before .loop-test) .taken)
 
-wide-requires : tie.Need-wide-requires Inv-loop μ-loop
-wide-requires c κs = tt
+wide-number-requires : tie.Need-wide-number-requires Inv-loop μ-loop
+wide-number-requires c κs = tt
 
 stands-above-requires : tie.Need-stands-above-requires Inv-loop μ-loop
-stands-above-requires c κs = ((c .before .before .before .before .before .before .before .before .before .before .before .before .before .pre) .0, low-as ((c .wide) .ensures) (next-known _ _ _ _ _ _ ((c .before .before .before .loop) .inv) ((c .before .before .loop-test) .taken)), (c .before .before .before .before .before .before .before .before .before .before .before .before .before .pre) .1 .low)
+stands-above-requires c κs = ((c .before .before .before .before .before .before .before .before .before .before .before .before .before .pre) .0, low-as ((c .wide-number) .ensures) (next-known _ _ _ _ _ _ ((c .before .before .before .loop) .inv) ((c .before .before .loop-test) .taken)), (c .before .before .before .before .before .before .before .before .before .before .before .before .before .pre) .1 .low)
 
 cast-rank : tie.Need-cast-rank Inv-loop μ-loop
 cast-rank c = omega (arith, (c .before .before .before .before .before .before .before .before .before .before .before .before .before .before .before .pre) .1 .few, (c .before .before .before .before .before .before .before .before .before .before .before .before .before .before .before .pre) .1 .low)
@@ -50,7 +50,7 @@ same-length : tie.Need-same-length Inv-loop μ-loop
 same-length c = resize _ _ _ _ _ _ ((c .before .before .before .before .before .loop) .inv) _
 
 returns : tie.Need-returns Inv-loop μ-loop
-returns c = inserting-here _ _ _ _ _ _ ((c .before .before .before .before .before .loop) .inv) ((c .before .before .before .before .loop-test) .taken) _ refl (ap (λ u. aboveAt (lists ((c .before .before .before .before .before .before .before .before .before .before .before .before .before .before .before .args) .reference .now ++ (c .before .before .before .before .before .before .before .before .before .before .before .before .before .before .before .args) .bases .now) ((c .before .before .before .before .before .before .before .before .before .before .before .before .before .before .before .args) .vertices .now) ((c .before .before .before .before .before .before .before .before .before .before .before .before .before .before .before .args) .edges .now) ((c .before .before .before .before .before .before .before .before .before .before .before .before .before .before .before .args) .paths .now) ((c .before .before .before .before .before .before .before .before .before .before .before .before .before .before .before .args) .scores .now) ((c .before .before .before .before .before .before .before .before .before .before .before .before .before .before .before .args) .shut .now) ((c .before .before .before .before .before .before .before .before .before .before .before .before .before .before .before .args) .walks .now) ((c .before .before .before .before .before .before .before .before .before .before .before .before .before .before .before .args) .k) ((c .before .before .before .before .before .before .before .before .before .before .before .before .before .before .before .args) .most)) u ((c .before .before .before .before .before .before .before .before .before .before .before .before .before .before .before .args) .x)) (sym ((c .before .before .wide) .ensures)) ∙ sym ((c .before .stands-above) .ensures) ∙ not-true _ ((c .if1) .taken))
+returns c = inserting-here _ _ _ _ _ _ ((c .before .before .before .before .before .loop) .inv) ((c .before .before .before .before .loop-test) .taken) _ refl (ap (λ u. aboveAt (lists ((c .before .before .before .before .before .before .before .before .before .before .before .before .before .before .before .args) .reference .now ++ (c .before .before .before .before .before .before .before .before .before .before .before .before .before .before .before .args) .bases .now) ((c .before .before .before .before .before .before .before .before .before .before .before .before .before .before .before .args) .vertices .now) ((c .before .before .before .before .before .before .before .before .before .before .before .before .before .before .before .args) .edges .now) ((c .before .before .before .before .before .before .before .before .before .before .before .before .before .before .before .args) .paths .now) ((c .before .before .before .before .before .before .before .before .before .before .before .before .before .before .before .args) .scores .now) ((c .before .before .before .before .before .before .before .before .before .before .before .before .before .before .before .args) .shut .now) ((c .before .before .before .before .before .before .before .before .before .before .before .before .before .before .before .args) .walks .now) ((c .before .before .before .before .before .before .before .before .before .before .before .before .before .before .before .args) .k) ((c .before .before .before .before .before .before .before .before .before .before .before .before .before .before .before .args) .most)) u ((c .before .before .before .before .before .before .before .before .before .before .before .before .before .before .before .args) .x)) (sym ((c .before .before .wide-number) .ensures)) ∙ sym ((c .before .stands-above) .ensures) ∙ not-true _ ((c .if1) .taken))
 
 sub-rank-2 : tie.Need-sub-rank-2 Inv-loop μ-loop
 sub-rank-2 c = inserting-low _ _ _ _ _ _ ((c .before .before .before .before .before .loop) .inv) .0
@@ -68,7 +68,7 @@ loop-less : tie.Need-loop-less Inv-loop μ-loop
 loop-less c = omega (arith, (c .before .before .before .before .loop-test) .taken)
 
 loop-again : tie.Need-loop-again Inv-loop μ-loop
-loop-again c = inserting-next _ _ _ _ _ _ ((c .before .before .before .before .before .loop) .inv) ((c .before .before .before .before .loop-test) .taken) _ refl (ap (λ u. aboveAt (lists ((c .before .before .before .before .before .before .before .before .before .before .before .before .before .before .before .args) .reference .now ++ (c .before .before .before .before .before .before .before .before .before .before .before .before .before .before .before .args) .bases .now) ((c .before .before .before .before .before .before .before .before .before .before .before .before .before .before .before .args) .vertices .now) ((c .before .before .before .before .before .before .before .before .before .before .before .before .before .before .before .args) .edges .now) ((c .before .before .before .before .before .before .before .before .before .before .before .before .before .before .before .args) .paths .now) ((c .before .before .before .before .before .before .before .before .before .before .before .before .before .before .before .args) .scores .now) ((c .before .before .before .before .before .before .before .before .before .before .before .before .before .before .before .args) .shut .now) ((c .before .before .before .before .before .before .before .before .before .before .before .before .before .before .before .args) .walks .now) ((c .before .before .before .before .before .before .before .before .before .before .before .before .before .before .before .args) .k) ((c .before .before .before .before .before .before .before .before .before .before .before .before .before .before .before .args) .most)) u ((c .before .before .before .before .before .before .before .before .before .before .before .before .before .before .before .args) .x)) (sym ((c .before .before .wide) .ensures)) ∙ sym ((c .before .stands-above) .ensures) ∙ not-false _ ((c .if1) .left))
+loop-again c = inserting-next _ _ _ _ _ _ ((c .before .before .before .before .before .loop) .inv) ((c .before .before .before .before .loop-test) .taken) _ refl (ap (λ u. aboveAt (lists ((c .before .before .before .before .before .before .before .before .before .before .before .before .before .before .before .args) .reference .now ++ (c .before .before .before .before .before .before .before .before .before .before .before .before .before .before .before .args) .bases .now) ((c .before .before .before .before .before .before .before .before .before .before .before .before .before .before .before .args) .vertices .now) ((c .before .before .before .before .before .before .before .before .before .before .before .before .before .before .before .args) .edges .now) ((c .before .before .before .before .before .before .before .before .before .before .before .before .before .before .before .args) .paths .now) ((c .before .before .before .before .before .before .before .before .before .before .before .before .before .before .before .args) .scores .now) ((c .before .before .before .before .before .before .before .before .before .before .before .before .before .before .before .args) .shut .now) ((c .before .before .before .before .before .before .before .before .before .before .before .before .before .before .before .args) .walks .now) ((c .before .before .before .before .before .before .before .before .before .before .before .before .before .before .before .args) .k) ((c .before .before .before .before .before .before .before .before .before .before .before .before .before .before .before .args) .most)) u ((c .before .before .before .before .before .before .before .before .before .before .before .before .before .before .before .args) .x)) (sym ((c .before .before .wide-number) .ensures)) ∙ sym ((c .before .stands-above) .ensures) ∙ not-false _ ((c .if1) .left))
 
 cast-rank-2 : tie.Need-cast-rank-2 Inv-loop μ-loop
 cast-rank-2 c = omega (arith, (c .before .before .before .before .before .before .before .before .before .before .before .pre) .1 .few, (c .before .before .before .before .before .before .before .before .before .before .before .pre) .1 .low)
@@ -98,7 +98,7 @@ insert-path-spec =
     loop-holds
     mul-y
     slice-read-y
-    wide-requires
+    wide-number-requires
     stands-above-requires
     cast-rank
     sub-rank

@@ -29,6 +29,9 @@ mul-i c = omega (arith, (c .before .before .before .before .before .before .befo
 shared-slice-read-i : tie.Need-shared-slice-read-i Inv-loop μ-loop
 shared-slice-read-i c = omega (arith, (c .before .before .before .before .before .before .before .before .before .before .pre) .0 .room, (c .before .loop-test) .taken)
 
+cast-i : tie.Need-cast-i Inv-loop μ-loop
+cast-i c = omega (arith, (c .before .before .before .before .before .before .before .before .before .before .pre) .0 .known _ ((c .before .loop-test) .taken), (c .before .before .before .before .before .before .before .before .before .before .pre) .0 .few)
+
 at-requires : tie.Need-at-requires Inv-loop μ-loop
 at-requires c κs = known-at _ _ ((c .before .before .before .before .before .before .before .before .before .before .pre) .0) _ _ _ ((c .before .before .before .before .before .before .before .before .before .before .pre) .1 .records) _ ((c .before .loop-test) .taken)
 
@@ -86,6 +89,7 @@ write-origins-spec =
     loop-holds
     mul-i
     shared-slice-read-i
+    cast-i
     at-requires
     path-at-requires
     wide-requires
