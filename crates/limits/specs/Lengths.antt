@@ -114,10 +114,11 @@ module _ (k asked : ℕ) (g : GraphMaxima) (s : SearchMaxima) (r : LengthsTold) 
 
 -- ---- in bytes
 
--- numbers of 4 bytes, scores of 8; there is a column of scores and two of numbers
+-- numbers of 4 bytes, the slots of active nodes of 2, scores of 8; there is a column of scores and two of numbers
 unfoldable pub workspaceBytes : Workspace → ℕ
 workspaceBytes w =
-    4 * (w .vertices + w .edges + w .index + w .nodes + w .«open» + w .targets + w .paths + w .active + w .queue + w .closed + w .order + w .marks + w .walks + 2 * w .columns)
+    4 * (w .vertices + w .edges + w .index + w .nodes + w .«open» + w .targets + w .paths + w .queue + w .closed + w .order + w .marks + w .walks + 2 * w .columns)
+    + 2 * w .active
     + 8 * (w .scores + w .columns)
 
 -- Edge and node rows are numbers of 4 bytes, a path row is a record of 24, a base is a byte, and there are two slices of origins, of 4 bytes a number.
