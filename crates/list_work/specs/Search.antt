@@ -180,7 +180,7 @@ module _ {i : Input} {o : Outputs} {w : Tables} {b : Raise} (q : Searches i o w 
     ground : Ground (searchInput i (builtFor (i .sample))) g vs₁ (w .edges) (w .nodes) only₁ to₁
     ground =
         subst (λ (h : Setting). Ground f h vs₁ (w .edges) (w .nodes) only₁ to₁) (sym ge)
-        (ground-of i rules (q .checks .settings-fit) at (k .vertices) (lies (k .vertices) lo) (q .raised .there) (k .tabled) (g .least) gl)
+        (ground-of i rules (q .checks .settings-fit) at (k .vertices) (lies (k .vertices) lo) (q .raised .there) (k .tabled) (g .least) gl (limits .nodes-most))
 
     pub find-asks : Finds g vs₁ (w .edges) (w .nodes) only₁ to₁ (i .column) (w .paths) (w .scores) (w .active) (w .queue) (w .closed) (w .order) (w .marks) (w .walks)
     find-asks =
