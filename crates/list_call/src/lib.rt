@@ -188,6 +188,18 @@ pub fn clear_scores(scores: &mut [f64], n: usize)
     }
 }
 
+// The first n slots become 0.
+fn clear_slots(slots: &mut [u16], n: usize)
+    requires { ⌜ n ≤ length (now slots) ⌝ }
+    ensures { λ _. ⌜ now (slots .exit) ≡ writtenAt 0 (replicate n 0) (now (slots .entry)) ⌝ }
+{
+    let mut i: usize = 0;
+    while i < n {
+        slots[i] = 0;
+        i += 1;
+    }
+}
+
 // The work over just the part of each workspace slice that is told, which is zero afterwards.
 fn list_within(
     a: Settings,
@@ -209,7 +221,7 @@ fn list_within(
     w_targets: &mut [u32],
     w_paths: &mut [u32],
     w_scores: &mut [f64],
-    w_active: &mut [u32],
+    w_active: &mut [u16],
     w_queue: &mut [u32],
     w_closed: &mut [u32],
     w_order: &mut [u32],
@@ -266,7 +278,7 @@ fn list_within(
     clear(w_targets, m);
     clear(w_paths, p);
     clear_scores(w_scores, records);
-    clear(w_active, x);
+    clear_slots(w_active, x);
     clear(w_queue, w);
     clear(w_closed, asked);
     clear(w_order, m);
@@ -297,7 +309,7 @@ pub fn list_columns(
     w_targets: &mut [u32],
     w_paths: &mut [u32],
     w_scores: &mut [f64],
-    w_active: &mut [u32],
+    w_active: &mut [u16],
     w_queue: &mut [u32],
     w_closed: &mut [u32],
     w_order: &mut [u32],
