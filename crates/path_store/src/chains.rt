@@ -50,22 +50,28 @@ pub fn next(only: &[u32], to: &[u32], v: u32) -> u32
     at(to, sole(only, v))
 }
 
+// The length of a chain, and the vertex that it leads to.
+pub struct Chain {
+    pub steps: usize,
+    pub vertex: u32,
+}
+
 // The steps from v until a stop, or the limit.
-fn chain_plain(only: &[u32], to: &[u32], v: u32, limit: usize) -> usize
+fn chain_plain(only: &[u32], to: &[u32], v: u32, limit: usize) -> Chain
     requires { ⌜ Graph (now only) (now to) × (v < length (now only)) ⌝ }
-    ensures { λ r. ⌜ Plain (now (only .entry)) (now (to .entry)) v limit r ⌝ }
+    ensures { λ r. ⌜ Plain (now (only .entry)) (now (to .entry)) v limit (r .steps) × (r .vertex ≡ after (now (only .entry)) (now (to .entry)) v (r .steps)) ⌝ }
 {
     let mut u = v;
     let mut i: usize = 0;
     while i < limit {
         let e = at(only, u);
         if e == 0 {
-            return i;
+            return Chain { steps: i, vertex: u };
         }
         u = next(only, to, u);
         i += 1;
     }
-    i
+    Chain { steps: i, vertex: u }
 }
 
 // The edge e is one of the n that follow v.
@@ -108,18 +114,6 @@ fn chain_slow(only: &[u32], to: &[u32], v: u32) -> usize
     i
 }
 
-// The length of the chain of v. A run that stops within the number of edges meets no edge twice, so the slow way is left for rings.
-pub fn chain_length(only: &[u32], to: &[u32], v: u32) -> usize
-    requires { ⌜ Graph (now only) (now to) × (v < length (now only)) ⌝ }
-    ensures { λ r. ⌜ Chained (now (only .entry)) (now (to .entry)) v r ⌝ }
-{
-    let c = chain_plain(only, to, v, to.len());
-    if c < to.len() {
-        return c;
-    }
-    chain_slow(only, to, v)
-}
-
 // The vertex c steps after v.
 pub fn walk(only: &[u32], to: &[u32], v: u32, c: usize) -> u32
     requires { ⌜ Graph (now only) (now to) × (v < length (now only)) × Runs (now only) (now to) v c ⌝ }
@@ -132,6 +126,22 @@ pub fn walk(only: &[u32], to: &[u32], v: u32, c: usize) -> u32
         left -= 1;
     }
     u
+}
+
+// The chain of v. A run that stops within the number of edges meets no edge twice, so the slow way is left for rings.
+pub fn chain_from(only: &[u32], to: &[u32], v: u32) -> Chain
+    requires { ⌜ Graph (now only) (now to) × (v < length (now only)) ⌝ }
+    ensures { λ r. ⌜ Chained (now (only .entry)) (now (to .entry)) v (r .steps) × (r .vertex ≡ after (now (only .entry)) (now (to .entry)) v (r .steps)) ⌝ }
+{
+    let c = chain_plain(only, to, v, to.len());
+    if c.steps < to.len() {
+        return c;
+    }
+    let n = chain_slow(only, to, v);
+    Chain {
+        steps: n,
+        vertex: walk(only, to, v, n),
+    }
 }
 
 // How often v stands among the c vertices that follow the start.

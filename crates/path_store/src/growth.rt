@@ -9,7 +9,7 @@ ghost use Rattle.path_store.specs.Cut.{before, ownerOf, cutOf, Links};
 ghost use Rattle.path_store.specs.Extend.{Ends};
 ghost use Rattle.path_store.specs.Grow.{startRow, Following, Growable, Grown, extendedRow, closedRow, recoveredRow, Joined};
 use crate::chains::at;
-use crate::chains::chain_length;
+use crate::chains::chain_from;
 use crate::chains::walk;
 use crate::chains::wide;
 use crate::records::PathRecord;
@@ -70,12 +70,11 @@ pub fn follow_chain(paths: &[u32], scores: &[f64], only: &[u32], to: &[u32], pat
     ensures { λ r. ⌜ Following (now (only .entry)) (now (to .entry)) (now (paths .entry)) path r ⌝ }
 {
     let row = path_at(paths, scores, path);
-    let c = chain_length(only, to, row.end);
-    let v = walk(only, to, row.end, c);
+    let c = chain_from(only, to, row.end);
     Taken {
         path: path,
-        chain: c as u32,
-        vertex: v,
+        chain: c.steps as u32,
+        vertex: c.vertex,
     }
 }
 

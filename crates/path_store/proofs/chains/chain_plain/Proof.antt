@@ -23,7 +23,7 @@ at-requires : tie.Need-at-requires Inv-loop μ-loop
 at-requires c κs = c .before .loop .inv .fits
 
 returns : tie.Need-returns Inv-loop μ-loop
-returns c = plain-stop _ _ _ _ _ _ (c .before .before .before .loop .inv) (sym (c .before .at .ensures) ∙ c .if1 .taken)
+returns c = (plain-stop _ _ _ _ _ _ (c .before .before .before .loop .inv) (sym (c .before .at .ensures) ∙ c .if1 .taken), c .before .before .before .loop .inv .at)
 
 next-requires : tie.Need-next-requires Inv-loop μ-loop
 next-requires c κs = (c .before .before .before .before .before .before .pre .0, c .before .before .before .loop .inv .fits, omega (arith, c .before .at .ensures, c .if1 .left))
@@ -38,7 +38,7 @@ loop-again : tie.Need-loop-again Inv-loop μ-loop
 loop-again c = rw (c .next .ensures) (plain-next _ _ _ _ _ _ (c .before .before .before .before .loop .inv) (c .before .before .before .before .before .before .before .pre .0) (c .before .before .before .loop-test .taken) (λ z. c .before .if1 .left (c .before .before .at .ensures ∙ z)))
 
 returns-2 : tie.Need-returns-2 Inv-loop μ-loop
-returns-2 c = plain-end _ _ _ _ _ _ (c .before .loop .inv) (c .loop-test .left)
+returns-2 c = (plain-end _ _ _ _ _ _ (c .before .loop .inv) (c .loop-test .left), c .before .loop .inv .at)
 
 pub chain-plain-spec : {M : Type 1} → statement M
 chain-plain-spec =
