@@ -47,7 +47,8 @@ sole-length (y ∷ []) x e = refl
 sole-length (y ∷ z ∷ ys) x e = let w : _≡_ {A = ℕ} 0 1 = cc in absurd (omega arith)
 
 module _ (f : SearchInput) where
-  onward-sole : (v : ℕ) (x : Edge) → onward f v ≡ some x → Sole (f .edges) (x .ends)
+  -- so is the edge by which a chain goes on
+  pub onward-sole : (v : ℕ) (x : Edge) → onward f v ≡ some x → Sole (f .edges) (x .ends)
   unfolding onward
   onward-sole v x e = go (isSome (treeAt (f .trees) v) || eqb v (f .sink)) refl
     where

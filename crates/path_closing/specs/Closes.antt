@@ -29,7 +29,7 @@ use Rattle.path_store.specs.Grow.{Following, closedRow}
 use Rattle.path_store.specs.Link.{Agrees}
 use Rattle.path_store.specs.View.{viewOf, closedOf}
 use Rattle.path_store.specs.Held.{Held, held-closed, pushed-view, pushed-closed, following-pushed}
-use Rattle.path_store.specs.Cross.{clears, length-clears, Distinct, crossed}
+use Rattle.path_store.specs.Cross.{Distinct, Struck, struck-out}
 use Rattle.path_store.specs.Recover.{edges-in}
 use Rattle.path_store.specs.Close.{close-elsewhere, close-kept, close-over, close-made}
 use Rattle.fork_offers.specs.Actives.{Actives, actives-none}
@@ -120,9 +120,9 @@ crossedState ds s = record { waiting = s .waiting; closed = s .closed; pivotal =
 
 module _ (f : SearchInput) (g : Setting) (es x only to : List ℕ) (bs : ℕ → List Branches) (cl : ℕ → ℕ) (t : List ℕ) (sc : List Float) (ac queue shut order marks : List ℕ) (p : Progress) (s : State Float)
     (H : Holds f g es x only to bs cl t sc ac queue shut order marks p s) where
-  holds-crossed : Agrees f only to (nameOf es) → (ds : List ℕ) → All (λ e. e < length to) ds
-      → Holds f g es x only to bs cl t sc ac queue shut order (clears marks ds) p (crossedState (map (nameOf es) ds) s)
-  holds-crossed A ds a =
+  holds-crossed : Agrees f only to (nameOf es) → (ds : List ℕ) → All (λ e. e < length to) ds → (marks′ : List ℕ) → Struck only marks ds marks′
+      → Holds f g es x only to bs cl t sc ac queue shut order marks′ p (crossedState (map (nameOf es) ds) s)
+  holds-crossed A ds a marks′ S =
       record {
         records = H .records;
         heap = H .heap;
@@ -135,12 +135,13 @@ module _ (f : SearchInput) (g : Setting) (es x only to : List ℕ) (bs : ℕ →
         pivotal =
             ap (λ (l : List Ends). crossOff (map (nameOf es) ds) l) (H .pivotal)
             ∙ sym
-            (crossed f only to (nameOf es) A (drop (p .next) (take (p .pivotal) order)) marks ds (distinct-drop (p .next) (take (p .pivotal) order) (H .pivotal-once))
-            (all-drop (p .next) (H .pivotal-known)) (H .marks-room) a);
+            (struck-out f only to (nameOf es) A (drop (p .next) (take (p .pivotal) order)) marks ds marks′ (distinct-drop (p .next) (take (p .pivotal) order) (H .pivotal-once))
+            (all-drop (p .next) (H .pivotal-known)) (all-drop (p .next) (H .pivotal-forks)) (H .marks-room) a S);
         pivotal-once = H .pivotal-once;
         pivotal-known = H .pivotal-known;
+        pivotal-forks = H .pivotal-forks;
         order-room = H .order-room;
-        marks-room = let q = length-clears marks ds in let r = H .marks-room in omega arith;
+        marks-room = let q = S .size in let r = H .marks-room in omega arith;
         next-low = H .next-low;
         pushes = H .pushes;
         longest = H .longest;
@@ -205,6 +206,7 @@ module _ (f : SearchInput) (g : Setting) (es x only to : List ℕ) (bs : ℕ →
         pivotal = H .pivotal;
         pivotal-once = H .pivotal-once;
         pivotal-known = H .pivotal-known;
+        pivotal-forks = H .pivotal-forks;
         order-room = H .order-room;
         marks-room = H .marks-room;
         next-low = H .next-low;
@@ -284,15 +286,15 @@ module _ (f : SearchInput) (g : Setting) (vs es x only to : List ℕ) (bs : ℕ 
     own : All (λ e. e < length to) (edges only to t r)
     own = edges-in only to t sc n (G .table) r (C .known)
 
-    pub closed-open : hasStoppingEvidence f (bs (taken .path)) ≡ false
-        → ClosedOn f g es x only to bs t sc ac queue order p s taken p t sc shut (clears marks (edges only to t (taken .path)))
-    closed-open e =
+    pub closed-open : hasStoppingEvidence f (bs (taken .path)) ≡ false → (marks′ : List ℕ) → Struck only marks (edges only to t (taken .path)) marks′
+        → ClosedOn f g es x only to bs t sc ac queue order p s taken p t sc shut marks′
+    closed-open e marks′ z =
         record {
           branches = bs;
           closings = cl;
           state = crossedState (map (nameOf es) (edges only to t r)) s;
           is = close-kept f (nameOf es) only to A t sc n taken (G .table) (G .rooted) I (C .known) (C .following) (bs r) (taken .vertex) s sunk e;
-          holds = holds-crossed f g es x only to bs cl t sc ac queue shut order marks p s H A (edges only to t r) own;
+          holds = holds-crossed f g es x only to bs cl t sc ac queue shut order marks p s H A (edges only to t r) own marks′ z;
           path = refl;
           following = C .following;
           apart = C .apart;
@@ -397,20 +399,21 @@ module _ (f : SearchInput) (g : Setting) (vs es x only to : List ℕ) (bs : ℕ 
         held : Holds f g es x only to bs′ cl t′ sc′ ac queue shut order marks (withRecords p (n + 1)) s
         held = holds-kept f g es x only to bs cl t sc ac queue shut order marks p s H bs′ t′ sc′ ac (n + 1) r records (omega arith) kept (C .apart) parent-new
 
-        made : ClosedOn f g es x only to bs t sc ac queue order p s taken (withClosed p) t′ sc′ (set shut (p .closed) n) (clears marks (edges only to t′ r))
+        made : (marks′ : List ℕ) → Struck only marks (edges only to t′ r) marks′
+            → ClosedOn f g es x only to bs t sc ac queue order p s taken (withClosed p) t′ sc′ (set shut (p .closed) n) marks′
         unfolding t′ sc′ bs′
-        made =
+        made marks′ z =
             let same : edges only to t′ r ≡ edges only to t r = edges-kept only to t t′ sc sc′ n (G .table) (λ a b i j. put-same t n (closedRow t sc taken) a b i (omega arith)) r (C .known) in
             let c = suc (length (s .closed)) in
-            rw same
-            (record {
+            let y : Struck only marks (edges only to t r) marks′ = rw same at z in
+            record {
               branches = bs′;
               closings = closingWith cl n c;
               state = crossedState (map (nameOf es) (edges only to t r)) (shutState (closedOf (nameOf es) only to t′ sc′ c n) s);
               is = close-made f (nameOf es) only to A t sc n taken (G .table) (G .rooted) I (C .known) (C .following) (bs r) (taken .vertex) s sunk e (let q = C .ground .most in omega arith);
               holds =
                   holds-crossed f g es x only to bs′ (closingWith cl n c) t′ sc′ ac queue (set shut (p .closed) n) order marks (withClosed p) (shutState (closedOf (nameOf es) only to t′ sc′ c n) s)
-                  (holds-shut f g es x only to bs′ cl t′ sc′ ac queue shut order marks p s held (H .shut-known) (C .more) c) A (edges only to t r) own;
+                  (holds-shut f g es x only to bs′ cl t′ sc′ ac queue shut order marks p s held (H .shut-known) (C .more) c) A (edges only to t r) own marks′ y;
               path =
                   ap (λ (b : List Branches). viewOf f (nameOf es) only to b t′ sc′ r) (branches-other bs n r (let q = C .known in omega arith))
                   ∙ pushed-view only to (f .source) t sc n G I f (nameOf es) (bs r) (closedRow t sc taken) r (C .known);
@@ -418,7 +421,7 @@ module _ (f : SearchInput) (g : Setting) (vs es x only to : List ℕ) (bs : ℕ 
               apart = apart-kept f g es x only to bs cl t sc ac queue shut order marks p s H bs′ t′ sc′ ac (n + 1) r records (omega arith) kept (C .apart) parent-new;
               known = let q = C .known in omega arith;
               progress = inr refl;
-            })
+            }
 
         -- the tables as the code leaves them
         module _ (p″ : Progress) (t″ : List ℕ) (sc″ : List Float) (shut″ : List ℕ) (u : Shut g t sc shut taken p p″ t″ sc″ shut″) where
@@ -426,11 +429,11 @@ module _ (f : SearchInput) (g : Setting) (vs es x only to : List ℕ) (bs : ℕ 
           unfolding t′ sc′
           shut-table = rw (u .cells, u .scores) (table-front only to t′ sc′ (n + 1) (r + 1) (records .held .table) (let q = C .known in omega arith))
 
-          pub closed-made : (marks″ : List ℕ) → marks″ ≡ clears marks (edges only to t″ (taken .path)) → ClosedOn f g es x only to bs t sc ac queue order p s taken p″ t″ sc″ shut″ marks″
+          pub closed-made : (marks″ : List ℕ) → Struck only marks (edges only to t″ (taken .path)) marks″ → ClosedOn f g es x only to bs t sc ac queue order p s taken p″ t″ sc″ shut″ marks″
           unfolding t′ sc′
           closed-made marks″ z =
-              let y : marks″ ≡ clears marks (edges only to t′ r) = z ∙ ap (λ (d : List ℕ). clears marks (edges only to d r)) (u .cells) in
-              rw (u .progress, u .cells, u .scores, u .numbers, y) made
+              let y : Struck only marks (edges only to t′ r) marks″ = rw (u .cells) at z in
+              rw (u .progress, u .cells, u .scores, u .numbers) (made marks″ y)
 
 -- ---- what the code asks and says, by what it has read
 
@@ -462,10 +465,10 @@ module _ (g : Setting) (x only to t : List ℕ) (sc : List Float) (ac shut marks
           closed-over f g vs es x only to bs cl t sc ac queue shut order marks p s taken C at (sym e) (u .over) ∙ ap (λ (d : ℕ). refused d) (sym (u .number))
 
       on-by : (b : Bool) (q : Progress) → b ≡ hasStoppingEvidence f (bs (taken .path)) → ShutBy g t sc shut taken p b (On q) t′ sc′ shut′ → (marks′ : List ℕ)
-          → marks′ ≡ clears marks (edges only to t′ (taken .path)) → ClosedOn f g es x only to bs t sc ac queue order p s taken q t′ sc′ shut′ marks′
+          → Struck only marks (edges only to t′ (taken .path)) marks′ → ClosedOn f g es x only to bs t sc ac queue order p s taken q t′ sc′ shut′ marks′
       on-by false q e u marks′ z =
-          let y : marks′ ≡ clears marks (edges only to t (taken .path)) = z ∙ ap (λ (d : List ℕ). clears marks (edges only to d (taken .path))) (u .cells) in
-          rw (on-on (u .answer), u .cells, u .scores, u .numbers, y) (closed-open f g vs es x only to bs cl t sc ac queue shut order marks p s taken C at (sym e))
+          let y : Struck only marks (edges only to t (taken .path)) marks′ = rw (u .cells) at z in
+          rw (on-on (u .answer), u .cells, u .scores, u .numbers) (closed-open f g vs es x only to bs cl t sc ac queue shut order marks p s taken C at (sym e) marks′ y)
       on-by true q e u marks′ z = closed-made f g vs es x only to bs cl t sc ac queue shut order marks p s taken C at (sym e) (u .fits) q t′ sc′ shut′ u marks′ z
 
       table-by : (b : Bool) (q : Progress) → b ≡ hasStoppingEvidence f (bs (taken .path)) → ShutBy g t sc shut taken p b (On q) t′ sc′ shut′ → Table only to t′ sc′ (taken .path + 1)
@@ -489,7 +492,7 @@ module _ (g : Setting) (x only to t : List ℕ) (sc : List Float) (ac shut marks
           table-by (P .input) (P .vertices) (P .edges) (P .branches) (P .closings) (P .queue) (P .order) (P .state) (P .all) (Z .evidence) q
           (evidence (P .input) (P .vertices) (P .edges) (P .branches) (P .closings) (P .queue) (P .order) (P .state) (P .all)) (subst By e (Z .by))
 
-      pub closed-on : (marks′ : List ℕ) → marks′ ≡ clears marks (edges only to t′ (taken .path)) → ClosedAt g x only to t sc ac shut marks p taken (On q) t′ sc′ shut′ marks′
+      pub closed-on : (marks′ : List ℕ) → Struck only marks (edges only to t′ (taken .path)) marks′ → ClosedAt g x only to t sc ac shut marks p taken (On q) t′ sc′ shut′ marks′
       closed-on marks′ z =
           record {
             is = λ f vs es bs cl queue order s C.

@@ -15,16 +15,16 @@ use Rattle.laws.specs.ListLaws.{All, nil, all-mono, keep-all}
 use Rattle.laws.specs.Sorting.{insert-nil}
 use Rattle.definition.specs.Threading.{Ends}
 use Rattle.definition.specs.Score.{columnScoring}
-use Rattle.definition.specs.Search.{SearchInput, Path, pivotalEdges, firstState}
+use Rattle.definition.specs.Search.{SearchInput, Path, endsOf, pivotalEdges, firstState}
 use Rattle.pivotal_edges.specs.Turns.{Pivots, Pivoted}
 use Rattle.definition.proofs.Tables.{Once}
 use Rattle.pivotal_edges.specs.Once.{edges-once}
-use Rattle.path_store.specs.Pivots as pivots
+use Rattle.path_store.specs.Pivots.{pivotal-distinct, pivotal-forks}
 use Rattle.path_store.specs.Cells.{treesOf, scoreOf, Inside, putCells, Stored, put-at, put-trees}
 use Rattle.path_store.specs.Grow.{startRow}
 use Rattle.path_store.specs.View.{start-view}
 use Rattle.path_store.specs.Held.{held-start}
-use Rattle.path_store.specs.Cross.{unvisited, Distinct}
+use Rattle.path_store.specs.Cross.{unvisited, Distinct, Fork}
 use Rattle.path_heap.specs.Heap.{Pushable, Pushed, waiting, aheadOf, waiting-none, pushed-all}
 use Rattle.search_state.specs.declared.Setting.{Setting}
 use Rattle.search_state.specs.declared.Progress.{Progress}
@@ -74,18 +74,19 @@ pub record ListsPivotal (g : Setting) (vs es queue order marks : List ℕ) : Typ
 abbrev pub asked : SearchInput → Bool → List Ends
 asked f recovery = elim recovery [ true ↦ pivotalEdges f | false ↦ [] ]
 
-pub record PivotalHeld (f : SearchInput) (es to order marks : List ℕ) (n : ℕ) (recovery : Bool) : Type 0 where
+pub record PivotalHeld (f : SearchInput) (es only to order marks : List ℕ) (n : ℕ) (recovery : Bool) : Type 0 where
   pub is : asked f recovery ≡ map (nameOf es) (unvisited (take n order) marks)
   pub distinct : Distinct (take n order)
   pub known : All (λ e. e < length to) (take n order)
+  pub forks : All (Fork only) (take n order)
 
 pub record PivotalListed (g : Setting) (vs es order marks : List ℕ) (n : ℕ) (recovery : Bool) : Type 0 where
   pub room : n ≤ length order
-  pub each : (f : SearchInput) (x only to : List ℕ) → Ground f g vs es x only to → PivotalHeld f es to order marks n recovery
+  pub each : (f : SearchInput) (x only to : List ℕ) → Ground f g vs es x only to → PivotalHeld f es only to order marks n recovery
 
 module _ {g : Setting} {vs es queue order marks : List ℕ} (L : ListsPivotal g vs es queue order marks) where
   pub no-pivotal : (recovery : Bool) → recovery ≡ false → PivotalListed g vs es order marks 0 recovery
-  no-pivotal recovery e = rw e (record { room = omega arith; each = λ f x only to B. record { is = refl; distinct = tt; known = nil } })
+  no-pivotal recovery e = rw e (record { room = omega arith; each = λ f x only to B. record { is = refl; distinct = tt; known = nil; forks = nil } })
 
   pub pivotal-asks : (clear : List ℕ) → length clear ≡ length marks → MarksSet (g .edges) 0 clear → Pivots vs es (g .edges) queue clear order
   pivotal-asks clear l c =
@@ -109,13 +110,12 @@ module _ {g : Setting} {vs es queue order marks : List ℕ} (L : ListsPivotal g 
             let left : unvisited (take n order′) marks″ ≡ take n order′ =
             keep-all (λ d. ltb 0 (getD marks″ d 0)) (all-mono (λ d h. lt-ltb 0 (getD marks″ d 0) (omega (arith, m d h))) (P .low))
             in
-            let single : Once (pivotalEdges f) =
-            pivots.pivotal-once f (rw (B .settings .edges) (edges-once es (g .edges)))
-            in
+            let single : Once (endsOf (f .edges)) = rw (B .settings .edges) (edges-once es (g .edges)) in
             record {
               is = sym names ∙ ap (λ l. map (nameOf es) l) (sym left);
-              distinct = pivots.once-distinct (nameOf es) (take n order′) (rw names single);
+              distinct = pivotal-distinct f single (nameOf es) (take n order′) names;
               known = all-mono (λ d h. omega (arith, B .size)) (P .low);
+              forks = pivotal-forks f single (nameOf es) (take n order′) names only to (B .agrees);
             });
       })
 
@@ -217,6 +217,7 @@ module _ {g : Setting} {vs es t : List ℕ} {sc : List Float} {queue pivots orde
                   pivotal = W .is;
                   pivotal-once = W .distinct;
                   pivotal-known = W .known;
+                  pivotal-forks = W .forks;
                   order-room = L .room;
                   marks-room = omega (arith, l, A .lists .marks-room, B .size);
                   next-low = omega arith;

@@ -248,6 +248,7 @@ module _ {A : Around} {es only to t : List ℕ} {sc : List Float} {shut order ma
           pivotal = H .pivotal;
           pivotal-once = H .pivotal-once;
           pivotal-known = H .pivotal-known;
+          pivotal-forks = H .pivotal-forks;
           order-room = H .order-room;
           marks-room = H .marks-room;
           next-low = H .next-low;
@@ -348,6 +349,7 @@ module _ {A : Around} {es only to t : List ℕ} {sc : List Float} {shut order ma
                   pivotal = refl;
                   pivotal-once = H .pivotal-once;
                   pivotal-known = H .pivotal-known;
+                  pivotal-forks = H .pivotal-forks;
                   order-room = H .order-room;
                   marks-room = H .marks-room;
                   next-low = omega arith;

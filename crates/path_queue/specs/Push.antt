@@ -116,6 +116,7 @@ module _ {sc : List Float} {queue : List ℕ} {g : Setting} {p : Progress} {path
                 pivotal = H .pivotal;
                 pivotal-once = H .pivotal-once;
                 pivotal-known = H .pivotal-known;
+                pivotal-forks = H .pivotal-forks;
                 order-room = H .order-room;
                 marks-room = H .marks-room;
                 next-low = H .next-low;

@@ -64,6 +64,7 @@ taken-first sc queue p path queue′ P =
                   pivotal = H .pivotal;
                   pivotal-once = H .pivotal-once;
                   pivotal-known = H .pivotal-known;
+                  pivotal-forks = H .pivotal-forks;
                   order-room = H .order-room;
                   marks-room = H .marks-room;
                   next-low = H .next-low;

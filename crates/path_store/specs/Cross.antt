@@ -4,7 +4,7 @@ use mathlib.Core.Path.{_≡_, refl, sym, ap, _∙_}
 use mathlib.Core.Logic.{_⊎_, inl, inr, _≢_}
 use mathlib.Core.Bool.{true, false}
 use mathlib.Core.List.{List, [], _∷_, _++_, map}
-use Prim.Native.Nat.{ℕ, _+_, _-_, _<_, _≤_}
+use Prim.Native.Nat.{ℕ, zero, suc, _-_, _<_, _≤_}
 use native.Mathlib.Decide.{ℕ-discrete}
 use native.Mathlib.Omega.{arith}
 use borrow.Author.Tests.{eq-eqb, ne-eqb}
@@ -13,14 +13,14 @@ use lib.ListN.{length, getD, set, length-set}
 use lib.Seq.{set-comm, getD-set-same, getD-set-other}
 use lib.Ieee.{Float}
 use Rattle.laws.specs.Lists.{keep, dropFirst}
-use Rattle.laws.specs.ListLaws.{All, cons, all-mono, all-keep}
+use Rattle.laws.specs.ListLaws.{All, cons, all-mono, all-keep, all-zip}
 use Rattle.laws.specs.Finding.{drop-hit, drop-past, drop-map}
 use Rattle.laws.specs.BoolLaws.{Bool-cases}
 use Rattle.definition.specs.Threading.{Ends, eqEnds}
 use Rattle.definition.specs.Search.{SearchInput, crossOff}
-use Rattle.path_store.specs.Walk.{run, Runs, Graph, sole, next, run-zero, run-more, runs-now, runs-next, next-low}
+use Rattle.path_store.specs.Walk.{run, Runs, sole, next}
 use Rattle.path_store.specs.Cells.{parentOf, chainOf, edgeOf, endOf, Inside}
-use Rattle.path_store.specs.Path.{lastEdge, lastEdge-is, piece, piece-is, pieceOf, Piece, Table, edges, edges-up, edges-none, piece-at, inside}
+use Rattle.path_store.specs.Path.{lastEdge, lastEdge-is, piece-is, pieceOf, Table, edges, edges-up, edges-none, piece-at, inside}
 use Rattle.path_store.specs.Link.{Agrees}
 
 -- the marks of these edges are cleared
@@ -49,90 +49,101 @@ clears-back : (m a b : List ℕ) → clears (clears m b) a ≡ clears m (a ++ b)
 clears-back m [] b = refl
 clears-back m (x ∷ a) b = ap (λ l. clears l a) (clear-clears m x b) ∙ clears-back (set m x 0) a b
 
--- ---- clear_chain
-module _ (only to : List ℕ) where
-  pub record Clearing (m₀ : List ℕ) (s c : ℕ) (m : List ℕ) (u left : ℕ) : Type 0 where
-    pub size : length m ≡ length m₀
-    pub runs : Runs only to u left
-    pub fits : u < length only
-    pub is : clears m (run only to u left) ≡ clears m₀ (run only to s c)
-
-  pub clearing-start : (m : List ℕ) (s c : ℕ) → s < length only → Runs only to s c → Clearing m s c m s c
-  clearing-start m s c h r = record { size = refl; runs = r; fits = h; is = refl }
-
-  module _ (m₀ : List ℕ) (s c : ℕ) (m : List ℕ) (u left : ℕ) (p : Clearing m₀ s c m u left) where
-    pub clearing-place : Graph only to → length to ≤ length m₀ → (e i : ℕ) → 0 < left → e ≡ sole only u → i ≡ e → i < length m
-    clearing-place g l e i h a b = omega (arith, g .near u, p .size, runs-now only to u left h (p .runs))
-
-    pub clearing-next : Graph only to → (e i w : ℕ) → 0 < left → e ≡ sole only u → i ≡ e → w ≡ next only to u
-        → Clearing m₀ s c (set m i 0) w (left - 1)
-    clearing-next g e i w h a b d =
-        rw (b, a, d)
-        (record {
-          size = length-set m (sole only u) 0 ∙ p .size;
-          runs = runs-next only to u left h (p .runs);
-          fits = next-low only to g u (runs-now only to u left h (p .runs));
-          is = sym (ap (λ x. clears m x) (run-more only to u left h)) ∙ p .is;
-        })
-
-    pub clearing-end : left ≤ 0 → m ≡ clears m₀ (run only to s c)
-    clearing-end h =
-        let z : left ≡ 0 = omega arith in
-        ap (λ x. clears m x) (sym (run-zero only to u)) ∙ ap (λ x. clears m (run only to u x)) (sym z) ∙ p .is
-
--- ---- clear_last and clear_piece
+-- ---- clear_last
 pub clear-last : (m : List ℕ) (l i : ℕ) → (l ≡ 0 → ⊥) → i ≡ l - 1 → set m i 0 ≡ clears m (lastEdge l)
 clear-last m l i h e = rw e (ap (λ es. clears m es) (sym (lastEdge-is l (omega arith))))
 
-pub clear-both : (only to t m mid fin : List ℕ) (r f u c l : ℕ) → f ≡ parentOf t r → u ≡ endOf t (f - 1) → c ≡ chainOf t r → l ≡ edgeOf t r
-    → mid ≡ clears m (run only to u c) → fin ≡ clears mid (lastEdge l) → fin ≡ clears m (pieceOf only to t r)
-clear-both only to t m mid fin r f u c l F U C L h k =
-    let e : piece only to u c l ≡ pieceOf only to t r = rw (U, C, L, F) in
-    k
-    ∙ ap (λ x. clears x (lastEdge l)) h
-    ∙ sym (clears-append m (run only to u c) (lastEdge l))
-    ∙ ap (λ x. clears m x) (sym (piece-is only to u c l) ∙ e)
+-- ---- cross_off: of a path's edges only the last one of each record is looked at
 
--- ---- cross_off
-pub record Crossing (only to t : List ℕ) (n path : ℕ) (m₀ m : List ℕ) (r p : ℕ) : Type 0 where
+-- no chain goes on by the edge e
+abbrev pub Fork : List ℕ → ℕ → Type 0
+Fork only e = (u : ℕ) → getD only u 0 ≡ suc e → ⊥
+
+-- the marks of the edges that no chain goes on by are what they are once those of the edges es are cleared
+pub record Struck (only m es m′ : List ℕ) : Type 0 where
+  pub size : length m′ ≡ length m
+  pub same : (e : ℕ) → e < length m → Fork only e → getD m′ e 0 ≡ getD (clears m es) e 0
+
+-- marks that agree at e do so still once the same ones are cleared
+clears-agree : (e : ℕ) (ds m n : List ℕ) → e < length m → length m ≡ length n → getD m e 0 ≡ getD n e 0 → getD (clears m ds) e 0 ≡ getD (clears n ds) e 0
+clears-agree e [] m n b l h = h
+clears-agree e (d ∷ ds) m n b l h =
+    clears-agree e ds (set m d 0) (set n d 0) (simp length-set b) (length-set m d 0 ∙ l ∙ sym (length-set n d 0)) (go (ℕ-discrete d e))
+  where
+    go : Dec (d ≡ e) → getD (set m d 0) e 0 ≡ getD (set n d 0) e 0
+    go (yes q) = rw q (getD-set-same m e 0 0 b ∙ sym (getD-set-same n e 0 0 (omega arith)))
+    go (no q) = getD-set-other m d e 0 0 (λ z. q (sym z)) ∙ h ∙ sym (getD-set-other n d e 0 0 (λ z. q (sym z)))
+
+-- a chain leaves the marks of the others as they are
+run-off : (only to : List ℕ) (e : ℕ) → Fork only e → (m : List ℕ) (u c : ℕ) → Runs only to u c → getD (clears m (run only to u c)) e 0 ≡ getD m e 0
+unfolding run Runs
+run-off only to e F m u zero r = refl
+run-off only to e F m u (suc c) r =
+    run-off only to e F (set m (sole only u) 0) (next only to u) c (r .1) ∙ getD-set-other m (sole only u) e 0 0 (λ z. F u (omega (arith, r .0)))
+
+pub record Crossing (only to t : List ℕ) (n path : ℕ) (m₀ m : List ℕ) (r p l : ℕ) : Type 0 where
   pub size : length m ≡ length m₀
   pub low : r < n
   pub par : p ≡ parentOf t r
-  pub is : clears m (edges only to t r) ≡ clears m₀ (edges only to t path)
+  pub last : l ≡ edgeOf t r
+  pub is : (e : ℕ) → e < length m₀ → Fork only e → getD (clears m (edges only to t r)) e 0 ≡ getD (clears m₀ (edges only to t path)) e 0
 
 module _ (only to t : List ℕ) (sc : List Float) (n : ℕ) (T : Table only to t sc n) where
-  pub crossing-start : (path p : ℕ) (m : List ℕ) → path < n → p ≡ parentOf t path → Crossing only to t n path m m path p
-  crossing-start path p m l e = record { size = refl; low = l; par = e; is = refl }
+  pub crossing-start : (path p l : ℕ) (m : List ℕ) → path < n → p ≡ parentOf t path → l ≡ edgeOf t path → Crossing only to t n path m m path p l
+  crossing-start path p l m h e f = record { size = refl; low = h; par = e; last = f; is = λ d b F. refl }
 
-  module _ (path : ℕ) (m₀ m : List ℕ) (r p : ℕ) (U : Crossing only to t n path m₀ m r p) where
-    pub crossing-piece : 0 < p → Piece only to t sc r
-    crossing-piece h = piece-at only to t sc n T r (U .low) (rw (U .par) at h)
-
+  module _ (path : ℕ) (m₀ m : List ℕ) (r p l : ℕ) (U : Crossing only to t n path m₀ m r p l) where
     low : 0 < p → p - 1 < n
     low h = omega (arith, U .par, U .low, T .rows r (U .low) .rises)
 
     pub crossing-inside : 0 < p → Inside t sc (p - 1)
     crossing-inside h = inside only to t sc n T (p - 1) (low h)
 
-    pub crossing-next : (q : ℕ) (m′ : List ℕ) → 0 < p → m′ ≡ clears m (pieceOf only to t r) → q ≡ parentOf t (p - 1) → Crossing only to t n path m₀ m′ (p - 1) q
-    crossing-next q m′ h e f =
+    pub crossing-last : length to ≤ length m₀ → l ≤ length m
+    crossing-last h = omega (arith, U .last, U .size, T .rows r (U .low) .last)
+
+    -- the last edge alone, and all edges that the record adds
+    own : 0 < p → (e : ℕ) → e < length m₀ → Fork only e → getD (clears m (lastEdge l)) e 0 ≡ getD (clears m (pieceOf only to t r)) e 0
+    own h e b F =
+        let P = piece-at only to t sc n T r (U .low) (rw (U .par) at h) in
+        let u = endOf t (parentOf t r - 1) in
+        let c = chainOf t r in
+        let k = length-clears m (run only to u c) in
+        ap (λ (x : ℕ). getD (clears m (lastEdge x)) e 0) (U .last)
+        ∙ sym
+        (ap (λ x. getD (clears m x) e 0) (piece-is only to u c (edgeOf t r))
+        ∙ ap (λ (x : List ℕ). getD x e 0) (clears-append m (run only to u c) (lastEdge (edgeOf t r)))
+        ∙ clears-agree e (lastEdge (edgeOf t r)) (clears m (run only to u c)) m (omega (arith, U .size)) k (run-off only to e F m u c (P .runs)))
+
+    pub crossing-next : (q d : ℕ) (m′ : List ℕ) → 0 < p → m′ ≡ clears m (lastEdge l) → q ≡ parentOf t (p - 1) → d ≡ edgeOf t (p - 1)
+        → Crossing only to t n path m₀ m′ (p - 1) q d
+    crossing-next q d m′ h z f g =
         let a : parentOf t r ≡ p = sym (U .par) in
         let up : edges only to t r ≡ edges only to t (p - 1) ++ pieceOf only to t r =
         edges-up only to t sc n T r (U .low) (rw (U .par) at h) ∙ ap (λ x. edges only to t (x - 1) ++ pieceOf only to t r) a
         in
+        let i = length-clears m (lastEdge l) in
+        let j = length-clears m (pieceOf only to t r) in
         record {
-          size = ap (λ x. length x) e ∙ length-clears m (pieceOf only to t r) ∙ U .size;
+          size = ap (λ x. length x) z ∙ i ∙ U .size;
           low = low h;
           par = f;
+          last = g;
           is =
-              ap (λ x. clears x (edges only to t (p - 1))) e
-              ∙ clears-back m (edges only to t (p - 1)) (pieceOf only to t r)
-              ∙ ap (λ x. clears m x) (sym up)
-              ∙ U .is;
+              λ e b F.
+              ap (λ x. getD (clears x (edges only to t (p - 1))) e 0) z
+              ∙ clears-agree e (edges only to t (p - 1)) (clears m (lastEdge l)) (clears m (pieceOf only to t r)) (omega (arith, i, U .size)) (i ∙ sym j) (own h e b F)
+              ∙ ap (λ (x : List ℕ). getD x e 0) (clears-back m (edges only to t (p - 1)) (pieceOf only to t r))
+              ∙ ap (λ x. getD (clears m x) e 0) (sym up)
+              ∙ U .is e b F;
         }
 
-    pub crossing-end : p ≤ 0 → m ≡ clears m₀ (edges only to t path)
-    crossing-end h = ap (λ es. clears m es) (sym (edges-none only to t r (sym (U .par) ∙ omega arith))) ∙ U .is
+    pub crossing-end : p ≤ 0 → Struck only m₀ (edges only to t path) m
+    crossing-end h =
+        record {
+          size = U .size;
+          same = λ e b F. ap (λ es. getD (clears m es) e 0) (sym (edges-none only to t r (sym (U .par) ∙ omega arith))) ∙ U .is e b F;
+        }
 
 -- ---- the definition's list
 
@@ -179,7 +190,7 @@ module _ (f : SearchInput) (only to : List ℕ) (ends : ℕ → Ends) (A : Agree
   struck e xs l a = sym (drop-map (eqb e) (eqEnds (ends e)) ends xs (all-mono (λ x h. A .apart e x l h) a))
 
   -- the marks of a path's edges cleared: the path's edges struck out
-  pub crossed : (order m es : List ℕ) → Distinct order → All (λ x. x < length to) order → length to ≤ length m → All (λ e. e < length to) es
+  crossed : (order m es : List ℕ) → Distinct order → All (λ x. x < length to) order → length to ≤ length m → All (λ e. e < length to) es
       → map ends (unvisited order (clears m es)) ≡ crossOff (map ends es) (map ends (unvisited order m))
   unfolding crossOff
   crossed order m [] d o l a = refl
@@ -187,3 +198,15 @@ module _ (f : SearchInput) (only to : List ℕ) (ends : ℕ → Ends) (A : Agree
       crossed order (set m e 0) es d o (omega (arith, length-set m e 0)) a
       ∙ ap (λ x. crossOff (map ends es) x)
       (ap (λ x. map ends x) (one-off m e order d (omega arith)) ∙ struck e (unvisited order m) h (all-keep (λ x. ltb 0 (getD m x 0)) o))
+
+  -- marks that agree tell the same edges
+  agreed : (order m n : List ℕ) → All (λ e. getD m e 0 ≡ getD n e 0) order → unvisited order m ≡ unvisited order n
+  agreed [] m n a = refl
+  agreed (x ∷ xs) m n (cons h a) = rw (h, agreed xs m n a)
+
+  -- the same of marks that are struck out: every pivotal edge is one that no chain goes on by
+  pub struck-out : (order m es m′ : List ℕ) → Distinct order → All (λ x. x < length to) order → All (Fork only) order → length to ≤ length m → All (λ e. e < length to) es
+      → Struck only m es m′ → map ends (unvisited order m′) ≡ crossOff (map ends es) (map ends (unvisited order m))
+  struck-out order m es m′ d o F l a S =
+      ap (λ x. map ends x) (agreed order m′ (clears m es) (all-mono (λ x h. S .same x (omega (arith, h .0)) (h .1)) (all-zip o F)))
+      ∙ crossed order m es d o l a

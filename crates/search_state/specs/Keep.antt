@@ -104,6 +104,7 @@ module _ (f : SearchInput) (g : Setting) (es x only to : List ℕ) (bs : ℕ →
         pivotal = H .pivotal;
         pivotal-once = H .pivotal-once;
         pivotal-known = H .pivotal-known;
+        pivotal-forks = H .pivotal-forks;
         order-room = H .order-room;
         marks-room = H .marks-room;
         next-low = H .next-low;

@@ -16,7 +16,7 @@ use Rattle.path_store.specs.Cells.{parentOf, countOf, joinedOf, treesOf, scoreO
 use Rattle.path_store.specs.Join.{Childless}
 use Rattle.path_store.specs.View.{viewOf, closedOf}
 use Rattle.path_store.specs.Held.{Held}
-use Rattle.path_store.specs.Cross.{unvisited, Distinct}
+use Rattle.path_store.specs.Cross.{unvisited, Distinct, Fork}
 use Rattle.path_heap.specs.Heap.{ScoreHeap, waiting}
 use Rattle.fork_offers.specs.Actives.{Actives}
 use Rattle.search_state.specs.declared.Setting.{Setting}
@@ -62,6 +62,7 @@ pub record Holds (f : SearchInput) (g : Setting) (es x only to : List ℕ) (bs :
   pub pivotal : s .pivotal ≡ map (nameOf es) (unvisited (drop (p .next) (take (p .pivotal) order)) marks)
   pub pivotal-once : Distinct (take (p .pivotal) order)
   pub pivotal-known : All (λ e. e < length to) (take (p .pivotal) order)
+  pub pivotal-forks : All (Fork only) (take (p .pivotal) order)
   pub order-room : p .pivotal ≤ length order
   pub marks-room : length to ≤ length marks
   pub next-low : p .next ≤ p .pivotal
