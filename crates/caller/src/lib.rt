@@ -424,7 +424,7 @@ pub extern "C" fn punelavoh_list(
     w_targets: &mut [u32],
     w_paths: &mut [u32],
     w_scores: &mut [f64],
-    w_active: &mut [u32],
+    w_active: &mut [u16],
     w_queue: &mut [u32],
     w_closed: &mut [u32],
     w_order: &mut [u32],

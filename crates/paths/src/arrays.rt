@@ -30,7 +30,7 @@ pub fn answer_in_arrays(
     let mut targets = [0u32; 256];
     let mut paths = [0u32; 1296];
     let mut scores = [0.0f64; 144];
-    let mut active = [0u32; 1152];
+    let mut active = [0u16; 1152];
     let mut queue = [0u32; 128];
     let mut closed = [0u32; 8];
     let mut order = [0u32; 256];

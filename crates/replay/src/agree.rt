@@ -6,7 +6,9 @@ ghost use Rattle.replay.specs.Agree.{All, Written, Left, Untouched};
 // What every element holds that is lent: a call that should not touch it leaves it so.
 pub const LENT: u32 = 2863311530;
 
-// The same of a byte.
+// The same of a slot and of a byte.
+pub const LENT_SLOT: u16 = 43690;
+
 pub const LENT_BYTE: u8 = 170;
 
 pub fn same(a: &[u32], b: &[u32]) -> bool
@@ -73,6 +75,32 @@ pub fn left(slice: &[u32], used: usize, value: u32) -> bool
         return false;
     }
     all_are(&slice[used..], LENT)
+}
+
+// The same of slots of active trees.
+fn all_slots_are(a: &[u16], value: u16) -> bool
+    ensures { λ r. ⌜ (r ≡ true → All (now (a .entry)) value) ⌝ }
+{
+    let mut place: usize = 0;
+    while place < a.len() {
+        if a[place] != value {
+            return false;
+        }
+        place += 1;
+    }
+    true
+}
+
+pub fn slots_left(slice: &[u16], used: usize, value: u16) -> bool
+    ensures { λ r. ⌜ (r ≡ true → Left (now (slice .entry)) used value 43690) ⌝ }
+{
+    if used > slice.len() {
+        return false;
+    }
+    if !all_slots_are(&slice[0..used], value) {
+        return false;
+    }
+    all_slots_are(&slice[used..], LENT_SLOT)
 }
 
 fn widened(byte: u8) -> u32

@@ -1,7 +1,9 @@
 // The calls for the list, each made as told and compared with the answer told.
 use crate::agree::LENT;
 use crate::agree::LENT_BYTE;
+use crate::agree::LENT_SLOT;
 use crate::agree::left;
+use crate::agree::slots_left;
 use crate::calls::graph_maxima;
 use crate::calls::lent;
 use crate::calls::value_left;
@@ -143,7 +145,7 @@ fn make_list(
     w_targets: &mut [u32],
     w_paths: &mut [u32],
     w_scores: &mut [f64],
-    w_active: &mut [u32],
+    w_active: &mut [u16],
     w_queue: &mut [u32],
     w_closed: &mut [u32],
     w_order: &mut [u32],
@@ -277,7 +279,7 @@ fn path_tables_left(
     told: Lent,
     w_paths: &[u32],
     w_scores: &[f64],
-    w_active: &[u32],
+    w_active: &[u16],
     w_queue: &[u32],
 ) -> bool {
     let value = value_left(refusal);
@@ -287,7 +289,7 @@ fn path_tables_left(
     if !scores_left(w_scores, told.scores, score_left(refusal)) {
         return false;
     }
-    if !left(w_active, told.active, value) {
+    if !slots_left(w_active, told.active, slot_left(refusal)) {
         return false;
     }
     left(w_queue, told.queue, value)
@@ -323,6 +325,14 @@ fn score_left(refusal: u32) -> u64 {
     0
 }
 
+// The same of a slot.
+fn slot_left(refusal: u32) -> u16 {
+    if 0 < refusal && refusal < 8 {
+        return LENT_SLOT;
+    }
+    0
+}
+
 // Each call is made in slices of its own, so that nothing of an earlier one can help it.
 fn list_agrees(
     call: &[u32],
@@ -351,7 +361,7 @@ fn list_agrees(
     let mut w_targets = [LENT; 8192];
     let mut w_paths = [LENT; 38088];
     let mut w_scores = [1.5f64; 4232];
-    let mut w_active = [LENT; 270848];
+    let mut w_active = [LENT_SLOT; 270848];
     let mut w_queue = [LENT; 4096];
     let mut w_closed = [LENT; 128];
     let mut w_order = [LENT; 8192];
