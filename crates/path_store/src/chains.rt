@@ -66,12 +66,18 @@ fn chain_plain(only: &[u32], to: &[u32], v: u32, limit: usize) -> Chain
     while i < limit {
         let e = at(only, u);
         if e == 0 {
-            return Chain { steps: i, vertex: u };
+            return Chain {
+                steps: i,
+                vertex: u,
+            };
         }
         u = next(only, to, u);
         i += 1;
     }
-    Chain { steps: i, vertex: u }
+    Chain {
+        steps: i,
+        vertex: u,
+    }
 }
 
 // The edge e is one of the n that follow v.
