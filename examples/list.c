@@ -17,16 +17,17 @@ int main(void) {
     uint8_t *path_bases = calloc(told.bases, 1);
     uint32_t *sequences = calloc(told.origins, 4), *places = calloc(told.origins, 4);
     Workspace w = told.workspace;
-    size_t lengths[] = {w.vertices, w.edges, w.index, w.nodes, w.targets, w.paths, w.active, w.queue, w.closed, w.order, w.marks, w.walks,
-        w.columns, w.columns};
-    uint32_t *s[14];
-    for (int i = 0; i < 14; i++)
+    size_t lengths[] = {w.vertices, w.edges, w.index, w.nodes, w.targets, w.paths, w.queue, w.closed, w.order, w.marks, w.walks, w.columns,
+        w.columns};
+    uint32_t *s[13];
+    for (int i = 0; i < 13; i++)
         s[i] = calloc(lengths[i], 4);
+    uint16_t *active = calloc(w.active, 2);
     double *scores = calloc(w.scores, 8), *row_scores = calloc(w.columns, 8);
     ListAnswer l = punelavoh_list(a, reference, 7, ends, 3, bases, 21, qualities, 21, column, 64, rows, told.paths, path_bases, told.bases, sequences,
         told.origins, places, told.origins, s[0], w.vertices, s[1], w.edges, s[2], w.index, s[3], w.nodes, s[4], w.targets, s[5], w.paths,
-        scores, w.scores, s[6], w.active, s[7], w.queue, s[8], w.closed, s[9], w.order, s[10], w.marks, s[11], w.walks, row_scores, w.columns,
-        s[12], w.columns, s[13], w.columns);
+        scores, w.scores, active, w.active, s[6], w.queue, s[7], w.closed, s[8], w.order, s[9], w.marks, s[10], w.walks, row_scores, w.columns,
+        s[11], w.columns, s[12], w.columns);
     printf("refusal %u paths %u pushes %u\n", l.refusal, l.paths, l.pushes);
     for (uint32_t r = 0; r < l.paths; r++) {
         printf("%f %.*s", rows[r].score, (int)(a.k + rows[r].edges), (char *)path_bases + r * (a.k + a.search.path_edges));

@@ -147,7 +147,7 @@ ListAnswer punelavoh_list(
     uint32_t *w_targets, size_t w_targets_length,
     uint32_t *w_paths, size_t w_paths_length,
     double *w_scores, size_t w_scores_length,
-    uint32_t *w_active, size_t w_active_length,
+    uint16_t *w_active, size_t w_active_length,
     uint32_t *w_queue, size_t w_queue_length,
     uint32_t *w_closed, size_t w_closed_length,
     uint32_t *w_order, size_t w_order_length,

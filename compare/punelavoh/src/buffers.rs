@@ -98,27 +98,13 @@ mod listing {
     use crate::ffi::{list, Lengths, ListAnswer, ListSettings, ListSlices, PathRow, Sample, Workspace};
     use crate::lent::Lent;
 
-    /// The number slices of the workspace, in the call's order, the columns of numbers last; the scores stand apart.
-    pub const LIST_WORKSPACE: [&str; 14] = [
-        "vertices",
-        "edges",
-        "index",
-        "nodes",
-        "targets",
-        "paths",
-        "active",
-        "queue",
-        "closed",
-        "order",
-        "marks",
-        "walks",
-        "closings",
-        "edge counts",
-    ];
+    /// The slices of 32-bit numbers of the workspace, in the call's order, the columns of numbers last; active nodes and scores stand apart.
+    pub const LIST_WORKSPACE: [&str; 13] =
+        ["vertices", "edges", "index", "nodes", "targets", "paths", "queue", "closed", "order", "marks", "walks", "closings", "edge counts"];
 
     /// The lengths told of those.
-    pub fn list_workspace(w: &Workspace) -> [usize; 14] {
-        [w.vertices, w.edges, w.index, w.nodes, w.targets, w.paths, w.active, w.queue, w.closed, w.order, w.marks, w.walks, w.columns, w.columns]
+    pub fn list_workspace(w: &Workspace) -> [usize; 13] {
+        [w.vertices, w.edges, w.index, w.nodes, w.targets, w.paths, w.queue, w.closed, w.order, w.marks, w.walks, w.columns, w.columns]
     }
 
     /// The lengths told of the two slices of scores: those of all paths, and those of the rows.
@@ -131,12 +117,13 @@ mod listing {
         pub bases: Lent<u8>,
         pub sequences: Lent<u32>,
         pub places: Lent<u32>,
-        pub workspace: [Lent<u32>; 14],
+        pub workspace: [Lent<u32>; 13],
+        pub active: Lent<u16>,
         pub scores: [Lent<f64>; 2],
     }
 
     impl ListBuffers {
-        pub fn new(outputs: [usize; 4], workspace: [usize; 14], scores: [usize; 2], seed: u32) -> Self {
+        pub fn new(outputs: [usize; 4], workspace: [usize; 13], active: usize, scores: [usize; 2], seed: u32) -> Self {
             let [rows, bases, sequences, places] = outputs;
             Self {
                 rows: Lent::new(rows, seed),
@@ -144,17 +131,19 @@ mod listing {
                 sequences: Lent::new(sequences, seed),
                 places: Lent::new(places, seed),
                 workspace: workspace.map(|n| Lent::new(n, seed)),
+                active: Lent::new(active, seed),
                 scores: scores.map(|n| Lent::new(n, seed)),
             }
         }
 
         /// Slices of exactly the lengths told.
         pub fn told(l: &Lengths) -> Self {
-            Self::new([l.paths, l.bases, l.origins, l.origins], list_workspace(&l.workspace), list_scores(&l.workspace), 0)
+            let w = &l.workspace;
+            Self::new([l.paths, l.bases, l.origins, l.origins], list_workspace(w), w.active, list_scores(w), 0)
         }
 
         pub fn call(&mut self, sample: Sample, settings: ListSettings) -> ListAnswer {
-            let [w_vertices, w_edges, w_index, w_nodes, w_targets, w_paths, w_active, w_queue, w_closed, w_order, w_marks, w_walks, row_closings, row_edges] =
+            let [w_vertices, w_edges, w_index, w_nodes, w_targets, w_paths, w_queue, w_closed, w_order, w_marks, w_walks, row_closings, row_edges] =
                 &mut self.workspace;
             let [w_scores, row_scores] = &mut self.scores;
             let slices = ListSlices {
@@ -169,7 +158,7 @@ mod listing {
                 w_targets: w_targets.slice_mut(),
                 w_paths: w_paths.slice_mut(),
                 w_scores: w_scores.slice_mut(),
-                w_active: w_active.slice_mut(),
+                w_active: self.active.slice_mut(),
                 w_queue: w_queue.slice_mut(),
                 w_closed: w_closed.slice_mut(),
                 w_order: w_order.slice_mut(),

@@ -26,6 +26,20 @@ impl Element for u32 {
     }
 }
 
+impl Element for u16 {
+    fn pattern(place: usize, seed: u32) -> Self {
+        (u32::pattern(place, seed) >> 16) as u16 | 1
+    }
+
+    fn same(self, other: Self) -> bool {
+        self == other
+    }
+
+    fn is_zero(self) -> bool {
+        self == 0
+    }
+}
+
 impl Element for u8 {
     fn pattern(place: usize, seed: u32) -> Self {
         (u32::pattern(place, seed) >> 16) as u8 | 1

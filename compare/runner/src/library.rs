@@ -83,8 +83,12 @@ fn graph_told(k: u32, maxima: &GraphMaxima) -> Lengths {
 fn bytes_told(l: &Lengths) -> usize {
     let w = &l.workspace;
     let graph = w.vertices + w.edges + w.index + w.nodes + w.open;
-    let search = w.targets + w.paths + w.active + w.queue + w.closed + w.order + w.marks + w.walks + 2 * w.columns;
-    4 * (l.edges + l.nodes + 2 * l.origins + graph + search) + 8 * (w.scores + w.columns) + l.bases + l.paths * size_of::<punelavoh::PathRow>()
+    let search = w.targets + w.paths + w.queue + w.closed + w.order + w.marks + w.walks + 2 * w.columns;
+    4 * (l.edges + l.nodes + 2 * l.origins + graph + search)
+        + 2 * w.active
+        + 8 * (w.scores + w.columns)
+        + l.bases
+        + l.paths * size_of::<punelavoh::PathRow>()
 }
 
 fn check_lengths(k: u32, paths: u32, graph: &GraphMaxima, search: &SearchMaxima, expected: &Outcome<Told>) -> Checked<()> {
@@ -195,8 +199,9 @@ mod listing {
     use punelavoh::buffers::{list_scores, list_workspace, ListBuffers, LIST_WORKSPACE};
     use punelavoh::{ListSettings, PathRow};
 
-    /// The number slices of the workspace as `Slice` numbers them, the two of scores behind.
-    const SCORES: usize = LIST_WORKSPACE.len();
+    /// The number slices of the workspace as `Slice` numbers them, behind them the active nodes and the two of scores.
+    const ACTIVE: usize = LIST_WORKSPACE.len();
+    const SCORES: usize = ACTIVE + 1;
 
     pub fn check_list(sample: &Sample, input: &ListInput, lend: Lend, expected: &Outcome<ListWritten>) -> Option<Checked<()>> {
         let mut told = punelavoh::lengths(sample.k, input.paths, graph_maxima(&input.graph), search_maxima(&input.search));
@@ -207,11 +212,12 @@ mod listing {
         let outputs = [told.paths, told.bases, told.origins, told.origins];
         let lent = lent_lengths(outputs, [Slice::Paths, Slice::Bases, Slice::Sequences, Slice::Places], lend)?;
         let lent_work = lent_lengths(work, std::array::from_fn(Slice::Workspace), lend)?;
+        let [lent_active] = lent_lengths([told.workspace.active], [Slice::Workspace(ACTIVE)], lend)?;
         let scores = list_scores(&told.workspace);
         let lent_scores = lent_lengths(scores, [Slice::Workspace(SCORES), Slice::Workspace(SCORES + 1)], lend)?;
         let handed = SampleBuffers::new(&borrowed(sample), lend.seed);
         let column = Lent::holding(&input.column, lend.seed);
-        let mut buffers = ListBuffers::new(lent, lent_work, lent_scores, lend.seed);
+        let mut buffers = ListBuffers::new(lent, lent_work, lent_active, lent_scores, lend.seed);
         let settings = ListSettings {
             paths: input.paths,
             threshold: input.threshold,
@@ -239,6 +245,7 @@ mod listing {
             for ((slice, told), name) in buffers.workspace.iter().zip(work).zip(LIST_WORKSPACE) {
                 check_workspace(slice, told, refusal, name)?;
             }
+            check_workspace(&buffers.active, told.workspace.active, refusal, "active")?;
             for ((slice, told), name) in buffers.scores.iter().zip(scores).zip(["scores", "row scores"]) {
                 check_workspace(slice, told, refusal, name)?;
             }
