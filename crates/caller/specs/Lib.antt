@@ -1,8 +1,2 @@
-pub mod Lent
-pub mod Outcome
-pub mod Clear
-pub mod Fill
-pub mod Made
-pub mod Graph
 pub mod Records
 pub mod Recorded

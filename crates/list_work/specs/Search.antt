@@ -39,12 +39,12 @@ use Rattle.junction_kbest.specs.Find.{searched, Finds, Ended, Found}
 use Rattle.path_list.specs.Told.{Shows}
 use Rattle.path_list.specs.List as list
 use Rattle.path_list.specs.Ended.{ended-listable, ended-shows}
+use Rattle.graph_work.specs.declared.Raise.{Raise}
+use Rattle.graph_work.specs.Raise.{RaisedAt, raised-built}
 use Rattle.list_work.specs.declared.ListAnswer.{ListAnswer}
 use Rattle.list_work.specs.declared.Settings.{Settings}
-use Rattle.list_work.specs.declared.Raise.{Raise}
 use Rattle.list_work.specs.Outcome.{Outputs, outputsOf, Tables, writtenList, Listed, found, refusedAnswer, listed-refused, listed-done, listed-none}
 use Rattle.list_work.specs.Works.{inputFor, Outs, checked-rules, active-some}
-use Rattle.list_work.specs.Raise.{RaisedAt, raised-built}
 use Rattle.list_work.specs.Chains.{Chains, Chained, Small}
 
 abbrev pub searchRefusal : Search → ℕ

@@ -14,18 +14,14 @@ use Rattle.definition.specs.Listing.{afterBuild}
 use Rattle.limits.specs.Workspaces.{openTrees}
 use Rattle.limits.specs.Bounds.{settings-most}
 use Rattle.search_ground.specs.Exact.{built-exact}
+use Rattle.graph_work.specs.declared.Raise.{Raise}
+use Rattle.graph_work.specs.declared.Raised.{Raised}
+use Rattle.graph_work.specs.declared.Raised.the-variants.{Graph, Refused}
+use Rattle.graph_work.specs.Raise.{raiseRefusal, Raises, RaisedAt, RaisedOf, raised-built}
 use Rattle.list_work.specs.declared.ListAnswer.{ListAnswer}
-use Rattle.list_work.specs.declared.Raise.{Raise}
-use Rattle.list_work.specs.declared.Raised.{Raised}
-use Rattle.list_work.specs.declared.Raised.the-variants.{Graph, Refused}
 use Rattle.list_work.specs.Outcome.{Outputs, Tables, tablesOf, Listed, found, refusedAnswer, listed-refused}
 use Rattle.list_work.specs.Works.{Works, checked-rules, checked-maxima}
-use Rattle.list_work.specs.Raise.{Raises, RaisedAt, RaisedOf, raised-built}
 use Rattle.list_work.specs.Search.{Searches, none-asked}
-
-abbrev pub raiseRefusal : Raised → ℕ
-raiseRefusal (Graph b) = 0
-raiseRefusal (Refused n) = n
 
 max-first : (a b n : ℕ) → n ≡ max a b → a ≤ n
 max-first a b n e = omega arith

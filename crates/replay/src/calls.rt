@@ -7,7 +7,7 @@ use crate::numbers::behind;
 use crate::numbers::field;
 use crate::numbers::least;
 use crate::numbers::wide;
-use caller::GraphAnswer;
+use graph_call::GraphAnswer;
 use limits::GraphMaxima;
 use limits::LengthsTold;
 use limits::SearchMaxima;
@@ -187,7 +187,7 @@ fn make_graph(
     let e = least(w.index, w_index.len());
     let f = least(w.nodes, w_nodes.len());
     let g = least(w.open, w_open.len());
-    caller::graph(
+    graph_call::graph(
         k,
         quality,
         reference,

@@ -7,25 +7,26 @@ use lib.Seq.{drop-length}
 use Rattle.definition.specs.Calls.{writtenAt}
 use Rattle.graph_rows.specs.Zeros.{written-zeros}
 
-zero-at : (n i : ℕ) → _≡_ {A = ℕ} (getD (replicate n 0) i 0) 0
+abbrev pub zeros : ℕ → List ℕ
+zeros n = replicate n 0
+
+zero-at : (n i : ℕ) → getD (zeros n) i 0 ≡ 0
 zero-at zero i = refl
 zero-at (suc n) zero = refl
 zero-at (suc n) (suc i) = zero-at n i
 
--- all of a slice is zero
+-- a slice that is written with zeros over its whole length
+pub cleared : (w w′ : List ℕ) → w′ ≡ writtenAt 0 (zeros (length w)) w → w′ ≡ zeros (length w)
+cleared w w′ e = e ∙ written-zeros 0 (length w) w ∙ ap (λ (l : List ℕ). zeros (length w) ++ l) (drop-length w) ∙ append-nil (zeros (length w))
+
 pub record Zero (w w′ : List ℕ) : Type 0 where
   pub size : length w′ ≡ length w
   pub zeros : (i : ℕ) → getD w′ i 0 ≡ 0
 
-pub zero-of : {w w′ : List ℕ} → w′ ≡ writtenAt 0 (replicate (length w) 0) w → Zero w w′
+pub zero-of : {w w′ : List ℕ} → w′ ≡ writtenAt 0 (zeros (length w)) w → Zero w w′
 zero-of {w} {w′} e =
-    let n = length w in
-    let z : w′ ≡ replicate n 0 =
-    e
-    ∙ written-zeros 0 n w
-    ∙ ap (λ (l : List ℕ). replicate n 0 ++ l) (drop-length w)
-    ∙ append-nil (replicate n 0) in
-    record { size = ap length z ∙ length-replicate n 0; zeros = λ i. rw z (zero-at n i) }
+    let z = cleared w w′ e in
+    record { size = ap length z ∙ length-replicate (length w) 0; zeros = λ i. rw z (zero-at (length w) i) }
 
 pub record Cleared (wv wv′ wi wi′ wx wx′ : List ℕ) : Type 0 where
   pub vertices : Zero wv wv′

@@ -11,6 +11,8 @@ use Rattle.laws.specs.ListLaws.{and-right}
 use Rattle.laws.specs.Numbers.{within}
 use Rattle.definition.specs.Refusal.{ok, refused, firstBroken}
 use Rattle.definition.specs.Limits.{Sample, GraphMaxima, graphMaximaFit, sampleRules}
+use Rattle.definition.specs.Threading.{threaded, withSymbolic}
+use Rattle.definition.specs.Evidence.{evidence}
 use Rattle.definition.specs.Building.{built}
 use Rattle.assembly.specs.Index.{Finding}
 use Rattle.junction_tree_graph.specs.declared.Built as tables
@@ -22,12 +24,11 @@ use Rattle.junction_tree_graph.specs.Answers.{BuiltOf, FoundOf, maxima-in, not-
 use Rattle.junction_trees.specs.declared.Evidence.{Evidence}
 use Rattle.junction_trees.specs.declared.Evidence.the-variants as trees
 use Rattle.junction_trees.specs.Trees.{Gathers, Gathered, Evident, NotEvident, built-kept, built-fits, built-over}
-use Rattle.search_ground.specs.Ground.{builtFor}
 use Rattle.limits.specs.Workspaces.{vertexTable, edgeTable, kmerIndex, nodeTable, openTrees}
-use Rattle.list_work.specs.declared.Raise.{Raise}
-use Rattle.list_work.specs.declared.Raised.{Raised}
-use Rattle.list_work.specs.declared.Raised.the-variants.{Graph, Refused}
-use Rattle.list_work.specs.Clear.{Cleared}
+use Rattle.graph_work.specs.declared.Raise.{Raise}
+use Rattle.graph_work.specs.declared.Raised.{Raised}
+use Rattle.graph_work.specs.declared.Raised.the-variants.{Graph, Refused}
+use Rattle.graph_work.specs.Clear.{Cleared}
 
 abbrev pub graphRefusal : Answer → ℕ
 graphRefusal (answer.Done b) = 0
@@ -36,6 +37,19 @@ graphRefusal (answer.Refused n) = n
 abbrev pub treesRefusal : Evidence → ℕ
 treesRefusal (trees.Trees c) = 0
 treesRefusal (trees.Refused n) = n
+
+abbrev pub raiseRefusal : Raised → ℕ
+raiseRefusal (Graph b) = 0
+raiseRefusal (Refused n) = n
+
+pub edges-few : (m : GraphMaxima) → graphMaximaFit m ≡ true → m .edges ≤ 8192
+edges-few m h = leb-true (m .edges) 8192 (and-right (leb 1 (m .edges)) (leb (m .edges) 8192) (maxima-in m h .1))
+
+pub nodes-few : (m : GraphMaxima) → graphMaximaFit m ≡ true → m .nodes ≤ 16384
+unfolding graphMaximaFit
+nodes-few m h =
+    let a = and-right (within 2 4096 (m .vertices) && within 1 8192 (m .edges)) (within 1 16384 (m .nodes)) h in
+    leb-true (m .nodes) 16384 (and-right (leb 1 (m .nodes)) (leb (m .nodes) 16384) a)
 
 pub record Raises (s : Sample) (m : GraphMaxima) (wv we wi wx wo : List ℕ) : Type 0 where
   pub rules : firstBroken (sampleRules s) ≡ 0
@@ -55,7 +69,8 @@ abbrev pub RaisedOf : Sample → GraphMaxima → List ℕ → List ℕ → List 
 RaisedOf s m vs es x op (Graph b) = RaisedAt s m vs es x op b
 RaisedOf s m vs es x op (Refused n) = built s m ≡ refused n
 
-pub raised-built : {s : Sample} {m : GraphMaxima} {vs es x op : List ℕ} {b : Raise} → RaisedAt s m vs es x op b → built s m ≡ ok (builtFor s)
+pub raised-built : {s : Sample} {m : GraphMaxima} {vs es x op : List ℕ} {b : Raise} → RaisedAt s m vs es x op b
+    → built s m ≡ ok (record { graph = threaded s; edges = withSymbolic s (threaded s); trees = evidence s (threaded s) })
 raised-built {m = m} r = built-fits (r .at) (m .nodes) (r .there .fits)
 
 module _ {s : Sample} {m : GraphMaxima} {wv we wi wx wo : List ℕ} (x : Raises s m wv we wi wx wo) {wv₁ wi₁ wx₁ : List ℕ} (z : Cleared wv wv₁ wi wi₁ wx wx₁) where
@@ -73,12 +88,6 @@ module _ {s : Sample} {m : GraphMaxima} {wv we wi wx wo : List ℕ} (x : Raises 
 
   pub raise-fresh : Fresh (m .vertices) wi₁
   raise-fresh = record { size = z .index .size ∙ x .index; zero = z .index .zeros }
-
-  nodes-few : m .nodes ≤ 16384
-  unfolding graphMaximaFit
-  nodes-few =
-      let a = and-right (within 2 4096 (m .vertices) && within 1 8192 (m .edges)) (within 1 16384 (m .nodes)) (x .maxima) in
-      leb-true (m .nodes) 16384 (and-right (leb 1 (m .nodes)) (leb (m .nodes) 16384) a)
 
   module _ (vs₁ es₁ : List ℕ) (r : Answer) (h : BuiltOf s (m .vertices) (m .edges) vs₁ es₁ r) where
     pub raise-eight : {n : ℕ} → r ≡ answer.Refused n → {k : ℕ} → k ≡ graphRefusal r → built s m ≡ refused k
@@ -98,7 +107,7 @@ module _ {s : Sample} {m : GraphMaxima} {wv we wi wx wo : List ℕ} (x : Raises 
           let a = x .nodes in
           let a′ = z .nodes .size in
           let o = x .opened in
-          let f = nodes-few in
+          let f = nodes-few m (x .maxima) in
           record {
             rules = x .rules;
             vertices = m .vertices;

@@ -1,8 +1,8 @@
 -- `write_rows` meets its contract: the linked slots hold every edge, and the held walk every node. Assumes nothing.
-use Rattle.caller.specs.Fill.{edges-ask}
+use Rattle.graph_call.specs.Fill.{edges-ask}
 use borrow.Author.Needs.{needs}
-use Rattle.caller.proofs.write_rows.Statement.{statement}
-use Rattle.caller.proofs.write_rows.Tie as tie
+use Rattle.graph_call.proofs.write_rows.Statement.{statement}
+use Rattle.graph_call.proofs.write_rows.Tie as tie
 
 link-symbolic-edge-requires : tie.Need-link-symbolic-edge-requires
 link-symbolic-edge-requires c κs = search needs
@@ -16,14 +16,14 @@ write-edges-requires c κs = edges-ask _ (c .before .before .before .before .bef
 write-nodes-requires : tie.Need-write-nodes-requires
 write-nodes-requires c κs = search needs
 
-add-t15 : tie.Need-add-t15
-add-t15 c = search needs
+add-t14 : tie.Need-add-t14
+add-t14 c = search needs
+
+cast-t21 : tie.Need-cast-t21
+cast-t21 c = search needs
 
 cast-t22 : tie.Need-cast-t22
 cast-t22 c = search needs
-
-cast-t23 : tie.Need-cast-t23
-cast-t23 c = search needs
 
 same-length : tie.Need-same-length
 same-length c = search needs
@@ -48,9 +48,9 @@ write-rows-spec =
     add-write-edges
     write-edges-requires
     write-nodes-requires
-    add-t15
+    add-t14
+    cast-t21
     cast-t22
-    cast-t23
     same-length
     same-length-2
     same-length-3

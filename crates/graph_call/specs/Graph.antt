@@ -18,11 +18,12 @@ use Rattle.definition.specs.Building.{built, builtOf}
 use Rattle.definition.specs.Calls.{GraphOutcome, graphOf, graphCall, afterGraphChecks, workspaceAfter}
 use Rattle.limits.specs.Rules.{rule, Numbered, low-broken, none-broken, first-broken, first-hold, sample-numbered, graph-rules}
 use Rattle.limits.specs.Workspaces.{vertexTable, edgeTable, kmerIndex, nodeTable, openTrees}
-use Rattle.caller.specs.declared.GraphAnswer.{GraphAnswer}
-use Rattle.caller.specs.Lent.{workspaceTold, Long, long-of, Lent}
-use Rattle.caller.specs.Outcome.{outcome, refusedAnswer, Graphed}
-use Rattle.caller.specs.Clear.{zeros, cleared-part}
-use Rattle.caller.specs.Made.{Made}
+use Rattle.graph_work.specs.Clear.{zeros}
+use Rattle.graph_call.specs.declared.GraphAnswer.{GraphAnswer}
+use Rattle.graph_call.specs.Lent.{workspaceTold, Long, long-of, Lent}
+use Rattle.graph_call.specs.Outcome.{outcome, refusedAnswer, Graphed}
+use Rattle.graph_call.specs.Clear.{cleared-part}
+use Rattle.graph_call.specs.Made.{Made}
 
 -- ---- the rules hold
 

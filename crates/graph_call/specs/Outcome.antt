@@ -6,8 +6,8 @@ use lib.ListN.{length}
 use Rattle.definition.specs.Limits.{Sample, GraphMaxima}
 use Rattle.definition.specs.Calls.{GraphOutcome, graphCall, workspaceAfter}
 use Rattle.limits.specs.Workspaces.{vertexTable, edgeTable, kmerIndex, nodeTable, openTrees}
-use Rattle.caller.specs.declared.GraphAnswer.{GraphAnswer}
-use Rattle.caller.specs.Lent.{workspaceTold}
+use Rattle.graph_call.specs.declared.GraphAnswer.{GraphAnswer}
+use Rattle.graph_call.specs.Lent.{workspaceTold}
 
 abbrev pub outcome : GraphAnswer → List ℕ → List ℕ → GraphOutcome
 outcome r es ns = record { refusal = r .refusal; edges = r .edges; nodes = r .nodes; edgeSlice = es; nodeSlice = ns }

@@ -1,10 +1,10 @@
 -- `graph` meets its contract: refused by the first broken rule with nothing touched, or `make_graph` over the parts told. Assumes nothing.
 use mathlib.Core.Path.{sym}
 use lib.Seq.{length-take-le}
-use Rattle.caller.specs.Graph.{graph-refused, graph-long, graph-lent, graph-made}
+use Rattle.graph_call.specs.Graph.{graph-refused, graph-long, graph-lent, graph-made}
 use borrow.Author.Needs.{needs}
-use Rattle.caller.proofs.graph.Statement.{statement}
-use Rattle.caller.proofs.graph.Tie as tie
+use Rattle.graph_call.proofs.graph.Statement.{statement}
+use Rattle.graph_call.proofs.graph.Tie as tie
 
 lent-fits-requires : tie.Need-lent-fits-requires
 lent-fits-requires c κs = search needs

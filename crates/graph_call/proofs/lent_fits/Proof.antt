@@ -1,9 +1,9 @@
 -- `lent_fits` meets its contract: the first slice shorter than told decides. Assumes nothing.
 use mathlib.Core.Path.{_∙_}
-use Rattle.caller.specs.Lent.{is-short, no-short, none-short, told-is}
+use Rattle.graph_call.specs.Lent.{is-short, no-short, none-short, told-is}
 use borrow.Author.Needs.{needs}
-use Rattle.caller.proofs.lent_fits.Statement.{statement}
-use Rattle.caller.proofs.lent_fits.Tie as tie
+use Rattle.graph_call.proofs.lent_fits.Statement.{statement}
+use Rattle.graph_call.proofs.lent_fits.Tie as tie
 
 cast-if1 : tie.Need-cast-if1
 cast-if1 c = search needs

@@ -1,8 +1,8 @@
 -- `clear_all` meets its contract: each slice is cleared over its whole length. Assumes nothing.
-use Rattle.caller.specs.Clear.{cleared}
+use Rattle.graph_work.specs.Clear.{cleared}
 use borrow.Author.Needs.{needs}
-use Rattle.caller.proofs.clear_all.Statement.{statement}
-use Rattle.caller.proofs.clear_all.Tie as tie
+use Rattle.graph_call.proofs.clear_all.Statement.{statement}
+use Rattle.graph_call.proofs.clear_all.Tie as tie
 
 clear-requires : tie.Need-clear-requires
 clear-requires c κs = search needs

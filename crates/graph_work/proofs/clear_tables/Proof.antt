@@ -1,34 +1,27 @@
 -- `clear_tables` meets its contract: each slice is cleared over its whole length. Assumes nothing.
-use Rattle.list_work.specs.Clear.{zero-of}
+use Rattle.graph_work.specs.Clear.{zero-of}
 use borrow.Author.Needs.{needs}
-use Rattle.list_work.proofs.clear_tables.Statement.{statement}
-use Rattle.list_work.proofs.clear_tables.Tie as tie
+use Rattle.graph_work.proofs.clear_tables.Statement.{statement}
+use Rattle.graph_work.proofs.clear_tables.Tie as tie
 
--- src/lib.rt:86:5
 clear-requires : tie.Need-clear-requires
 clear-requires c κs = search needs
 
--- src/lib.rt:87:5
 clear-requires-2 : tie.Need-clear-requires-2
 clear-requires-2 c κs = search needs
 
--- src/lib.rt:88:5
 clear-requires-3 : tie.Need-clear-requires-3
 clear-requires-3 c κs = search needs
 
--- src/lib.rt:83:1
 same-length : tie.Need-same-length
 same-length c = search needs
 
--- src/lib.rt:83:1
 same-length-2 : tie.Need-same-length-2
 same-length-2 c = search needs
 
--- src/lib.rt:83:1
 same-length-3 : tie.Need-same-length-3
 same-length-3 c = search needs
 
--- src/lib.rt:83:1
 returns : tie.Need-returns
 returns c = record { vertices = zero-of {w = c .before .before .before .before .before .before .before .before .before .before .before .before .before .before .before .args .w-vertices .now} (c .before .before .before .before .before .before .before .before .before .before .clear .ensures); index = zero-of {w = c .before .before .before .before .before .before .before .before .before .before .before .before .before .before .before .args .w-index .now} (c .before .before .before .before .before .before .clear2 .ensures); nodes = zero-of {w = c .before .before .before .before .before .before .before .before .before .before .before .before .before .before .before .args .w-nodes .now} (c .before .before .clear3 .ensures) }
 

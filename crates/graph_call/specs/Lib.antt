@@ -1,0 +1,6 @@
+pub mod Lent
+pub mod Outcome
+pub mod Clear
+pub mod Fill
+pub mod Made
+pub mod Graph
