@@ -12,7 +12,7 @@ use threading_tree::first_child;
 use threading_tree::next_sibling;
 use threading_tree::total_out_for_branch;
 ghost use mathlib.Core.Path.{_≡_};
-ghost use Prim.Native.Nat.{ℕ, _+_, _-_, _*_, _^_, _<_, _≤_};
+ghost use Prim.Native.Nat.{_+_, _-_, _*_, _^_, _<_, _≤_};
 ghost use lib.ListN.{length, getD};
 ghost use Rattle.definition.specs.Threading.{eqEnds, leaving};
 ghost use Rattle.threading_tree.specs.Ends.{ends};

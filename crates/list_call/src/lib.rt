@@ -9,7 +9,6 @@ use list_work::Settings;
 use list_work::refused;
 use list_work::work;
 ghost use mathlib.Core.Path.{_≡_};
-ghost use mathlib.Core.List.{[], _∷_};
 ghost use Prim.Native.Nat.{_≤_};
 ghost use Rattle.definition.specs.Refusal.{firstBroken};
 ghost use Rattle.definition.specs.Limits.{longEnough, listRules};
@@ -18,9 +17,8 @@ ghost use Rattle.limits.specs.Bounds.{InLimits};
 ghost use Rattle.list_work.specs.Works.{inputFor};
 ghost use lib.ListN.{length, replicate};
 ghost use Rattle.definition.specs.Calls.{writtenAt};
-ghost use Rattle.list_work.specs.Outcome.{Listed, outputsOf, tablesOf, found};
+ghost use Rattle.list_work.specs.Outcome.{outputsOf, tablesOf};
 ghost use Rattle.list_call.specs.Outcome.{floatZero};
-ghost use Rattle.list_work.specs.Works.{Works};
 ghost use Rattle.list_call.specs.Within.{Within, Done, Called};
 ghost use Rattle.list_call.specs.Lent.{toldOf, lentOf, outputsTold, outputsLent, graphTold, graphLent, searchTold, searchLent};
 

@@ -1,7 +1,7 @@
 // The waiting paths: a binary heap of record numbers, by their scores.
 ghost use mathlib.Core.Path.{_≡_};
 ghost use Prim.Native.Nat.{ℕ, _+_, _-_, _*_, _<_, _≤_};
-ghost use lib.ListN.{length, getD};
+ghost use lib.ListN.{length};
 ghost use Rattle.laws.specs.Heaps.{above, nth, Child};
 ghost use Rattle.path_heap.specs.First.{Known, leads};
 ghost use Rattle.path_heap.specs.Heap.{ScoreHeap, Pushable, Pushed, Popped};

@@ -4,7 +4,7 @@ pub mod order; // order.rt: which of two closed paths stands above the other, an
 pub mod rows; // rows.rt: the rows of the list as columns, and their bases and origins
 
 ghost use mathlib.Core.List.{_++_};
-ghost use Prim.Native.Nat.{ℕ, _+_, _*_, _<_, _≤_};
+ghost use Prim.Native.Nat.{_+_};
 ghost use lib.ListN.{length};
 ghost use Rattle.path_list.specs.List.{Listable, Listed};
 use crate::order::rank_paths;

@@ -1,8 +1,8 @@
 // The order of the list: falling score, then falling bases, then earlier closing. (Rust: the sort at the end of find_junction_best_haplotypes)
 ghost use mathlib.Core.Path.{_≡_};
 ghost use mathlib.Core.List.{_++_, map};
-ghost use Prim.Native.Nat.{ℕ, _+_, _-_, _*_, _<_, _≤_};
-ghost use lib.ListN.{length, getD, take, drop};
+ghost use Prim.Native.Nat.{_+_, _-_, _*_, _<_, _≤_};
+ghost use lib.ListN.{length, take};
 ghost use Rattle.laws.specs.Numbers.{compareList, isGt};
 ghost use Rattle.assembly.specs.Paths.{endBase, Spells};
 ghost use Rattle.path_list.specs.Tails.{Spelt};

@@ -1,8 +1,7 @@
 // The rows of the list: scores, closing numbers and edge counts as columns, and beside them the bases and the origins.
-ghost use mathlib.Core.Path.{_≡_};
 ghost use mathlib.Core.List.{_++_};
-ghost use Prim.Native.Nat.{ℕ, _+_, _-_, _*_, _<_, _≤_};
-ghost use lib.ListN.{length, getD};
+ghost use Prim.Native.Nat.{_+_, _*_, _<_, _≤_};
+ghost use lib.ListN.{length};
 ghost use Rattle.path_list.specs.Laid.{Laid};
 ghost use Rattle.path_list.specs.Ranks.{lists, Ready};
 ghost use Rattle.path_list.specs.Rows.{Placed, Known, Columns, Filed, basesAt, fieldsAt};

@@ -1,5 +1,5 @@
 // The edges of the closed paths, written out once: what compares paths and what spells them reads them there.
-ghost use Prim.Native.Nat.{ℕ, _+_, _*_, _<_, _≤_};
+ghost use Prim.Native.Nat.{_+_, _*_, _<_};
 ghost use lib.ListN.{length};
 ghost use Rattle.path_list.specs.Walked.{Walkable, Walked};
 use path_store::walks::write_path;

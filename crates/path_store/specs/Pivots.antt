@@ -1,11 +1,11 @@
 -- The pivotal edges as numbers: they differ, and no chain goes on by one of them, which is what striking them out by marks asks (Cross).
-use mathlib.Core.Path.{_≡_, refl, sym, ap, _∙_}
+use mathlib.Core.Path.{_≡_, sym, ap, _∙_}
 use mathlib.Core.Logic.{_≢_}
 use mathlib.Core.Bool.{false}
 use mathlib.Core.List.{List, [], _∷_, map}
-use Prim.Native.Nat.{ℕ, suc, _<_}
+use Prim.Native.Nat.{ℕ}
 use native.Mathlib.Omega.{arith}
-use lib.ListN.{length, getD}
+use lib.ListN.{length}
 use Rattle.laws.specs.ListLaws.{All, nil, cons, clash, Pairwise, empty, first, pairwise-head, pairwise-tail}
 use Rattle.definition.specs.Threading.{Ends, eqEnds, Edge, leaving}
 use Rattle.definition.specs.Search.{SearchInput, endsOf, pivotalEdges}

@@ -1,9 +1,9 @@
 // Paths are made: the start path, an extension, a closed path, a recovered path; and a tree joins a path that is taken.
 ghost use mathlib.Core.Path.{_≡_};
-ghost use Prim.Native.Nat.{ℕ, _+_, _-_, _*_, _<_, _≤_};
+ghost use Prim.Native.Nat.{_+_, _-_, _<_, _≤_};
 ghost use lib.ListN.{length};
 ghost use Rattle.path_store.specs.Walk.{after};
-ghost use Rattle.path_store.specs.Cells.{Inside, Stored, countOf, endOf, treesOf};
+ghost use Rattle.path_store.specs.Cells.{Inside, Stored, countOf, endOf};
 ghost use Rattle.path_store.specs.Path.{Table};
 ghost use Rattle.path_store.specs.Cut.{before, ownerOf, cutOf, Links};
 ghost use Rattle.path_store.specs.Extend.{Ends};

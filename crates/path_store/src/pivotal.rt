@@ -1,6 +1,6 @@
 // Pivotal edges: those of a path are struck out, the best closed path through a vertex is found, and the place where it is split.
 ghost use mathlib.Core.Path.{_≡_};
-ghost use Prim.Native.Nat.{ℕ, _+_, _-_, _*_, _<_, _≤_};
+ghost use Prim.Native.Nat.{ℕ, _+_, _-_, _<_, _≤_};
 ghost use lib.ListN.{length, getD, take};
 ghost use Rattle.path_store.specs.Path.{lastEdge, Table, edges};
 ghost use Rattle.path_store.specs.Cross.{clears, Struck};

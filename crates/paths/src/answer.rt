@@ -13,7 +13,7 @@ use paths_text::source::Source;
 use paths_text::source::read_text;
 use paths_text::writing::write_refused;
 ghost use mathlib.Core.Path.{_≡_};
-ghost use Prim.Native.Nat.{_<_, _≤_};
+ghost use Prim.Native.Nat.{_≤_};
 ghost use lib.ListN.{length};
 ghost use Rattle.definition.specs.Refusal.{firstBroken};
 ghost use Rattle.definition.specs.Text.{Text, textOf, textRules, refusedLine};

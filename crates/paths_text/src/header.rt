@@ -8,7 +8,6 @@ use crate::numbers::read_number;
 use crate::numbers::signed;
 use crate::numbers::size_of;
 use crate::numbers::up_to;
-ghost use mathlib.Core.Path.{_≡_};
 ghost use mathlib.Core.List.{[], _∷_};
 ghost use Prim.Native.Nat.{_+_, _≤_};
 ghost use lib.ListN.{length, take};

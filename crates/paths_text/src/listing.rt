@@ -1,7 +1,6 @@
 // What an accepted list prints: the first line, and a line for each path.
 use crate::writing::write_first;
 use crate::writing::write_path;
-ghost use mathlib.Core.Path.{_≡_};
 ghost use mathlib.Core.List.{_++_};
 ghost use Prim.Native.Nat.{_+_, _≤_};
 ghost use lib.ListN.{length};

@@ -7,7 +7,6 @@ ghost use lib.Dec.{T};
 ghost use lib.ListN.{length};
 ghost use lib.Ieee.{isNan};
 ghost use Rattle.definition.specs.Text.{decimal, hexDigit, hexadecimal, pathLine, firstLine, refusedLine};
-ghost use Rattle.definition.specs.Calls.{writtenAt};
 ghost use Rattle.paths_text.specs.Written.{Wrote};
 
 fn write_byte(out: &mut [u8], at: usize, byte: u8) -> usize

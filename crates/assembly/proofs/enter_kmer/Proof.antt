@@ -1,5 +1,5 @@
 -- `enter_kmer` meets its contract. Assumes nothing.
-use mathlib.Core.Path.{_≡_, refl, sym, ap, _∙_}
+use mathlib.Core.Path.{refl}
 use native.Mathlib.Omega.{arith}
 use lib.ListN.{length-set}
 use Rattle.assembly.specs.Index.{entered}

@@ -1,9 +1,8 @@
 -- `find_in_bucket` meets its contract: a turn leaves only the vertices of the bucket below c. Assumes nothing.
 use Rattle.assembly.specs.Index.{walk-place}
-use mathlib.Core.Path.{_≡_, refl, sym, ap, _∙_}
+use mathlib.Core.Path.{sym, _∙_}
 use mathlib.Core.List.{_++_}
-use lib.ListN.{length}
-use Prim.Native.Nat.{ℕ, _-_, _≤_, _<_, _*_, _+_, _/_}
+use Prim.Native.Nat.{_-_, _+_}
 use native.Mathlib.Omega.{arith}
 use borrow.Author.Needs.{needs}
 use Rattle.assembly.specs.Index.{sizeOf, Walks, walk-start, walk-less, walk-on, walk-in, walk-found, walk-none, bucket-lt}

@@ -1,7 +1,7 @@
 -- `kmer_bucket` meets its contract: after j turns the hash is that of the first j bytes. Assumes nothing.
-use mathlib.Core.Path.{_≡_, refl, sym, ap, _∙_}
+use mathlib.Core.Path.{_≡_, ap, _∙_}
 use mathlib.Core.List.{_++_}
-use Prim.Native.Nat.{ℕ, _-_, _≤_, _<_, _*_, _+_, _%_}
+use Prim.Native.Nat.{ℕ, _-_, _≤_, _<_, _+_, _%_}
 use native.Mathlib.Omega.{arith}
 use borrow.Author.Needs.{needs}
 use lib.ListN.{length-append}

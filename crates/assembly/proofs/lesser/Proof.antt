@@ -1,4 +1,4 @@
-use Prim.Native.Nat.{_-_, _≤_, _*_, _+_}
+use Prim.Native.Nat.{_-_, _*_, _+_}
 use native.Mathlib.Omega.{arith}
 use Rattle.assembly.specs.Outs.{lesser-empty, lesser-low, lesser-first, lesser-new, lesser-old}
 use borrow.Author.Needs.{needs}

@@ -1,4 +1,4 @@
-use Prim.Native.Nat.{_-_, _≤_, _*_, _+_}
+use Prim.Native.Nat.{_-_, _*_, _+_}
 use native.Mathlib.Omega.{arith}
 use Rattle.assembly.specs.Outs.{Best, Names, best-start, best-next, best-end, names-next}
 use Rattle.assembly.proofs.next_out.Statement.{statement}

@@ -1,4 +1,4 @@
-use Prim.Native.Nat.{_-_, _≤_, _*_, _+_}
+use Prim.Native.Nat.{_-_, _*_, _+_}
 use native.Mathlib.Omega.{arith}
 use lib.ListN.{length}
 use Rattle.assembly.specs.Sorted.{Passing, pass-start, pass-v, pass-names, pass-skip, pass-in, pass-room, pass-o, pass-take, pass-end}

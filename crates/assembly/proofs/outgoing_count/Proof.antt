@@ -1,5 +1,4 @@
-use mathlib.Core.Path.{_≡_, refl, sym}
-use Prim.Native.Nat.{_-_, _≤_}
+use Prim.Native.Nat.{_-_}
 use native.Mathlib.Omega.{arith}
 use Rattle.assembly.specs.Degrees.{Counted, counted-start, counted-next, counted-end, counted-le}
 use borrow.Author.Needs.{needs}

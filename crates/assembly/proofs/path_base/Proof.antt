@@ -1,7 +1,7 @@
-use mathlib.Core.Path.{_≡_, refl, sym, _∙_}
-use Prim.Native.Nat.{_+_, _-_, _≤_}
+use mathlib.Core.Path.{_∙_}
+use Prim.Native.Nat.{_-_}
 use native.Mathlib.Omega.{arith}
-use lib.ListN.{length, length-append}
+use lib.ListN.{length-append}
 use Rattle.assembly.specs.Paths.{base-first, base-edge, base-room, base-fits, base-later}
 use borrow.Author.Needs.{needs}
 use Rattle.assembly.proofs.path_base.Statement.{statement}

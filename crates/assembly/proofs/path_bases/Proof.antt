@@ -1,10 +1,8 @@
-use mathlib.Core.Path.{_≡_, refl, sym, _∙_}
 use mathlib.Core.List.{_++_}
-use Prim.Native.Nat.{_+_, _-_, _≤_}
+use Prim.Native.Nat.{_+_, _-_}
 use native.Mathlib.Omega.{arith}
 use lib.ListN.{take}
 use Rattle.assembly.specs.Paths.{basesOf, Written, written-start, path-next, path-end}
-use borrow.Author.Needs.{needs}
 use Rattle.assembly.proofs.path_bases.Statement.{statement}
 use Rattle.assembly.proofs.path_bases.Tie as tie
 use Rattle.assembly.proofs.path_bases.Reads as reads

@@ -1,8 +1,7 @@
-use mathlib.Core.Path.{_≡_, refl, sym, _∙_}
+use mathlib.Core.Path.{sym, _∙_}
 use mathlib.Core.List.{_++_}
 use Prim.Native.Nat.{_-_}
 use native.Mathlib.Omega.{arith}
-use borrow.Author.Needs.{needs}
 use lib.ListN.{length-append}
 use Rattle.assembly.specs.Kmers.{Alike, alike-start, alike-next, alike-end, alike-not, text-in}
 use Rattle.assembly.proofs.same_kmer.Statement.{statement}

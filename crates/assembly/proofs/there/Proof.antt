@@ -1,7 +1,6 @@
-use mathlib.Core.Path.{_≡_, refl, sym, ap}
+use mathlib.Core.Path.{sym, ap}
 use borrow.Author.Tests.{lt-ltb, le-ltb}
 use Rattle.assembly.specs.Degrees.{one}
-use borrow.Author.Needs.{needs}
 use Rattle.assembly.proofs.there.Statement.{statement}
 use Rattle.assembly.proofs.there.Tie as tie
 use Rattle.assembly.proofs.there.Reads as reads

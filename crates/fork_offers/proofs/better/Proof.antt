@@ -1,5 +1,4 @@
 -- `fork_offers::better` meets its contract.
-use mathlib.Core.Path.{_∙_, sym}
 use Rattle.fork_offers.specs.Best.{better-none, better-first, better-less, better-more, less-named, more-named}
 use Rattle.fork_offers.proofs.better.Statement.{statement}
 use Rattle.fork_offers.proofs.better.Tie as tie

@@ -1,6 +1,5 @@
 -- `fork_offers::offer_branches` meets its contract. The loop's invariant: the rows written, with what the rest of the row of siblings offers, are what the whole offers.
 use Prim.Native.Nat.{_^_}
-use mathlib.Core.Path.{_∙_}
 use Rattle.threading_tree.specs.Ends.{ends}
 use Rattle.threading_tree.specs.Cells.{left}
 use Rattle.fork_offers.specs.Trees.{Branching, branching-start, branching-end, branching-slot, branching-falls, branching-adds, branching-next}

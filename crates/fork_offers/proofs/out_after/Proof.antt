@@ -1,5 +1,4 @@
 -- `fork_offers::out_after` meets its contract.
-use native.Mathlib.Omega.{arith}
 use borrow.Author.Needs.{needs}
 use Rattle.fork_offers.specs.Real.{fork-names}
 use Rattle.fork_offers.specs.Support.{after-is, one-fits}

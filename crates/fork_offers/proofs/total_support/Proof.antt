@@ -1,6 +1,5 @@
 -- `fork_offers::total_support` meets its contract. The loop's invariant: the supports added, with those of the out-edges that are left, are all.
 use Prim.Native.Nat.{_^_}
-use native.Mathlib.Omega.{arith}
 use borrow.Author.Needs.{needs}
 use Rattle.fork_offers.specs.Real.{fork-names}
 use Rattle.fork_offers.specs.Support.{Totalling, totalling-start, totalling-end, totalling-fits, totalling-next, onward-room, outLeft, after-falls}

@@ -1,6 +1,5 @@
 -- `fork_offers::walk_trees` meets its contract. The loop's invariant: the trees stored, with those that are left walked, are all walked.
 use Prim.Native.Nat.{_+_, _-_}
-use mathlib.Core.Path.{refl, _∙_}
 use native.Mathlib.Omega.{arith}
 use Rattle.threading_tree.specs.Ends.{ends}
 use Rattle.fork_offers.specs.Actives.{active-inside, active-place}

@@ -2,7 +2,7 @@
 use Prim.Native.Nat.{_-_, _+_, _*_}
 use native.Mathlib.Omega.{arith}
 use lib.ListN.{length}
-use Rattle.graph_rows.specs.Listing.{Listing, list-start, list-v, list-names, list-skip, list-in, list-asks, list-room, list-take, list-end}
+use Rattle.graph_rows.specs.Listing.{Listing, list-start, list-v, list-names, list-skip, list-asks, list-room, list-take, list-end}
 use Rattle.graph_rows.proofs.write_edges.Statement.{statement}
 use Rattle.graph_rows.proofs.write_edges.Tie as tie
 

@@ -1,4 +1,4 @@
-use mathlib.Core.Path.{_≡_, refl, sym, _∙_}
+use mathlib.Core.Path.{_∙_}
 use native.Mathlib.Omega.{arith}
 use Rattle.junction_tree_graph.specs.Backs.{back-none, backs-many, backs-pos, backs-room, backs-gain, backs-next, backs-on}
 use Prim.Native.Nat.{ℕ, _<_}

@@ -1,5 +1,5 @@
 use Rattle.junction_tree_graph.specs.Indexes.{index-start, keeps-stop, keeps-next}
-use mathlib.Core.Path.{_≡_, refl, sym, _∙_}
+use mathlib.Core.Path.{_∙_}
 use Rattle.junction_tree_graph.specs.Built.{begin-threads, begin-stop, begin-reads, begin-done}
 use borrow.Author.Needs.{needs}
 use Rattle.junction_tree_graph.proofs.build.Statement.{statement}

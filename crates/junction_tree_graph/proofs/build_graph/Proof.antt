@@ -1,7 +1,6 @@
 use Rattle.assembly.specs.Index.{finding-finds}
 use Rattle.junction_tree_graph.specs.Indexes.{fresh-one, index-finding}
-use mathlib.Core.Path.{_≡_, refl, sym, _∙_}
-use native.Mathlib.Omega.{arith}
+use mathlib.Core.Path.{_∙_}
 use Rattle.junction_tree_graph.specs.Built.{low-v, low-e, fits-s, build-begins}
 use Rattle.junction_tree_graph.specs.Answers.{answer-stop, answer-asks, answer-symbolic, answer-done}
 use borrow.Author.Needs.{needs}

@@ -1,8 +1,8 @@
 use Rattle.junction_tree_graph.specs.Indexes.{keeps-stop, index-edge}
-use mathlib.Core.Path.{_≡_, refl, sym, _∙_}
-use Prim.Native.Nat.{_-_, _≤_, _*_, _+_, _/_, _%_}
+use mathlib.Core.Path.{_∙_}
+use Prim.Native.Nat.{_-_}
 use native.Mathlib.Omega.{arith}
-use lib.ListN.{length, getD, length-append}
+use lib.ListN.{length-append}
 use Rattle.assembly.specs.Store.{code}
 use Rattle.junction_tree_graph.specs.Steps.{originOf, ext-gets, ext-gain, ext-known, ext-full, ext-stop, ext-adds, ext-new}
 use borrow.Author.Needs.{needs}

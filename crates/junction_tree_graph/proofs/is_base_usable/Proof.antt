@@ -1,9 +1,7 @@
-use mathlib.Core.Path.{_≡_, refl, sym, _∙_}
+use mathlib.Core.Path.{refl}
 use mathlib.Core.Logic.{⊎-elim}
-use mathlib.Core.Bool.{true, false, _||_}
 use lib.Dec.{eqb}
 use Rattle.junction_tree_graph.specs.Usable.{or-yes, or-no, first-yes, first-no, base-is}
-use borrow.Author.Needs.{needs}
 use Rattle.junction_tree_graph.proofs.is_base_usable.Statement.{statement}
 use Rattle.junction_tree_graph.proofs.is_base_usable.Tie as tie
 use Rattle.junction_tree_graph.proofs.is_base_usable.Reads as reads

@@ -1,6 +1,5 @@
 use Rattle.junction_tree_graph.specs.Indexes.{keeps-stop, keeps-next}
-use mathlib.Core.Path.{_≡_, refl, sym, _∙_}
-use Prim.Native.Nat.{_-_, _≤_, _*_, _+_}
+use Prim.Native.Nat.{_-_}
 use native.Mathlib.Omega.{arith}
 use Rattle.junction_tree_graph.specs.Starts.{start-gets, start-full, start-backs, start-steps, start-came}
 use borrow.Author.Needs.{needs}

@@ -1,7 +1,7 @@
 use lib.ListN.{length}
 use mathlib.Core.List.{_++_}
 use Rattle.junction_tree_graph.specs.Indexes.{Indexes, keeps-stop, keeps-next}
-use mathlib.Core.Path.{_≡_, refl, sym, _∙_}
+use mathlib.Core.Path.{_≡_, refl, _∙_}
 use Prim.Native.Nat.{_+_, _-_}
 use native.Mathlib.Omega.{arith}
 use lib.ListN.{length-append}

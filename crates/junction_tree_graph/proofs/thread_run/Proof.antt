@@ -1,5 +1,4 @@
 use Rattle.junction_tree_graph.specs.Reads.{run-threads, run-skip, run-done}
-use borrow.Author.Needs.{needs}
 use Rattle.junction_tree_graph.proofs.thread_run.Statement.{statement}
 use Rattle.junction_tree_graph.proofs.thread_run.Tie as tie
 use Rattle.junction_tree_graph.proofs.thread_run.Reads as reads

@@ -1,9 +1,9 @@
 use lib.ListN.{length}
 use Rattle.junction_tree_graph.specs.Indexes.{Indexes, keeps-stop, keeps-next}
-use mathlib.Core.Path.{_≡_, refl, sym, _∙_}
+use mathlib.Core.Path.{_≡_, refl, _∙_}
 use mathlib.Core.Bool.{not}
 use mathlib.Core.List.{_++_}
-use Prim.Native.Nat.{_-_, _≤_, _*_, _+_}
+use Prim.Native.Nat.{_-_, _+_}
 use native.Mathlib.Omega.{arith}
 use lib.Dec.{eqb}
 use Rattle.junction_tree_graph.specs.Stretches.{Left, left-start, start-stop, start-next, left-extends, left-stop, left-next, left-end}

@@ -1,6 +1,6 @@
 -- `graph_fits` meets its contract. Assumes nothing.
 use mathlib.Core.Path.{_∙_}
-use Rattle.list_call.specs.Lent.{is-short, is-short-by, no-short, no-short-by, none-short}
+use Rattle.list_call.specs.Lent.{is-short, no-short, none-short}
 use borrow.Author.Needs.{needs}
 use Rattle.list_call.proofs.graph_fits.Statement.{statement}
 use Rattle.list_call.proofs.graph_fits.Tie as tie

@@ -1,6 +1,6 @@
 -- `outputs_fit` meets its contract. Assumes nothing.
 use mathlib.Core.Path.{_∙_}
-use Rattle.list_call.specs.Lent.{is-short, is-short-by, no-short, no-short-by, none-short}
+use Rattle.list_call.specs.Lent.{is-short, no-short, none-short}
 use Rattle.limits.specs.Bounds.{bases-fit}
 use borrow.Author.Needs.{needs}
 use Rattle.list_call.proofs.outputs_fit.Statement.{statement}

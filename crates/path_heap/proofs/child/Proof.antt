@@ -1,4 +1,4 @@
-use mathlib.Core.Path.{_≡_, sym, _∙_}
+use mathlib.Core.Path.{sym, _∙_}
 use native.Mathlib.Omega.{arith}
 use Rattle.path_heap.specs.First.{leads, leads-order}
 use Rattle.laws.specs.Heaps.{child-only, child-right, child-left}

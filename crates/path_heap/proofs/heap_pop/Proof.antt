@@ -1,9 +1,8 @@
-use mathlib.Core.Path.{_≡_, refl, sym, _∙_}
+use mathlib.Core.Path.{refl, sym, _∙_}
 use Prim.Native.Nat.{_-_}
 use native.Mathlib.Omega.{arith}
-use borrow.Author.Needs.{needs}
 use borrow.Author.Tests.{not-true, not-false}
-use lib.ListN.{length, length-set}
+use lib.ListN.{length-set}
 use Rattle.path_heap.specs.First.{Known, leads, leads-order}
 use Rattle.laws.specs.Heaps.{Lowering, pop-one, lower-start, lower-room, lower-known, lower-next, lower-leaf, lower-stop}
 use Rattle.path_heap.specs.Heap.{popped}

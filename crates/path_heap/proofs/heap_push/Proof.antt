@@ -1,9 +1,7 @@
-use mathlib.Core.Path.{_≡_, refl, sym, _∙_}
-use mathlib.Core.Logic.{inl, inr}
+use mathlib.Core.Path.{sym, _∙_}
 use native.Mathlib.Omega.{arith}
-use borrow.Author.Needs.{needs}
 use borrow.Author.Tests.{not-true, not-false}
-use lib.ListN.{length, length-set}
+use lib.ListN.{length-set}
 use Rattle.path_heap.specs.First.{Known, leads, leads-order}
 use Rattle.laws.specs.Heaps.{Raising, raise-start, raise-known, raise-next, raise-root, raise-end}
 use Rattle.path_heap.specs.Heap.{pushed}

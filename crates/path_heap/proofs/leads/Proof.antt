@@ -1,4 +1,4 @@
-use mathlib.Core.Path.{_≡_, sym}
+use mathlib.Core.Path.{sym}
 use Rattle.path_heap.specs.First.{leads-more, leads-less, leads-tie}
 use borrow.Author.Needs.{needs}
 use Rattle.path_heap.proofs.leads.Statement.{statement}

@@ -8,7 +8,7 @@ use Rattle.path_list.proofs.rows.write_columns.Reads as write-columns-r
 use Rattle.path_list.proofs.rows.write_origins.Reads as write-origins-reads
 use Rattle.path_list.proofs.rows.write_spellings.Reads as write-spellings-reads
 use Rattle.path_list.proofs.walks.write_walks.Reads as write-walks-reads
-use mathlib.Core.Path.{_≡_, refl, sym, ap, _∙_}
+use mathlib.Core.Path.{refl}
 use Rattle.path_list.specs.List.{ready-of, filed-of, known-of, placed-of, list-of}
 use native.Mathlib.Omega.{arith}
 

@@ -1,6 +1,6 @@
-use Prim.Native.Nat.{_-_, _≤_, _*_, _+_}
+use Prim.Native.Nat.{_-_, _+_}
 use native.Mathlib.Omega.{arith}
-use mathlib.Core.Path.{_≡_, sym, _∙_}
+use mathlib.Core.Path.{_∙_}
 use borrow.Author.Needs.{needs}
 use Rattle.pivotal_edges.specs.Turns.{Turning, source-asks, source-rest, turning-start, turning-end, turning-read, turning-edge, turning-front, turning-entry, turning-lists, turning-queues, turning-marks, turning-next}
 use Rattle.pivotal_edges.proofs.create_pivotal_edges_in_topological_order.Statement.{

@@ -1,4 +1,4 @@
-use Prim.Native.Nat.{_-_, _≤_, _*_, _+_}
+use Prim.Native.Nat.{_-_}
 use native.Mathlib.Omega.{arith}
 use Rattle.pivotal_edges.specs.Walk.{next-asks, fork-none, fork-row, fork-fits, fork-is}
 use borrow.Author.Needs.{needs}

@@ -1,4 +1,4 @@
-use Prim.Native.Nat.{_-_, _≤_, _*_, _+_}
+use Prim.Native.Nat.{_-_}
 use native.Mathlib.Omega.{arith}
 use borrow.Author.Tests.{not-true, not-false}
 use Rattle.pivotal_edges.specs.Lists.{takes-seen, takes-is, listed-no, listed-yes}

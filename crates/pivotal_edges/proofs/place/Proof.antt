@@ -1,7 +1,7 @@
-use Prim.Native.Nat.{_-_, _≤_, _*_, _+_}
+use Prim.Native.Nat.{_-_}
 use native.Mathlib.Omega.{arith}
 use borrow.Author.Tests.{not-true, not-false}
-use mathlib.Core.Path.{_≡_, sym, _∙_}
+use mathlib.Core.Path.{sym, _∙_}
 use Rattle.pivotal_edges.specs.Queue.{Placing, placing-start, placing-end, placing-read, placing-fits, placing-here, placing-next}
 use Rattle.pivotal_edges.proofs.place.Statement.{statement}
 use Rattle.pivotal_edges.proofs.place.Tie as tie

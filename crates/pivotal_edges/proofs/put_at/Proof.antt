@@ -1,6 +1,6 @@
-use Prim.Native.Nat.{_-_, _≤_, _*_, _+_}
+use Prim.Native.Nat.{_-_}
 use native.Mathlib.Omega.{arith}
-use mathlib.Core.Path.{_≡_, sym, _∙_}
+use mathlib.Core.Path.{_∙_}
 use lib.ListN.{length-set}
 use Rattle.pivotal_edges.specs.Queue.{Shifting, shifting-start, shifting-in, shifting-next, shifting-end}
 use Rattle.pivotal_edges.proofs.put_at.Statement.{statement}

@@ -1,4 +1,4 @@
-use Prim.Native.Nat.{_-_, _≤_, _*_, _+_}
+use Prim.Native.Nat.{_-_}
 use native.Mathlib.Omega.{arith}
 use mathlib.Core.Path.{refl}
 use Rattle.pivotal_edges.specs.Queues.{one-mark, one-fits, one-known, one-no, one-yes}

@@ -1,7 +1,7 @@
-use Prim.Native.Nat.{_-_, _≤_, _*_, _+_}
+use Prim.Native.Nat.{_-_}
 use native.Mathlib.Omega.{arith}
 use lib.ListN.{length}
-use Rattle.pivotal_edges.specs.Walk.{next-asks, next-row, next-in, next-less, next-fits}
+use Rattle.pivotal_edges.specs.Walk.{next-asks, next-row, next-less, next-fits}
 use Rattle.pivotal_edges.specs.Queues.{Queuer, queuer-start, queuer-end, queuer-one, queuer-next}
 use Rattle.pivotal_edges.proofs.queue_out.Statement.{statement}
 use Rattle.pivotal_edges.proofs.queue_out.Tie as tie

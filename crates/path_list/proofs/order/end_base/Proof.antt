@@ -7,7 +7,7 @@ use Rattle.assembly.proofs.byte_at.Reads as byte-at-reads
 use Rattle.assembly.proofs.edge_to.Reads as edge-to-reads
 use Rattle.assembly.proofs.kmer_place.Reads as kmer-place-reads
 use Rattle.assembly.proofs.wide.Reads as wide-reads
-use mathlib.Core.Path.{_≡_, sym, ap, _∙_}
+use mathlib.Core.Path.{ap, _∙_}
 use native.Mathlib.Omega.{arith}
 use lib.ListN.{length-append}
 use Rattle.laws.specs.Records.{field}

@@ -4,7 +4,7 @@ use Rattle.path_list.proofs.order.insert_path.Reads as reads
 use Rattle.path_list.proofs.order.insert_path.Lts as lts
 use Rattle.path_list.proofs.order.wide_number.Reads as wide-number-reads
 use Rattle.path_list.proofs.order.stands_above.Reads as stands-above-reads
-use mathlib.Core.Path.{_≡_, refl, sym, ap, _∙_}
+use mathlib.Core.Path.{refl, sym, ap, _∙_}
 use mathlib.Core.List.{_++_}
 use Prim.Native.Nat.{_-_}
 use native.Mathlib.Omega.{arith}

@@ -3,9 +3,9 @@ use Rattle.path_list.proofs.order.rank_paths.Tie as tie
 use Rattle.path_list.proofs.order.rank_paths.Reads as reads
 use Rattle.path_list.proofs.order.rank_paths.Lts as lts
 use Rattle.path_list.proofs.order.insert_path.Reads as insert-path-reads
-use mathlib.Core.Path.{_≡_, refl, sym, ap, _∙_}
+use mathlib.Core.Path.{_≡_, refl, _∙_}
 use mathlib.Core.List.{_++_}
-use Prim.Native.Nat.{_-_, _≤_}
+use Prim.Native.Nat.{_-_}
 use native.Mathlib.Omega.{arith}
 use lib.ListN.{length}
 use Rattle.path_list.specs.Ranks.{lists, aboveAt, Ranked, ranked-start, ranked-asks, ranked-next, ranked-end}

@@ -6,7 +6,7 @@ use Rattle.path_list.proofs.order.stands_above.Lts as lts
 use Rattle.assembly.proofs.wide.Reads as wide-reads
 use Rattle.path_list.proofs.order.greater_bases.Reads as greater-bases-reads
 use Rattle.path_store.proofs.records.path_at.Reads as path-at-reads
-use mathlib.Core.Path.{_≡_, sym, ap, _∙_}
+use mathlib.Core.Path.{ap, _∙_}
 use native.Mathlib.Omega.{arith}
 use Rattle.path_store.specs.declared.records.PathRecord.{PathRecord}
 use Rattle.path_list.specs.Ranks.{ready-row, ready-spells, above-higher, above-lower, above-tails}

@@ -4,10 +4,9 @@ use Rattle.path_list.proofs.rows.write_columns.Reads as reads
 use Rattle.path_list.proofs.rows.write_columns.Lts as lts
 use Rattle.path_store.proofs.chains.at.Reads as at-reads
 use Rattle.path_store.proofs.records.path_at.Reads as path-at-reads
-use mathlib.Core.Path.{_≡_, refl, sym, ap, _∙_}
-use Prim.Native.Nat.{_-_, _≤_}
+use mathlib.Core.Path.{refl, ap, _∙_}
+use Prim.Native.Nat.{_-_}
 use native.Mathlib.Omega.{arith}
-use lib.ListN.{length}
 use Rattle.path_store.specs.Cells.{countOf, scoreOf}
 use Rattle.path_store.specs.declared.records.PathRecord.{PathRecord}
 use Rattle.path_list.specs.Rows.{ColumnsTo, known-at, known-inside, columns-start, columns-next, columns-end}

@@ -6,8 +6,8 @@ use Rattle.assembly.proofs.wide.Reads as wide-reads
 use Rattle.path_store.proofs.chains.at.Reads as at-reads
 use Rattle.path_store.proofs.records.path_at.Reads as path-at-reads
 use Rattle.path_store.proofs.writing.write_field.Reads as write-field-reads
-use mathlib.Core.Path.{_≡_, refl, sym, ap, _∙_}
-use Prim.Native.Nat.{_+_, _-_, _≤_}
+use mathlib.Core.Path.{ap, _∙_}
+use Prim.Native.Nat.{_-_, _≤_}
 use native.Mathlib.Omega.{arith}
 use Rattle.path_store.specs.Cells.{countOf}
 use Rattle.path_store.specs.declared.records.PathRecord.{PathRecord}

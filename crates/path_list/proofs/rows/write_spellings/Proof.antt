@@ -6,11 +6,10 @@ use Rattle.assembly.proofs.path_bases.Reads as path-bases-reads
 use Rattle.assembly.proofs.wide.Reads as wide-reads
 use Rattle.path_store.proofs.chains.at.Reads as at-reads
 use Rattle.path_store.proofs.records.path_at.Reads as path-at-reads
-use mathlib.Core.Path.{_≡_, refl, sym, ap, _∙_}
+use mathlib.Core.Path.{ap, _∙_}
 use mathlib.Core.List.{_++_}
 use Prim.Native.Nat.{_+_, _-_, _≤_}
 use native.Mathlib.Omega.{arith}
-use lib.ListN.{length}
 use Rattle.path_store.specs.Cells.{countOf}
 use Rattle.path_store.specs.declared.records.PathRecord.{PathRecord}
 use Rattle.path_list.specs.Laid.{Laid, laid-start, laid-end}

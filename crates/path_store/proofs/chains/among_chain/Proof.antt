@@ -4,11 +4,10 @@ use Rattle.path_store.proofs.chains.among_chain.Reads as reads
 use Rattle.path_store.proofs.chains.among_chain.Lts as lts
 use Rattle.path_store.proofs.chains.next.Reads as next-reads
 use Rattle.path_store.proofs.chains.sole.Reads as sole-reads
-use mathlib.Core.Path.{_≡_, refl, sym, ap, _∙_}
+use mathlib.Core.Path.{sym, _∙_}
 use Rattle.path_store.specs.Walk.{runs-now}
 use Rattle.path_store.specs.Steps.{Among, among-start, among-hit, among-next, among-end}
 use native.Mathlib.Omega.{arith}
-use borrow.Author.Needs.{needs}
 
 abbrev Inv-loop : tie.InvT-loop
 Inv-loop only to v n e u₀ left₀ u left = Among only to v n e u left

@@ -7,7 +7,6 @@ use Rattle.path_store.proofs.chains.chain_plain.Reads as chain-plain-re
 use Rattle.path_store.proofs.chains.chain_slow.Reads as chain-slow-reads
 use Rattle.path_store.proofs.chains.walk.Reads as walk-reads
 use Rattle.path_store.specs.Steps.{plain-chained}
-use native.Mathlib.Omega.{arith}
 
 chain-plain-requires : tie.Need-chain-plain-requires
 chain-plain-requires c κs = search needs

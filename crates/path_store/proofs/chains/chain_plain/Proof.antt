@@ -4,11 +4,10 @@ use Rattle.path_store.proofs.chains.chain_plain.Reads as reads
 use Rattle.path_store.proofs.chains.chain_plain.Lts as lts
 use Rattle.path_store.proofs.chains.at.Reads as at-reads
 use Rattle.path_store.proofs.chains.next.Reads as next-reads
-use mathlib.Core.Path.{_≡_, refl, sym, ap, _∙_}
+use mathlib.Core.Path.{sym, _∙_}
 use Prim.Native.Nat.{_-_}
 use Rattle.path_store.specs.Steps.{Plainly, plain-start, plain-stop, plain-next, plain-end}
 use native.Mathlib.Omega.{arith}
-use borrow.Author.Needs.{needs}
 
 abbrev Inv-loop : tie.InvT-loop
 Inv-loop only to v limit u₀ i₀ u i = Plainly only to v limit u i

@@ -6,12 +6,11 @@ use Rattle.path_store.proofs.chains.among_chain.Reads as among-chain-re
 use Rattle.path_store.proofs.chains.at.Reads as at-reads
 use Rattle.path_store.proofs.chains.next.Reads as next-reads
 use Rattle.path_store.proofs.chains.sole.Reads as sole-reads
-use mathlib.Core.Path.{_≡_, refl, sym, ap, _∙_}
+use mathlib.Core.Path.{sym, _∙_}
 use Prim.Native.Nat.{_-_}
 use lib.ListN.{length}
 use Rattle.path_store.specs.Steps.{Slowly, slow-start, slow-stop, slow-had, slow-next, slow-end}
 use native.Mathlib.Omega.{arith}
-use borrow.Author.Needs.{needs}
 
 abbrev Inv-loop : tie.InvT-loop
 Inv-loop only to v u₀ i₀ u i = Slowly only to v u i

@@ -4,7 +4,6 @@ use Rattle.path_store.proofs.chains.count_chain.Reads as reads
 use Rattle.path_store.proofs.chains.count_chain.Lts as lts
 use Rattle.path_store.proofs.chains.next.Reads as next-reads
 use Rattle.path_store.proofs.chains.same.Reads as same-reads
-use mathlib.Core.Path.{_≡_, refl, sym, ap, _∙_}
 use Rattle.path_store.specs.Walk.{runs-now}
 use Rattle.path_store.specs.Steps.{Counting, counting-start, counting-next, counting-fits, counting-end}
 use native.Mathlib.Omega.{arith}

@@ -5,7 +5,7 @@ use Rattle.path_store.proofs.chains.next.Reads as reads
 use Rattle.path_store.proofs.chains.next.Lts as lts
 use Rattle.path_store.proofs.chains.at.Reads as at-reads
 use Rattle.path_store.proofs.chains.sole.Reads as sole-reads
-use mathlib.Core.Path.{_≡_, refl, sym, ap, _∙_}
+use mathlib.Core.Path.{ap, _∙_}
 use lib.ListN.{getD}
 use native.Mathlib.Omega.{arith}
 

@@ -2,10 +2,7 @@ use Rattle.path_store.proofs.chains.same.Statement.{statement}
 use Rattle.path_store.proofs.chains.same.Tie as tie
 use Rattle.path_store.proofs.chains.same.Reads as reads
 use Rattle.path_store.proofs.chains.same.Lts as lts
-use mathlib.Core.Path.{_≡_, refl, sym, ap, _∙_}
 use borrow.Author.Tests.{eq-eqb, ne-eqb}
-use native.Mathlib.Omega.{arith}
-use borrow.Author.Needs.{needs}
 
 returns : tie.Need-returns
 returns c = rw (eq-eqb (c .before .args .a) (c .before .args .b) (c .if1 .taken))

@@ -6,7 +6,6 @@ use Rattle.path_store.proofs.chains.next.Reads as next-reads
 use Rattle.path_store.specs.Walk.{runs-now}
 use Rattle.path_store.specs.Steps.{Walking, walking-start, walking-next, walking-end}
 use native.Mathlib.Omega.{arith}
-use borrow.Author.Needs.{needs}
 
 abbrev Inv-loop : tie.InvT-loop
 Inv-loop only to v c u₀ left₀ u left = Walking only to v c u left

@@ -4,12 +4,9 @@ use Rattle.path_store.proofs.chains.write_chain.Reads as reads
 use Rattle.path_store.proofs.chains.write_chain.Lts as lts
 use Rattle.path_store.proofs.chains.next.Reads as next-reads
 use Rattle.path_store.proofs.chains.sole.Reads as sole-reads
-use mathlib.Core.Path.{_≡_, refl, sym, ap, _∙_}
-use lib.ListN.{length-set}
 use Rattle.path_store.specs.Walk.{runs-now}
 use Rattle.path_store.specs.Steps.{Writing, writing-start, writing-next, writing-end}
 use native.Mathlib.Omega.{arith}
-use borrow.Author.Needs.{needs}
 
 abbrev Inv-loop : tie.InvT-loop
 Inv-loop only to out₀ at start c u₀ left₀ i₀ out u left i = Writing only to out₀ at start c out i u left

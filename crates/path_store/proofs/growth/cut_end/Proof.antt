@@ -6,10 +6,9 @@ use Rattle.path_store.proofs.growth.cut_end.Lts as lts
 use Rattle.path_store.proofs.chains.walk.Reads as walk-reads
 use Rattle.path_store.proofs.chains.wide.Reads as wide-reads
 use Rattle.path_store.proofs.records.path_at.Reads as path-at-reads
-use mathlib.Core.Path.{_≡_, refl, sym, ap, _∙_}
+use mathlib.Core.Path.{ap}
 use Rattle.path_store.specs.declared.records.PathRecord.{PathRecord}
 use Rattle.path_store.specs.Extend.{ends-read, ends-is}
-use native.Mathlib.Omega.{arith}
 
 sub-path-at : tie.Need-sub-path-at
 sub-path-at c = search needs

@@ -4,11 +4,10 @@ use Rattle.path_store.proofs.growth.cut_owner.Reads as reads
 use Rattle.path_store.proofs.growth.cut_owner.Lts as lts
 use Rattle.path_store.proofs.growth.edges_before.Reads as edges-before-reads
 use Rattle.path_store.proofs.records.path_at.Reads as path-at-reads
-use mathlib.Core.Path.{_≡_, refl, sym, ap, _∙_}
+use mathlib.Core.Path.{ap}
 use Rattle.path_store.specs.declared.records.PathRecord.{PathRecord}
 use Rattle.path_store.specs.Cut.{Cutting, cutting-start, cutting-inside, cutting-low, cutting-links, cutting-next, cutting-end}
 use native.Mathlib.Omega.{arith}
-use borrow.Author.Needs.{needs}
 
 abbrev Inv-loop : tie.InvT-loop
 Inv-loop paths scores path k r₀ q₀ r q = Cutting paths scores path k r q

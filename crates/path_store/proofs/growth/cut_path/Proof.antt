@@ -5,7 +5,7 @@ use Rattle.path_store.proofs.growth.cut_path.Reads as reads
 use Rattle.path_store.proofs.growth.cut_path.Lts as lts
 use Rattle.path_store.proofs.growth.cut_owner.Reads as cut-owner-reads
 use Rattle.path_store.proofs.records.path_at.Reads as path-at-reads
-use mathlib.Core.Path.{_≡_, refl, sym, ap, _∙_}
+use mathlib.Core.Path.{ap, _∙_}
 use Rattle.path_store.specs.declared.records.PathRecord.{PathRecord}
 use Rattle.path_store.specs.Cut.{cutAt, owner-read, owner-inside, owner-parent, owner-up-inside, owner-below, cut-inside, cut-whole}
 use native.Mathlib.Omega.{arith}

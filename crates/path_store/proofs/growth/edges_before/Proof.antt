@@ -4,7 +4,7 @@ use Rattle.path_store.proofs.growth.edges_before.Tie as tie
 use Rattle.path_store.proofs.growth.edges_before.Reads as reads
 use Rattle.path_store.proofs.growth.edges_before.Lts as lts
 use Rattle.path_store.proofs.records.path_at.Reads as path-at-reads
-use mathlib.Core.Path.{_≡_, refl, sym, ap, _∙_}
+use mathlib.Core.Path.{sym, ap, _∙_}
 use Rattle.path_store.specs.declared.records.PathRecord.{PathRecord}
 use Rattle.path_store.specs.Cut.{before-none, before-some, links-inside}
 use native.Mathlib.Omega.{arith}

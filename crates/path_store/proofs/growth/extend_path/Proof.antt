@@ -7,7 +7,7 @@ use Rattle.path_store.proofs.chains.at.Reads as at-reads
 use Rattle.path_store.proofs.chains.wide.Reads as wide-reads
 use Rattle.path_store.proofs.records.path_at.Reads as path-at-reads
 use Rattle.path_store.proofs.records.path_put.Reads as path-put-reads
-use mathlib.Core.Path.{_≡_, refl, sym, ap, _∙_}
+use mathlib.Core.Path.{ap}
 use Rattle.path_store.specs.declared.records.PathRecord.{PathRecord}
 use Rattle.path_store.specs.Grow.{extendedRow, grow-full, grow-stored, extend-row}
 use native.Mathlib.Omega.{arith}

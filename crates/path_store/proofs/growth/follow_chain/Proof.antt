@@ -5,7 +5,7 @@ use Rattle.path_store.proofs.growth.follow_chain.Reads as reads
 use Rattle.path_store.proofs.growth.follow_chain.Lts as lts
 use Rattle.path_store.proofs.chains.chain_from.Reads as chain-from-reads
 use Rattle.path_store.proofs.records.path_at.Reads as path-at-reads
-use mathlib.Core.Path.{_≡_, refl, sym, ap, _∙_}
+use mathlib.Core.Path.{ap}
 use Rattle.path_store.specs.declared.records.PathRecord.{PathRecord}
 use Rattle.path_store.specs.Grow.{followed}
 use native.Mathlib.Omega.{arith}

@@ -8,7 +8,7 @@ use Rattle.path_store.proofs.growth.cut_path.Reads as cut-path-reads
 use Rattle.path_store.proofs.growth.cut_end.Reads as cut-end-reads
 use Rattle.path_store.proofs.records.path_at.Reads as path-at-reads
 use Rattle.path_store.proofs.records.path_put.Reads as path-put-reads
-use mathlib.Core.Path.{_≡_, refl, sym, ap, _∙_}
+use mathlib.Core.Path.{refl, ap}
 use Rattle.path_store.specs.declared.records.PathRecord.{PathRecord}
 use Rattle.path_store.specs.Cut.{table-links}
 use Rattle.path_store.specs.Extend.{cut-ends}

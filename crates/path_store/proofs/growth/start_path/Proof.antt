@@ -4,10 +4,7 @@ use Rattle.path_store.proofs.growth.start_path.Tie as tie
 use Rattle.path_store.proofs.growth.start_path.Reads as reads
 use Rattle.path_store.proofs.growth.start_path.Lts as lts
 use Rattle.path_store.proofs.records.path_put.Reads as path-put-reads
-use mathlib.Core.Path.{_≡_, refl, sym, ap, _∙_}
-use Rattle.path_store.specs.declared.records.PathRecord.{PathRecord}
 use lib.Ieee.{ofBits}
-use native.Mathlib.Omega.{arith}
 
 path-put-requires : tie.Need-path-put-requires
 path-put-requires c κs = search needs

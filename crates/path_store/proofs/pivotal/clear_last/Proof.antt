@@ -4,10 +4,7 @@ use Rattle.path_store.proofs.pivotal.clear_last.Tie as tie
 use Rattle.path_store.proofs.pivotal.clear_last.Reads as reads
 use Rattle.path_store.proofs.pivotal.clear_last.Lts as lts
 use Rattle.path_store.proofs.chains.wide.Reads as wide-reads
-use mathlib.Core.Path.{_≡_, refl, sym, ap, _∙_}
-use Rattle.path_store.specs.declared.records.PathRecord.{PathRecord}
 use Rattle.path_store.specs.Cross.{clear-last}
-use native.Mathlib.Omega.{arith}
 
 returns : tie.Need-returns
 returns c = search needs

@@ -4,13 +4,12 @@ use Rattle.path_store.proofs.pivotal.cross_off.Reads as reads
 use Rattle.path_store.proofs.pivotal.cross_off.Lts as lts
 use Rattle.path_store.proofs.pivotal.clear_last.Reads as clear-last-reads
 use Rattle.path_store.proofs.records.path_at.Reads as path-at-reads
-use mathlib.Core.Path.{_≡_, refl, sym, ap, _∙_}
+use mathlib.Core.Path.{ap}
 use Rattle.path_store.specs.declared.records.PathRecord.{PathRecord}
 use Prim.Native.Nat.{_+_}
 use Rattle.path_store.specs.Path.{inside}
 use Rattle.path_store.specs.Cross.{Crossing, crossing-start, crossing-last, crossing-inside, crossing-next, crossing-end}
 use native.Mathlib.Omega.{arith}
-use borrow.Author.Needs.{needs}
 
 abbrev Inv-loop : tie.InvT-loop
 Inv-loop paths scores only to marks₀ path r₀ p₀ l₀ marks r p l = Crossing only to paths (path + 1) path marks₀ marks r p l

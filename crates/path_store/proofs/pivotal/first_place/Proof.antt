@@ -2,12 +2,9 @@ use Rattle.path_store.proofs.pivotal.first_place.Statement.{statement}
 use Rattle.path_store.proofs.pivotal.first_place.Tie as tie
 use Rattle.path_store.proofs.pivotal.first_place.Reads as reads
 use Rattle.path_store.proofs.pivotal.first_place.Lts as lts
-use mathlib.Core.Path.{_≡_, refl, sym, ap, _∙_}
-use Rattle.path_store.specs.declared.records.PathRecord.{PathRecord}
 use Prim.Native.Nat.{_-_}
 use Rattle.path_store.specs.Split.{Placing, placing-start, placing-hit, placing-next, placing-end}
 use native.Mathlib.Omega.{arith}
-use borrow.Author.Needs.{needs}
 
 abbrev Inv-loop : tie.InvT-loop
 Inv-loop walk n e i₀ i = Placing walk n e i

@@ -3,12 +3,9 @@ use Rattle.path_store.proofs.pivotal.last_into.Tie as tie
 use Rattle.path_store.proofs.pivotal.last_into.Reads as reads
 use Rattle.path_store.proofs.pivotal.last_into.Lts as lts
 use Rattle.path_store.proofs.pivotal.newer.Reads as newer-reads
-use mathlib.Core.Path.{_≡_, refl, sym, ap, _∙_}
-use Rattle.path_store.specs.declared.records.PathRecord.{PathRecord}
 use Prim.Native.Nat.{_-_}
 use Rattle.path_store.specs.Split.{Latest, latest-start, latest-next, latest-end}
 use native.Mathlib.Omega.{arith}
-use borrow.Author.Needs.{needs}
 
 abbrev Inv-loop : tie.InvT-loop
 Inv-loop walk n to v last₀ i₀ last i = Latest to v walk n i last

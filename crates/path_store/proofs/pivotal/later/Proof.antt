@@ -5,7 +5,6 @@ use Rattle.path_store.proofs.pivotal.later.Reads as reads
 use Rattle.path_store.proofs.pivotal.later.Lts as lts
 use Rattle.path_store.proofs.pivotal.outscored.Reads as outscored-reads
 use Rattle.path_store.proofs.walks.count_in_path.Reads as count-in-path-reads
-use mathlib.Core.Path.{_≡_, refl, sym, ap, _∙_}
 use Rattle.path_store.specs.Best.{later-less, later-none, later-some}
 use native.Mathlib.Omega.{arith}
 

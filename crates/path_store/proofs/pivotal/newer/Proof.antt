@@ -4,10 +4,7 @@ use Rattle.path_store.proofs.pivotal.newer.Tie as tie
 use Rattle.path_store.proofs.pivotal.newer.Reads as reads
 use Rattle.path_store.proofs.pivotal.newer.Lts as lts
 use Rattle.path_store.proofs.chains.at.Reads as at-reads
-use mathlib.Core.Path.{_≡_, refl, sym, ap, _∙_}
-use Rattle.path_store.specs.declared.records.PathRecord.{PathRecord}
 use Rattle.path_store.specs.Split.{newer-hit, newer-miss}
-use native.Mathlib.Omega.{arith}
 
 at-requires : tie.Need-at-requires
 at-requires c κs = search needs

@@ -4,7 +4,6 @@ use Rattle.path_store.proofs.pivotal.outscored.Tie as tie
 use Rattle.path_store.proofs.pivotal.outscored.Reads as reads
 use Rattle.path_store.proofs.pivotal.outscored.Lts as lts
 use Rattle.path_store.proofs.chains.wide.Reads as wide-reads
-use mathlib.Core.Path.{_≡_, refl, sym, ap, _∙_}
 use Rattle.path_store.specs.Best.{outscores-none, outscores-some}
 use native.Mathlib.Omega.{arith}
 

@@ -5,7 +5,6 @@ use Rattle.path_store.proofs.pivotal.split_place.Reads as reads
 use Rattle.path_store.proofs.pivotal.split_place.Lts as lts
 use Rattle.path_store.proofs.pivotal.first_place.Reads as first-place-reads
 use Rattle.path_store.proofs.pivotal.last_into.Reads as last-into-reads
-use mathlib.Core.Path.{_≡_, refl, sym, ap, _∙_}
 use Rattle.path_store.specs.Split.{split-none, split-some, place-fits}
 use native.Mathlib.Omega.{arith}
 

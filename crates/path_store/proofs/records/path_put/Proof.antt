@@ -4,7 +4,7 @@ use Rattle.path_store.proofs.records.path_put.Tie as tie
 use Rattle.path_store.proofs.records.path_put.Reads as reads
 use Rattle.path_store.proofs.records.path_put.Lts as lts
 use Rattle.path_store.proofs.records.bit.Reads as bit-reads
-use mathlib.Core.Path.{_≡_, refl, sym, ap, _∙_}
+use mathlib.Core.Path.{refl}
 use lib.ListN.{length-set}
 use Rattle.path_store.specs.Cells.{put-marks}
 use native.Mathlib.Omega.{arith}

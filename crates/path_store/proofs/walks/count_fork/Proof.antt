@@ -4,9 +4,8 @@ use Rattle.path_store.proofs.walks.count_fork.Tie as tie
 use Rattle.path_store.proofs.walks.count_fork.Reads as reads
 use Rattle.path_store.proofs.walks.count_fork.Lts as lts
 use Rattle.path_store.proofs.chains.same.Reads as same-reads
-use mathlib.Core.Path.{_≡_, refl, sym, ap, _∙_}
+use mathlib.Core.Path.{_∙_}
 use Rattle.path_store.specs.Stop.{fork-none, fork-some}
-use native.Mathlib.Omega.{arith}
 
 returns : tie.Need-returns
 returns c = fork-none _ _ _ (c .if1 .taken)

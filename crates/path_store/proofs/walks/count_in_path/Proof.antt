@@ -6,10 +6,10 @@ use Rattle.path_store.proofs.chains.same.Reads as same-reads
 use Rattle.path_store.proofs.records.path_at.Reads as path-at-reads
 use Rattle.path_store.proofs.walks.count_piece.Reads as count-piece-reads
 use Rattle.path_store.proofs.walks.stops_at.Reads as stops-at-reads
-use mathlib.Core.Path.{_≡_, refl, sym, ap, _∙_}
+use mathlib.Core.Path.{ap}
 use Rattle.path_store.specs.declared.records.PathRecord.{PathRecord}
 use Prim.Native.Nat.{_+_, _*_}
-use Rattle.path_store.specs.Path.{Upward, inside, upward-start, upward-piece, upward-low, upward-inside, upward-fits, upward-next, upward-end-fits, upward-end}
+use Rattle.path_store.specs.Path.{Upward, inside, upward-start, upward-piece, upward-inside, upward-fits, upward-next, upward-end-fits, upward-end}
 use native.Mathlib.Omega.{arith}
 use borrow.Author.Needs.{needs}
 

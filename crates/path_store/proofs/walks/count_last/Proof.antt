@@ -5,12 +5,10 @@ use Rattle.path_store.proofs.walks.count_last.Reads as reads
 use Rattle.path_store.proofs.walks.count_last.Lts as lts
 use Rattle.path_store.proofs.chains.at.Reads as at-reads
 use Rattle.path_store.proofs.chains.same.Reads as same-reads
-use mathlib.Core.Path.{_≡_, refl, sym, ap, _∙_}
-use Rattle.path_store.specs.declared.records.PathRecord.{PathRecord}
+use mathlib.Core.Path.{ap, _∙_}
 use Rattle.path_store.specs.Path.{last-none, last-some}
 use lib.Dec.{eqb}
 use mathlib.Core.Bool.{cond}
-use native.Mathlib.Omega.{arith}
 
 returns : tie.Need-returns
 returns c = last-none _ _ _ (c .if1 .taken)

@@ -7,7 +7,7 @@ use Rattle.path_store.proofs.chains.count_chain.Reads as count-chain-re
 use Rattle.path_store.proofs.records.path_at.Reads as path-at-reads
 use Rattle.path_store.proofs.walks.count_last.Reads as count-last-reads
 use Rattle.path_store.proofs.walks.count_stop.Reads as count-stop-reads
-use mathlib.Core.Path.{_≡_, refl, sym, ap, _∙_}
+use mathlib.Core.Path.{ap}
 use Rattle.path_store.specs.declared.records.PathRecord.{PathRecord}
 use Rattle.path_store.specs.Path.{parent-inside, read-low, read-runs, read-last, read-hits, read-fits}
 use Rattle.path_store.specs.Stop.{stop-piece}

@@ -6,7 +6,7 @@ use Rattle.path_store.proofs.walks.count_stop.Lts as lts
 use Rattle.path_store.proofs.records.path_at.Reads as path-at-reads
 use Rattle.path_store.proofs.walks.count_fork.Reads as count-fork-reads
 use Rattle.path_store.proofs.walks.count_last.Reads as count-last-reads
-use mathlib.Core.Path.{_≡_, refl, sym, ap, _∙_}
+use mathlib.Core.Path.{ap}
 use Rattle.path_store.specs.declared.records.PathRecord.{PathRecord}
 use Rattle.path_store.specs.Stop.{stop-is, stop-fits}
 use native.Mathlib.Omega.{arith}

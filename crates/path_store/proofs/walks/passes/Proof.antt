@@ -5,10 +5,10 @@ use Rattle.path_store.proofs.walks.passes.Lts as lts
 use Rattle.path_store.proofs.records.path_at.Reads as path-at-reads
 use Rattle.path_store.proofs.walks.count_in_path.Reads as count-in-path-reads
 use Rattle.path_store.proofs.walks.stops_at.Reads as stops-at-reads
-use mathlib.Core.Path.{_≡_, refl, sym, ap, _∙_}
+use mathlib.Core.Path.{ap}
 use Prim.Native.Nat.{_+_}
 use lib.Dec.{ltb}
-use borrow.Author.Tests.{not-true, not-false}
+use borrow.Author.Tests.{not-false}
 use Rattle.path_store.specs.declared.records.PathRecord.{PathRecord}
 use Rattle.path_store.specs.Path.{inside}
 use Rattle.path_store.specs.Pass.{Passing, passing-start, passing-inside, passing-end, passing-fork, passing-next, passing-done}

@@ -5,10 +5,9 @@ use Rattle.path_store.proofs.walks.repeat_rule.Reads as reads
 use Rattle.path_store.proofs.walks.repeat_rule.Lts as lts
 use Rattle.path_store.proofs.records.path_at.Reads as path-at-reads
 use Rattle.path_store.proofs.walks.count_in_path.Reads as count-in-path-reads
-use mathlib.Core.Path.{_≡_, refl, sym, ap, _∙_}
+use mathlib.Core.Path.{ap}
 use Rattle.path_store.specs.declared.records.PathRecord.{PathRecord}
 use Rattle.path_store.specs.Visit.{keeps-guided, keeps-once}
-use native.Mathlib.Omega.{arith}
 
 path-at-requires : tie.Need-path-at-requires
 path-at-requires c κs = search needs

@@ -4,7 +4,7 @@ use Rattle.path_store.proofs.walks.stops_at.Tie as tie
 use Rattle.path_store.proofs.walks.stops_at.Reads as reads
 use Rattle.path_store.proofs.walks.stops_at.Lts as lts
 use Rattle.path_store.proofs.chains.wide.Reads as wide-reads
-use mathlib.Core.Path.{_≡_, refl, sym, ap, _∙_}
+use mathlib.Core.Path.{refl}
 use Rattle.laws.specs.BoolLaws.{both-ways}
 use Rattle.path_store.specs.Stop.{stop-at}
 use native.Mathlib.Omega.{arith}

@@ -4,12 +4,11 @@ use Rattle.path_store.proofs.walks.write_path.Reads as reads
 use Rattle.path_store.proofs.walks.write_path.Lts as lts
 use Rattle.path_store.proofs.records.path_at.Reads as path-at-reads
 use Rattle.path_store.proofs.walks.write_piece.Reads as write-piece-reads
-use mathlib.Core.Path.{_≡_, refl, sym, ap, _∙_}
+use mathlib.Core.Path.{ap}
 use Rattle.path_store.specs.declared.records.PathRecord.{PathRecord}
 use Prim.Native.Nat.{_+_}
-use Rattle.path_store.specs.Path.{Filling, inside, filling-start, filling-piece, filling-low, filling-inside, filling-room, filling-next, filling-end}
+use Rattle.path_store.specs.Path.{Filling, inside, filling-start, filling-piece, filling-inside, filling-room, filling-next, filling-end}
 use native.Mathlib.Omega.{arith}
-use borrow.Author.Needs.{needs}
 
 abbrev Inv-loop : tie.InvT-loop
 Inv-loop paths scores only to out₀ at path r₀ p₀ out r p = Filling only to paths (path + 1) path out₀ at out r p

@@ -7,12 +7,9 @@ use Rattle.path_store.proofs.chains.wide.Reads as wide-reads
 use Rattle.path_store.proofs.chains.write_chain.Reads as write-chain-reads
 use Rattle.path_store.proofs.records.path_at.Reads as path-at-reads
 use Rattle.path_store.proofs.walks.write_last.Reads as write-last-reads
-use mathlib.Core.Path.{_≡_, refl, sym, ap, _∙_}
+use mathlib.Core.Path.{ap, _∙_}
 use Rattle.path_store.specs.declared.records.PathRecord.{PathRecord}
-use Prim.Native.Nat.{_+_}
-use lib.Seq.{sets}
-use Rattle.path_store.specs.Path.{parent-inside, read-low, read-runs, read-room, read-place, read-write, lastEdge}
-use Rattle.path_store.specs.Walk.{run}
+use Rattle.path_store.specs.Path.{parent-inside, read-low, read-runs, read-room, read-place, read-write}
 use native.Mathlib.Omega.{arith}
 
 path-at-requires : tie.Need-path-at-requires

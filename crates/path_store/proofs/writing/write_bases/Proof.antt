@@ -4,7 +4,7 @@ use Rattle.path_store.proofs.writing.write_bases.Reads as reads
 use Rattle.path_store.proofs.writing.write_bases.Lts as lts
 use Rattle.path_store.proofs.chains.at.Reads as at-reads
 use Rattle.path_store.proofs.chains.wide.Reads as wide-reads
-use mathlib.Core.Path.{_≡_, refl, sym, ap, _∙_}
+use mathlib.Core.Path.{ap, _∙_}
 use Prim.Native.Nat.{_-_}
 use lib.ListN.{getD}
 use Rattle.path_store.specs.Writing.{baseOf, Copying, copying-start, copying-size, copying-next, copying-end}

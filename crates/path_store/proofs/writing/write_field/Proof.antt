@@ -3,9 +3,8 @@ use Rattle.path_store.proofs.writing.write_field.Tie as tie
 use Rattle.path_store.proofs.writing.write_field.Reads as reads
 use Rattle.path_store.proofs.writing.write_field.Lts as lts
 use Rattle.path_store.proofs.chains.wide.Reads as wide-reads
-use mathlib.Core.Path.{_≡_, refl, sym, ap, _∙_}
-use Prim.Native.Nat.{_-_, _+_, _*_}
-use lib.ListN.{getD}
+use mathlib.Core.Path.{ap}
+use Prim.Native.Nat.{_-_, _*_}
 use Rattle.laws.specs.Records.{field}
 use Rattle.path_store.specs.Writing.{Copying, copying-start, copying-size, copying-next, copying-end}
 use native.Mathlib.Omega.{arith}
