@@ -20,8 +20,8 @@ typedef struct {
     uint32_t pushes;
 } SearchMaxima;
 
-/* How many elements each workspace slice needs: numbers of 32 bits, but for the scores, which are f64. The call for edges and trees is lent the first
-   five; the call for the list is lent all but `open`, and three slices of `columns`, the first of them f64. */
+/* How many elements each workspace slice needs: numbers of 32 bits, but for `active`, of 16, and `scores`, of f64. The call for edges and trees is lent
+   the first five; the call for the list is lent all but `open`, and three slices of `columns`, the first of them f64. */
 typedef struct {
     size_t vertices;
     size_t edges;
