@@ -29,8 +29,6 @@ use Rattle.path_store.specs.declared.growth.Taken.{Taken}
 use Rattle.path_store.specs.Steps.{after-low}
 use Rattle.path_store.specs.Cells.{joinedOf, treesOf, scoreOf, Inside, pathAt, putCells, put-other, put-trees}
 use Rattle.path_store.specs.Path.{Table, inside, table-front}
-use Rattle.path_store.specs.Path as store
-use Rattle.path_store.specs.Walk.{endFrom}
 use Rattle.path_store.specs.Grow.{Following, joinedRow}
 use Rattle.path_store.specs.Visit.{seen, visited, seen-visited}
 use Rattle.path_store.specs.View.{viewOf, hasTree}
@@ -140,10 +138,6 @@ module _ (f : SearchInput) (g : Setting) (vs es x only to : List ℕ) (bs : ℕ 
 
   pub joining-table : Table only to t sc (taken .path + 1)
   joining-table = table-front only to t sc n (r + 1) T (let q = J .known in omega arith)
-
-  pub joining-rooted : store.Rooted only to 0 t (taken .path + 1)
-  joining-rooted q l =
-      J .records .held .rooted q (let k = J .known in omega arith) ∙ ap (λ (s : ℕ). endFrom to s (store.edges only to t q)) (J .ground .source)
 
   many : length (bs r) ≡ treesOf t r
   many = let q = actives-many (g .cap) (g .nodes) x ac (r * g .active) (r * g .active + treesOf t r) (bs r) (J .records .actives r (J .known)) in omega arith
@@ -335,9 +329,6 @@ module _ (g : Setting) (vs x only to t : List ℕ) (sc : List Float) (ac : List 
 
     pub joins-table : Table only to t sc (taken .path + 1)
     joins-table = joining-table (P .input) g vs (P .edges) x only to (P .branches) t sc ac (P .count) taken (P .all)
-
-    pub joins-rooted : store.Rooted only to 0 t (taken .path + 1)
-    joins-rooted = joining-rooted (P .input) g vs (P .edges) x only to (P .branches) t sc ac (P .count) taken (P .all)
 
     pub joins-inside : Inside t sc (taken .path)
     joins-inside = joining-inside (P .input) g vs (P .edges) x only to (P .branches) t sc ac (P .count) taken (P .all)

@@ -3,7 +3,6 @@ pub mod Steps
 pub mod Cells
 pub mod Path
 pub mod Stop
-pub mod Pass
 pub mod Push
 pub mod Cut
 pub mod Grow

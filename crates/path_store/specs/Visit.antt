@@ -14,7 +14,7 @@ use Rattle.laws.specs.Lists.{any, keep, tally}
 use Rattle.laws.specs.BoolLaws.{Bool-cases, both-ways}
 use Rattle.path_store.specs.Walk.{times}
 use Rattle.path_store.specs.Cells.{parentOf, endOf, sinceOf, joinedOf, recoveredOf, Inside}
-use Rattle.path_store.specs.Path.{edges, edges-same, Same, Table, Rooted, table-front, inside, Nat-cases}
+use Rattle.path_store.specs.Path.{edges, edges-same, Same, Table, table-front, inside, Nat-cases}
 
 -- the vertices of a path of these edges from the source
 abbrev pub verticesOf : List ℕ → ℕ → List ℕ → List ℕ
@@ -226,17 +226,14 @@ module _ (only to : List ℕ) (source : ℕ) (t : List ℕ) (sc : List Float) (p
     past : 0 < up → (joinedOf t (up - 1) ≡ v + 1 → ⊥) → any (eqb v) rest ≡ any (eqb v) (seen only to source t path)
     past h j = sym (joined-miss v (joinedOf t (up - 1)) rest j) ∙ ap (λ x. any (eqb v) x) (sym (by-rest h)) ∙ here h
 
-    pub visiting-recovered : (b : Bool) → 0 < up → (joinedOf t (up - 1) ≡ v + 1 → ⊥) → recoveredOf t (up - 1) ≡ true
-        → b ≡ ltb 0 (times to source v (edges only to t (up - 1))) → b ≡ any (eqb v) (seen only to source t path)
+    pub visiting-recovered : (k : ℕ) → 0 < up → (joinedOf t (up - 1) ≡ v + 1 → ⊥) → recoveredOf t (up - 1) ≡ true
+        → k ≡ times to source v (edges only to t (up - 1)) → ltb 0 k ≡ any (eqb v) (seen only to source t path)
     unfolding rest everyOne
-    visiting-recovered b h j m e =
-        e
-        ∙ times-any to source v (edges only to t (up - 1))
+    visiting-recovered k h j m e =
+        rw e
+        (times-any to source v (edges only to t (up - 1))
         ∙ sym (any-keep everyOne v refl (verticesOf to source (edges only to t (up - 1))))
-        ∙ (rw (m, rest) at (past h j))
-
-    pub visiting-rooted : 0 < up → Rooted only to source t (path + 1) → Rooted only to source t (up - 1 + 1)
-    visiting-rooted h R r l = R r (omega (arith, I .low))
+        ∙ (rw (m, rest) at (past h j)))
 
     pub visiting-next : 0 < up → (joinedOf t (up - 1) ≡ v + 1 → ⊥) → recoveredOf t (up - 1) ≡ false → Visiting only to source t path v (parentOf t (up - 1))
     unfolding rest

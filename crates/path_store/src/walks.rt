@@ -6,10 +6,10 @@ ghost use lib.ListN.{length, getD};
 ghost use lib.Seq.{sets};
 ghost use Rattle.path_store.specs.Walk.{hits, times};
 ghost use Rattle.path_store.specs.Cells.{Inside, parentOf, edgeOf, countOf};
-ghost use lib.Dec.{eqb, ltb};
+ghost use lib.Dec.{eqb};
 ghost use Rattle.laws.specs.Lists.{any};
 ghost use Rattle.path_store.specs.Visit.{seen, keeps};
-ghost use Rattle.path_store.specs.Path.{lastEdge, Piece, pieceOf, Table, Rooted, edges};
+ghost use Rattle.path_store.specs.Path.{lastEdge, Piece, pieceOf, Table, edges};
 ghost use Rattle.path_store.specs.Stop.{forkHits, stopHits};
 use crate::chains::at;
 use crate::chains::count_chain;
@@ -107,43 +107,6 @@ pub fn count_in_path(
     k + same(v, source)
 }
 
-// Whether a path goes through v. Where chains stop at v, the ends and forks of the path's records tell.
-pub fn passes(
-    paths: &[u32],
-    scores: &[f64],
-    only: &[u32],
-    to: &[u32],
-    source: u32,
-    path: u32,
-    v: u32,
-) -> bool
-    requires { ⌜ Table (now only) (now to) (now paths) (now scores) (path + 1) × Rooted (now only) (now to) source (now paths) (path + 1) ⌝ }
-    ensures { λ r. ⌜ r ≡ ltb 0 (times (now (to .entry)) source v (edges (now (only .entry)) (now (to .entry)) (now (paths .entry)) path)) ⌝ }
-{
-    if !stops_at(only, v) {
-        return count_in_path(paths, scores, only, to, source, path, v) > 0;
-    }
-    let first = path_at(paths, scores, path);
-    let mut r = path;
-    let mut up = first.parent;
-    let mut end = first.end;
-    let mut fork = first.fork;
-    while up > 0 {
-        if end == v {
-            return true;
-        }
-        if fork == v {
-            return true;
-        }
-        r = up - 1;
-        let row = path_at(paths, scores, r);
-        up = row.parent;
-        end = row.end;
-        fork = row.fork;
-    }
-    end == v
-}
-
 // A last edge is written, whose number + 1 is l.
 fn write_last(out: &mut [u32], at: usize, l: u32)
     requires { ⌜ at + length (lastEdge l) ≤ length (now out) ⌝ }
@@ -210,7 +173,7 @@ pub fn has_visited(
     path: u32,
     v: u32,
 ) -> bool
-    requires { ⌜ Table (now only) (now to) (now paths) (now scores) (path + 1) × Rooted (now only) (now to) source (now paths) (path + 1) × (path + 1 < 4294967296) × (v + 1 < 4294967296) ⌝ }
+    requires { ⌜ Table (now only) (now to) (now paths) (now scores) (path + 1) × (path + 1 < 4294967296) × (v + 1 < 4294967296) ⌝ }
     ensures { λ r. ⌜ r ≡ any (eqb v) (seen (now (only .entry)) (now (to .entry)) source (now (paths .entry)) path) ⌝ }
 {
     let mut up = path + 1;
@@ -220,7 +183,7 @@ pub fn has_visited(
             return true;
         }
         if row.recovered {
-            return passes(paths, scores, only, to, source, up - 1, v);
+            return count_in_path(paths, scores, only, to, source, up - 1, v) > 0;
         }
         up = row.parent;
     }

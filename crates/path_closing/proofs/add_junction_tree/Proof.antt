@@ -4,7 +4,7 @@ use Rattle.path_closing.proofs.add_junction_tree.Statement.{statement}
 use Rattle.path_closing.proofs.add_junction_tree.Tie as tie
 use mathlib.Core.Path.{refl}
 use native.Mathlib.Omega.{arith}
-use Rattle.path_closing.specs.Joins.{joins-rootable, joins-table, joins-rooted, joins-inside, joins-path, joins-vertex, joins-active, added-none, added-had, added-over, added-place, added-small, added-made}
+use Rattle.path_closing.specs.Joins.{joins-rootable, joins-table, joins-inside, joins-path, joins-vertex, joins-active, added-none, added-had, added-over, added-place, added-small, added-made}
 
 wide-requires : tie.Need-wide-requires
 wide-requires c κs = search needs
@@ -16,7 +16,7 @@ returns : tie.Need-returns
 returns c = added-none _ _ _ _ _ _ _ _ _ _ (c .before .before .wide .ensures) _ (c .before .joining-slot .ensures) _ (c .if1 .taken)
 
 has-visited-requires : tie.Need-has-visited-requires
-has-visited-requires c κs = (joins-table _ _ _ _ _ _ _ _ _ (c .before .before .before .before .before .before .before .before .before .before .before .before .pre), joins-rooted _ _ _ _ _ _ _ _ _ (c .before .before .before .before .before .before .before .before .before .before .before .before .pre), joins-path _ _ _ _ _ _ _ _ _ (c .before .before .before .before .before .before .before .before .before .before .before .before .pre), joins-vertex _ _ _ _ _ _ _ _ _ (c .before .before .before .before .before .before .before .before .before .before .before .before .pre))
+has-visited-requires c κs = (joins-table _ _ _ _ _ _ _ _ _ (c .before .before .before .before .before .before .before .before .before .before .before .before .pre), joins-path _ _ _ _ _ _ _ _ _ (c .before .before .before .before .before .before .before .before .before .before .before .before .pre), joins-vertex _ _ _ _ _ _ _ _ _ (c .before .before .before .before .before .before .before .before .before .before .before .before .pre))
 
 same-length : tie.Need-same-length
 same-length c = search needs

@@ -3,12 +3,13 @@ use Rattle.path_store.proofs.walks.has_visited.Tie as tie
 use Rattle.path_store.proofs.walks.has_visited.Reads as reads
 use Rattle.path_store.proofs.walks.has_visited.Lts as lts
 use Rattle.path_store.proofs.records.path_at.Reads as path-at-reads
-use Rattle.path_store.proofs.walks.passes.Reads as passes-reads
-use mathlib.Core.Path.{sym, ap, _∙_}
+use Rattle.path_store.proofs.walks.count_in_path.Reads as count-in-path-reads
+use mathlib.Core.Path.{_≡_, refl, sym, ap, _∙_}
 use Rattle.path_store.specs.declared.records.PathRecord.{PathRecord}
-use Rattle.path_store.specs.Visit.{Visiting, visiting-start, visiting-inside, visiting-table, visiting-rooted, visiting-hit, visiting-recovered, visiting-next, visiting-end}
+use Rattle.path_store.specs.Visit.{Visiting, visiting-start, visiting-inside, visiting-table, visiting-hit, visiting-recovered, visiting-next, visiting-end}
 use Prim.Native.Nat.{_-_}
 use native.Mathlib.Omega.{arith}
+use borrow.Author.Needs.{needs}
 
 abbrev Inv-loop : tie.InvT-loop
 Inv-loop paths scores only to source path v up₀ up = Visiting only to source paths path v up
@@ -34,14 +35,14 @@ add-if1 c = omega arith
 returns : tie.Need-returns Inv-loop μ-loop
 returns c = visiting-hit _ _ _ _ _ _ _ (c .before .before .before .before .before .before .before .before .before .pre .0) _ (c .before .before .before .before .loop .inv) (c .before .before .before .loop-test .taken) (sym (ap (λ (x : PathRecord). x .joined) (c .before .before .path-at .ensures)) ∙ c .if1 .taken)
 
-sub-passes : tie.Need-sub-passes Inv-loop μ-loop
-sub-passes c = omega arith
+sub-count-in-path : tie.Need-sub-count-in-path Inv-loop μ-loop
+sub-count-in-path c = omega arith
 
-passes-requires : tie.Need-passes-requires Inv-loop μ-loop
-passes-requires c κs = (visiting-table _ _ _ _ _ _ _ (c .before .before .before .before .before .before .before .before .before .before .pre .0) _ (c .before .before .before .before .before .loop .inv) (c .before .before .before .before .loop-test .taken), visiting-rooted _ _ _ _ _ _ _ (c .before .before .before .before .before .before .before .before .before .before .pre .0) _ (c .before .before .before .before .before .loop .inv) (c .before .before .before .before .loop-test .taken) (c .before .before .before .before .before .before .before .before .before .before .pre .1))
+count-in-path-requires : tie.Need-count-in-path-requires Inv-loop μ-loop
+count-in-path-requires c κs = visiting-table _ _ _ _ _ _ _ (c .before .before .before .before .before .before .before .before .before .before .pre .0) _ (c .before .before .before .before .before .loop .inv) (c .before .before .before .before .loop-test .taken)
 
 returns-2 : tie.Need-returns-2 Inv-loop μ-loop
-returns-2 c = visiting-recovered _ _ _ _ _ _ _ (c .before .before .before .before .before .before .before .before .before .before .before .pre .0) _ (c .before .before .before .before .before .before .loop .inv) _ (c .before .before .before .before .before .loop-test .taken) (λ z. c .before .before .if1 .left (ap (λ (x : PathRecord). x .joined) (c .before .before .before .before .path-at .ensures) ∙ z)) (sym (ap (λ (x : PathRecord). x .recovered) (c .before .before .before .before .path-at .ensures)) ∙ c .before .if2 .taken) (c .passes .ensures)
+returns-2 c = visiting-recovered _ _ _ _ _ _ _ (c .before .before .before .before .before .before .before .before .before .before .before .pre .0) _ (c .before .before .before .before .before .before .loop .inv) _ (c .before .before .before .before .before .loop-test .taken) (λ z. c .before .before .if1 .left (ap (λ (x : PathRecord). x .joined) (c .before .before .before .before .path-at .ensures) ∙ z)) (sym (ap (λ (x : PathRecord). x .recovered) (c .before .before .before .before .path-at .ensures)) ∙ c .before .if2 .taken) (c .count-in-path .ensures)
 
 loop-less : tie.Need-loop-less Inv-loop μ-loop
 loop-less c = omega (arith, ap (λ (x : PathRecord). x .parent) (c .before .before .before .path-at .ensures), c .before .before .before .before .loop-test .taken, c .before .before .before .before .before .loop .inv .low, c .before .before .before .before .before .before .before .before .before .before .pre .0 .rows (c .before .before .before .before .before .loop .up - 1) (omega (arith, c .before .before .before .before .before .loop .inv .low, c .before .before .before .before .loop-test .taken)) .rises)
@@ -64,8 +65,8 @@ has-visited-spec =
     path-at-requires
     add-if1
     returns
-    sub-passes
-    passes-requires
+    sub-count-in-path
+    count-in-path-requires
     returns-2
     loop-less
     loop-again
