@@ -4,12 +4,11 @@ use Rattle.path_store.proofs.walks.has_visited.Reads as reads
 use Rattle.path_store.proofs.walks.has_visited.Lts as lts
 use Rattle.path_store.proofs.records.path_at.Reads as path-at-reads
 use Rattle.path_store.proofs.walks.count_in_path.Reads as count-in-path-reads
-use mathlib.Core.Path.{_≡_, refl, sym, ap, _∙_}
+use mathlib.Core.Path.{sym, ap, _∙_}
 use Rattle.path_store.specs.declared.records.PathRecord.{PathRecord}
 use Rattle.path_store.specs.Visit.{Visiting, visiting-start, visiting-inside, visiting-table, visiting-hit, visiting-recovered, visiting-next, visiting-end}
 use Prim.Native.Nat.{_-_}
 use native.Mathlib.Omega.{arith}
-use borrow.Author.Needs.{needs}
 
 abbrev Inv-loop : tie.InvT-loop
 Inv-loop paths scores only to source path v up₀ up = Visiting only to source paths path v up
