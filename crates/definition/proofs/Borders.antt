@@ -7,7 +7,7 @@ use lib.IntN.{pos, negsuc}
 use lib.ListN.{replicate}
 use lib.Ieee.{Float, fin, nan}
 use Rattle.definition.specs.Limits.{Input, floatZero}
-use Rattle.definition.proofs.Examples.{A, C, G, T, seqR, seqA, one, minusOne, column, room, allowance, sample, ask, asking, recovering, within, over, listing, lending, firstOrigins, longest, origin, no, paths, numbers, reply, Case, asks, path}
+use Rattle.definition.proofs.Examples.{A, C, G, T, seqR, seqA, one, minusOne, column, room, allowance, sample, ask, asking, recovering, within, over, listing, lending, firstOrigins, longest, edgeRows, origin, no, paths, numbers, reply, Case, asks, path, edge}
 
 abbrev acgta : List ℕ
 acgta = A ∷ C ∷ G ∷ T ∷ A ∷ []
@@ -98,6 +98,10 @@ table =
     ∷ asks (lending 9 9 case1) (paths (path floatZero 1 2 acgta ∷ []) 2)
     -- the origins of case 6's first row, CAAGTGG: read 1 made its four edges, at places 0 to 3; the flag is false
     ∷ asks (firstOrigins case6) (numbers (0 ∷ 1 ∷ 0 ∷ 1 ∷ 1 ∷ 1 ∷ 2 ∷ 1 ∷ 3 ∷ []))
+    -- "reads in order": of two equal reads the first is the origin
+    ∷ asks (firstOrigins (ask (sample 3 seqR (seqA ∷ seqA ∷ [])) 2)) (numbers (0 ∷ 1 ∷ 0 ∷ 1 ∷ 1 ∷ 1 ∷ 2 ∷ 1 ∷ 3 ∷ []))
+    -- the row of case 5's symbolic edge: support 0, marked reference, its origin the place of the reference's last kmer
+    ∷ asks (edgeRows (edge 4 8 ∷ []) case5) (numbers (4 ∷ 8 ∷ 0 ∷ 1 ∷ 0 ∷ 4 ∷ []))
     -- Reading 10: the symbolic edge's origin answers 13; so does a read that is not there, and a place whose k + 1 bytes do not fit
     ∷ asks (origin 0 4 case5) (no 13)
     ∷ asks (origin 2 0 case5) (no 13)
@@ -106,6 +110,17 @@ table =
     ∷ asks (origin 0 0 case5) (numbers (C ∷ A ∷ A ∷ C ∷ []))
     -- Reading 11: an empty read counts in the read numbers
     ∷ asks (origin 2 0 (ask (sample 3 seqR ([] ∷ seqA ∷ [])) 2)) (numbers (C ∷ A ∷ A ∷ G ∷ []))
+    -- "A tree's branch whose edge does not leave the fork's vertex is passed over": at the sink CG the tree of AC offers AC's branch to CT, and closes the fork
+    ∷ asks (listing (ask (sample 2 (A ∷ C ∷ G ∷ []) ((A ∷ C ∷ G ∷ A ∷ C ∷ T ∷ []) ∷ [])) 1)) (paths [] 2)
+    -- below the threshold it is not yielded either, and at it a tree with no branch left still closes the fork
+    ∷ asks (listing (ask (sample 2 (C ∷ A ∷ G ∷ A ∷ []) ((G ∷ A ∷ G ∷ G ∷ []) ∷ [])) 4)) (paths (path minusHalf 1 2 (C ∷ A ∷ G ∷ A ∷ []) ∷ []) 3)
+    ∷ asks (listing (ask (sample 2 (A ∷ C ∷ A ∷ []) ((C ∷ A ∷ A ∷ A ∷ C ∷ []) ∷ [])) 2)) (paths [] 1)
+    -- "Every extension walks the active trees by its last edge, single edges included": a tree that fell away no longer keeps AACAC from closing
+    ∷ asks (listing (ask (sample 2 (A ∷ A ∷ C ∷ []) ((A ∷ C ∷ A ∷ C ∷ C ∷ []) ∷ [])) 1)) (paths (path minusHalf 1 3 (A ∷ A ∷ C ∷ A ∷ C ∷ []) ∷ []) 4)
+    -- "an edge once", where two trees below the threshold have a branch of it
+    ∷ asks (listing (ask (sample 2 (A ∷ C ∷ G ∷ []) ((C ∷ A ∷ C ∷ A ∷ G ∷ []) ∷ [])) 4)) (paths [] 6)
+    -- "Active trees come in the order they joined": the first of two at the threshold closes the fork
+    ∷ asks (listing (ask (sample 2 (C ∷ A ∷ A ∷ []) ((A ∷ C ∷ A ∷ C ∷ C ∷ []) ∷ [])) 1)) (paths [] 3)
     -- Reading 12: a tree without a branch ends a chain but never joins
     ∷ asks (listing (ask (sample 3 (C ∷ A ∷ A ∷ C ∷ T ∷ G ∷ G ∷ A ∷ []) (seqA ∷ [])) 2)) (paths (path floatZero 1 5 (C ∷ A ∷ A ∷ G ∷ T ∷ G ∷ G ∷ A ∷ []) ∷ []) 4)
     -- Reading 13: source and sink may be one vertex

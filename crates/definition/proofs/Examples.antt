@@ -17,7 +17,7 @@ use Rattle.definition.specs.Search.{openSearch}
 use Rattle.definition.specs.Building.{Built, built, openBuilding}
 use Rattle.definition.specs.Listing.{openListing}
 use Rattle.definition.specs.Origins.{openOrigins}
-use Rattle.definition.specs.Calls.{flat, nodeRow, PathRow, ListSlices, ListOutcome, listCall, OriginOutcome, originCall, openCalls}
+use Rattle.definition.specs.Calls.{flat, edgeRow, nodeRow, PathRow, ListSlices, ListOutcome, listCall, OriginOutcome, originCall, openCalls}
 
 -- ---- bases
 
@@ -121,6 +121,8 @@ pub data Question : Type 0 where
   treeOf : ℕ → Input → Question
   -- the supports of edges
   supportsOf : List Ends → Input → Question
+  -- the rows of edges, as the call for edges and trees writes them
+  edgeRows : List Ends → Input → Question
   -- the call for the bytes at an origin: sequence and place
   origin : ℕ → ℕ → Input → Question
 
@@ -177,9 +179,10 @@ abbrev builtReply : (Built → List ℕ) → Result Built → Reply
 builtReply f (refused n) = no n
 builtReply f (ok b) = numbers (f b)
 
-abbrev supports : List Ends → Built → List ℕ
-supports [] b = []
-supports (e ∷ es) b = map (λ (d : Edge). d .support) (keep (λ (d : Edge). eqEnds e (d .ends)) (b .edges)) ++ supports es b
+-- the edges of these ends, in their order
+abbrev edgesOf : List Ends → Built → List Edge
+edgesOf [] b = []
+edgesOf (e ∷ es) b = keep (λ (d : Edge). eqEnds e (d .ends)) (b .edges) ++ edgesOf es b
 
 abbrev originReply : OriginOutcome → Reply
 originReply o = elim (eqb (o .refusal) 0) [ true ↦ numbers (o .bytes) | false ↦ no (o .refusal) ]
@@ -192,7 +195,8 @@ reply (firstOrigins i) = listReply (λ o. numbers (originsOf o (o .slices .rows)
 reply (scoreBits i) = listReply allBits (listCall i [] [] (blank i))
 reply (longest i) = listReply (λ o. numbers (o .answer .longest ∷ [])) (listCall i [] [] (blank i))
 reply (treeOf v i) = builtReply (λ b. flat nodeRow (nodes (keep (λ (t : Tree). eqb (t .vertex) v) (b .trees)))) (built (i .sample) (i .graphMaxima))
-reply (supportsOf es i) = builtReply (supports es) (built (i .sample) (i .graphMaxima))
+reply (supportsOf es i) = builtReply (λ b. map (λ (d : Edge). d .support) (edgesOf es b)) (built (i .sample) (i .graphMaxima))
+reply (edgeRows es i) = builtReply (λ b. flat edgeRow (edgesOf es b)) (built (i .sample) (i .graphMaxima))
 reply (origin s p i) = originReply (originCall (i .sample .k) (i .sample .reference) (i .sample .ends) (i .sample .bases) (record { sequence = s; place = p }))
 
 -- ---- tables
