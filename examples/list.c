@@ -4,9 +4,12 @@
 #include <math.h>
 #include <stdio.h>
 #include <stdlib.h>
+#include <string.h>
 
 int main(void) {
-    const uint8_t reference[] = "CAACTGG", bases[] = "CAAGTGGCAACTGGCAACTGG", qualities[] = "IIIIIIIIIIIIIIIIIIIII";
+    const uint8_t reference[] = "CAACTGG", bases[] = "CAAGTGGCAACTGGCAACTGG";
+    uint8_t qualities[21];
+    memset(qualities, 40, sizeof qualities);
     const uint32_t ends[] = {7, 14, 21};
     Settings a = {3, 10, 2, 9, false, {128, 256, 256}, {16, 8, 64}};
     LengthsTold told = punelavoh_lengths(a.k, a.asked, a.graph, a.search);

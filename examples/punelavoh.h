@@ -1,5 +1,9 @@
-/* The calls of the static library target/staticlib/libcaller.a; made by tools/c-header. A slice is two arguments: a pointer and a number of
-   elements. No slice that is written to may overlap another. */
+/* The calls of the static library target/staticlib/libcaller.a; made by tools/c-header.
+   A slice is two arguments: a pointer and a number of elements. The pointer is not null and is aligned for its elements, also where there are none.
+   No slice that is written to may overlap another.
+   A read is what stands in `bases` up to its end in `ends`, exclusive, from the end of the read before it: ends never fall, and the last is the
+   number of bases. Qualities are the numbers themselves, not the characters of a text. A `bool` that is lent is 0 or 1, also in `rows` before a
+   call: memory that was set to zero holds such rows. */
 #ifndef PUNELAVOH_H
 #define PUNELAVOH_H
 #include <stdbool.h>

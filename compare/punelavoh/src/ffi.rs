@@ -75,6 +75,8 @@ pub struct PathRow {
     pub closing: u32,
     pub edges: u32,
     pub is_ref: u8,
+    /// The bytes behind the flag, which no field has and no proof speaks of: named so that they can be watched.
+    pub padding: [u8; 7],
 }
 
 #[repr(C)]

@@ -55,8 +55,14 @@ impl Element for u8 {
 }
 
 impl Element for f64 {
+    /// Every other one is a NaN, quiet or signalling, with a payload of its own: proofs know one NaN, and its bits are watched here.
     fn pattern(place: usize, seed: u32) -> Self {
-        f64::from(u32::pattern(place, seed))
+        let number = u32::pattern(place, seed);
+        match place % 4 {
+            1 => f64::from_bits(0x7ff8_0000_0000_0000 | u64::from(number)),
+            3 => f64::from_bits(0xfff0_0000_0000_0000 | u64::from(number)),
+            _ => f64::from(number),
+        }
     }
 
     fn same(self, other: Self) -> bool {
@@ -72,15 +78,17 @@ impl Element for f64 {
 impl Element for PathRow {
     fn pattern(place: usize, seed: u32) -> Self {
         let number = u32::pattern(place, seed);
-        Self { score: f64::from(number), closing: number, edges: number ^ 0xffff, is_ref: 1 }
+        let padding = std::array::from_fn(|i| u8::pattern(place + i, seed));
+        Self { score: f64::pattern(place, seed), closing: number, edges: number ^ 0xffff, is_ref: 1, padding }
     }
 
     fn same(self, other: Self) -> bool {
-        self.score.same(other.score) && (self.closing, self.edges, self.is_ref) == (other.closing, other.edges, other.is_ref)
+        let rest = |r: Self| (r.closing, r.edges, r.is_ref, r.padding);
+        self.score.same(other.score) && rest(self) == rest(other)
     }
 
     fn is_zero(self) -> bool {
-        self.score.is_zero() && (self.closing, self.edges, self.is_ref) == (0, 0, 0)
+        self.score.is_zero() && (self.closing, self.edges, self.is_ref, self.padding) == (0, 0, 0, [0; 7])
     }
 }
 

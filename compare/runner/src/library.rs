@@ -255,10 +255,17 @@ mod listing {
         Some(call_and_check().and_then(|()| call_and_check().map_err(|why| format!("{why}; in the same buffers once more"))))
     }
 
+    /// The rows, with the bytes between them as they were, and nothing else changed.
     fn check_path_rows(slice: &Lent<PathRow>, rows: &[PathWritten]) -> Checked<()> {
+        let before = slice.as_it_was();
         for (i, row) in rows.iter().enumerate() {
-            let wanted =
-                PathRow { score: f64::from_bits(row.score), closing: row.closing, edges: row.origins.len() as u32, is_ref: u8::from(row.is_ref) };
+            let wanted = PathRow {
+                score: f64::from_bits(row.score),
+                closing: row.closing,
+                edges: row.origins.len() as u32,
+                is_ref: u8::from(row.is_ref),
+                padding: before[i].padding,
+            };
             let found = slice.slice()[i];
             require(found.same(wanted), || format!("path row {i} is {found:?}, expected {wanted:?}"))?;
         }
