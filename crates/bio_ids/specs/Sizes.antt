@@ -3,9 +3,9 @@ use mathlib.Core.Path.{_≡_, refl, _∙_}
 use Prim.Native.Nat.{ℕ, _<_, _≤_}
 use native.Mathlib.Omega.{arith}
 use mathlib.Core.Bool.{Bool, true, false, _&&_}
-use mathlib.Core.Option.{Option, none, some}
 use lib.Dec.{leb}
 use borrow.Author.Tests.{le-leb, lt-leb}
+use Rattle.definition.specs.Refusal.{Result, ok, refused}
 use Rattle.definition.specs.Limits.{kFits}
 use Rattle.bio_ids.specs.declared.KmerSize.{KmerSize}
 use Rattle.bio_ids.specs.declared.TriedKmerSize.{TriedKmerSize}
@@ -14,22 +14,22 @@ and-none : (b : Bool) → (b && false) ≡ false
 and-none true = refl
 and-none false = refl
 
--- the size that an answer of `try_new` holds
-abbrev pub sizeOf : TriedKmerSize → Option ℕ
-sizeOf (TriedKmerSize.Size s) = some (s .0)
-sizeOf TriedKmerSize.TooSmall = none
+-- the size or the number that an answer of `try_new` holds
+abbrev pub sizeOf : TriedKmerSize → Result ℕ
+sizeOf (TriedKmerSize.Size s) = ok (s .0)
+sizeOf (TriedKmerSize.Refused n) = refused n
 
 -- k itself, where it is 2 and up
-unfoldable pub atLeastTwo : ℕ → Option ℕ
-atLeastTwo k = elim (leb 2 k) [ true ↦ some k | false ↦ none ]
+unfoldable pub atLeastTwo : ℕ → Result ℕ
+atLeastTwo k = elim (leb 2 k) [ true ↦ ok k | false ↦ refused 1 ]
 
 -- ---- laws, one for each return of the code
 
-pub too-small : (k : ℕ) → k < 2 → none ≡ atLeastTwo k
+pub too-small : (k : ℕ) → k < 2 → refused 1 ≡ atLeastTwo k
 unfolding atLeastTwo
 too-small k h = rw (lt-leb 2 k h, atLeastTwo)
 
-pub is-size : (k : ℕ) → 2 ≤ k → some k ≡ atLeastTwo k
+pub is-size : (k : ℕ) → 2 ≤ k → ok k ≡ atLeastTwo k
 unfolding atLeastTwo
 is-size k h = rw (le-leb 2 k h, atLeastTwo)
 
@@ -46,17 +46,17 @@ module _ (k : ℕ) (tried : TriedKmerSize) (e : sizeOf tried ≡ atLeastTwo k) w
       go : (b : Bool) → leb 2 k ≡ b → true ≡ (leb 2 k && leb k 128)
       go true g = rw (g, le-leb k 128 h)
       go false g =
-          let n : sizeOf tried ≡ none = e ∙ rw (g, atLeastTwo) in
+          let n : sizeOf tried ≡ refused 1 = e ∙ rw (g, atLeastTwo) in
           let z : _≡_ {A = ℕ} 0 1 = cc in
           absurd (omega arith)
 
-  pub k-untried : tried ≡ TriedKmerSize.TooSmall → false ≡ kFits k
+  pub k-untried : (n : ℕ) → tried ≡ TriedKmerSize.Refused n → false ≡ kFits k
   unfolding atLeastTwo kFits
-  k-untried f = go (leb 2 k) refl
+  k-untried n f = go (leb 2 k) refl
     where
       go : (b : Bool) → leb 2 k ≡ b → false ≡ (leb 2 k && leb k 128)
       go true g =
-          let n : sizeOf tried ≡ some k = e ∙ rw (g, atLeastTwo) in
+          let m : sizeOf tried ≡ ok k = e ∙ rw (g, atLeastTwo) in
           let z : _≡_ {A = ℕ} 0 1 = cc in
           absurd (omega arith)
       go false g = rw g

@@ -6,10 +6,10 @@ ghost use Rattle.bio_ids.specs.Sizes.{sizeOf, atLeastTwo};
 // The number of bases of a kmer, made by `try_new`.
 pub struct KmerSize(pub u16);
 
-// The answer of `try_new`, opened by a `match`.
+// The answer of `try_new`; too small a size is 1.
 pub enum TriedKmerSize {
     Size(KmerSize),
-    TooSmall,
+    Refused(u32),
 }
 
 impl KmerSize {
@@ -18,7 +18,7 @@ impl KmerSize {
         ensures { λ r. ⌜ sizeOf r ≡ atLeastTwo k ⌝ }
     {
         if k < 2 {
-            return TriedKmerSize::TooSmall;
+            return TriedKmerSize::Refused(1);
         }
         TriedKmerSize::Size(KmerSize(k))
     }

@@ -1,15 +1,9 @@
 -- The paper's number of each answer.
 use Prim.Native.Nat.{ℕ}
-use Rattle.path_store.specs.declared.growth.PathAnswer.{PathAnswer}
-use Rattle.path_store.specs.declared.growth.PathAnswer.the-variants as path
 use Rattle.path_extensions.specs.declared.Extended.{Extended}
 use Rattle.path_extensions.specs.declared.Extended.the-variants as extended
 use Rattle.search_state.specs.declared.Step.{Step}
 use Rattle.search_state.specs.declared.Step.the-variants as step
-
-abbrev pub joinRefusal : PathAnswer → ℕ
-joinRefusal (path.Made n) = 0
-joinRefusal (path.Refused k) = k
 
 abbrev pub extendRefusal : Extended → ℕ
 extendRefusal (extended.Made n) = 0

@@ -22,7 +22,8 @@ use Rattle.path_extensions.specs.One.{Answers, Run}
 use Rattle.path_extensions.specs.Vertex.{Extends, Extensions, extensionsAt}
 use Rattle.definition.specs.Refusal.{refused}
 use Rattle.search_state.specs.State.{pathOf}
-use Rattle.junction_kbest.specs.Answers.{joinRefusal, extendRefusal}
+use Rattle.path_store.specs.Grow.{pathRefusal}
+use Rattle.junction_kbest.specs.Answers.{extendRefusal}
 use Rattle.junction_kbest.specs.Extend.{Extending, MakesBy, ExtendsTaken, extendedAt, TakenExtended, joins, join-refused, closes, close-refused, takes, extends, extend-refused, all-made}
 
 module _ (g : Setting) (vs es x only to : List ℕ) (column : List Float) (t : List ℕ) (sc : List Float) (ac shut marks out : List ℕ) (p : Progress) (taken : Taken) where
@@ -45,11 +46,11 @@ module _ (g : Setting) (vs es x only to : List ℕ) (column : List Float) (t : L
       joined : (m : ℕ) → a ≡ path.Made m → Joined f g es x only to bs t sc (p .records) taken t₁ sc₁ ac₁
       joined m e = subst (λ (b : PathAnswer). JoinedBy f g es x only to bs t sc (p .records) taken b t₁ sc₁ ac₁) e joined-by
 
-    pub step-join-refused : (k : ℕ) → a ≡ path.Refused k → (n : ℕ) → n ≡ joinRefusal a → TakenExtended g vs es x only to column t sc ac shut marks p taken (Refused n) t₁ sc₁ ac₁ shut marks
+    pub step-join-refused : (k : ℕ) → a ≡ path.Refused k → (n : ℕ) → n ≡ pathRefusal a → TakenExtended g vs es x only to column t sc ac shut marks p taken (Refused n) t₁ sc₁ ac₁ shut marks
     step-join-refused k e n h =
         record {
           is = λ f bs cl queue order s E.
-              (let z : n ≡ k = h ∙ ap joinRefusal e in
+              (let z : n ≡ k = h ∙ ap pathRefusal e in
               rw z
               (join-refused f g vs es x only to column bs cl t sc ac queue shut order marks p s taken E k
               (subst (λ (b : PathAnswer). JoinedBy f g es x only to bs t sc (p .records) taken b t₁ sc₁ ac₁) e (joined-by f bs cl queue order s E))));

@@ -11,6 +11,7 @@ use path_queue::take_first;
 use path_store::growth::PathAnswer;
 use path_store::growth::Taken;
 use path_store::growth::follow_chain;
+use path_store::growth::path_refusal;
 use path_store::records::path_at;
 use search_state::Progress;
 use search_state::Setting;
@@ -21,7 +22,7 @@ ghost use Prim.Native.Nat.{_≤_};
 ghost use lib.Dec.{eqb, ltb};
 ghost use Rattle.junction_kbest.specs.Extend.{ExtendsTaken, TakenExtended, firstNew};
 ghost use Rattle.junction_kbest.specs.Take.{TakesPath, PathTaken};
-ghost use Rattle.junction_kbest.specs.Answers.{joinRefusal, extendRefusal, stepRefusal};
+ghost use Rattle.junction_kbest.specs.Answers.{extendRefusal, stepRefusal};
 ghost use Rattle.path_queue.specs.Push.{Pushes};
 ghost use Rattle.junction_kbest.specs.Between.{NextTurn, TurnMade, TurnAsks};
 ghost use Rattle.junction_kbest.specs.Pivot.{PushedTurn, RecoveredAsks, RecoveredTurn, PivotTurn, PivotMade, TurnMadeIn};
@@ -39,15 +40,6 @@ pub enum Turned {
     More(Progress),
     Ended,
     Refused(u32),
-}
-
-fn join_refusal(a: PathAnswer) -> u32
-    ensures { λ n. ⌜ n ≡ joinRefusal a ⌝ }
-{
-    match a {
-        PathAnswer::Made(_) => 0,
-        PathAnswer::Refused(n) => n,
-    }
 }
 
 fn extend_refusal(a: Extended) -> u32
@@ -82,7 +74,7 @@ fn extend_taken(
 {
     let a = add_junction_tree(vertices, nodes, only, to, paths, scores, active, g, taken);
     let PathAnswer::Made(_) = a else {
-        return Step::Refused(join_refusal(a));
+        return Step::Refused(path_refusal(a));
     };
     let c = close_at_sink(
         nodes,

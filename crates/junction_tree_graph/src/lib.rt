@@ -54,6 +54,9 @@ pub enum Step {
     Refused(u32),
 }
 
+// A vertex or an edge above its maximum.
+const ABOVE_MAXIMUM: u32 = 8;
+
 // A graph in the tables: how many kmers and threaded edges it has. The symbolic vertex has the next number, and the symbolic edge is the next row.
 pub struct Built {
     pub vertices: usize,
@@ -98,7 +101,7 @@ fn get_or_create_kmer_vertex(
         });
     }
     if n >= most.vertices {
-        return Step::Refused(8);
+        return Step::Refused(ABOVE_MAXIMUM);
     }
     create_vertex(vertices, n, q);
     enter_kmer(index, n, h);
@@ -145,7 +148,7 @@ fn extend_chain_by_one(
         });
     }
     if m >= most.edges {
-        return Step::Refused(8);
+        return Step::Refused(ABOVE_MAXIMUM);
     }
     let r = get_or_create_kmer_vertex(reference, bases, vertices, index, k, most, s, q);
     let Step::Next(t) = r else {

@@ -1,5 +1,5 @@
 -- One base of a walk, and the walk's end: what the code asks, and that it is the definition's step. Assumes nothing.
-use mathlib.Core.Path.{_≡_, refl, sym, _∙_}
+use mathlib.Core.Path.{_≡_, refl, sym, ap, _∙_}
 use mathlib.Core.Bool.{Bool, true, false}
 use mathlib.Core.List.{List, []}
 use Prim.Native.Nat.{ℕ, zero, suc, _+_, _*_, _^_, _<_, _≤_}
@@ -16,7 +16,8 @@ use Rattle.assembly.specs.Store.{edgeAt, edgesOf, Good}
 use Rattle.threading_tree.specs.Ends.{ends}
 use Rattle.threading_tree.specs.Slots.{cols, told, Beyond}
 use Rattle.threading_tree.specs.Good.{slot-live}
-use Rattle.threading_tree.specs.All.{Walking as Asks, TookAll}
+use Rattle.threading_tree.specs.All.{grownRefusal, Walking as Asks, TookAll}
+use Rattle.threading_tree.specs.Join.{joinedRefusal}
 use Rattle.threading_tree.specs.Held.{HeldWalk, held-under, held-few, held-walking, held-takes, held-full}
 use Rattle.threading_tree.specs.Grows.{many, open-many, take-many, bound-step}
 use Rattle.threading_tree.specs.Pass.{openWhere, takeUnless, pass-is, Stepping, Steps, passing}
@@ -92,6 +93,10 @@ pub record Passing (d : Ground) (s : Way) (i : ℕ) (vs es x op : List ℕ) : Ty
   pub low : steps ≤ 33792
   pub edge : i < d .edges
   pub from : field es 6 i 0 ≡ s .here
+
+abbrev pub walkedRefusal : Walked → ℕ
+walkedRefusal (Next t) = 0
+walkedRefusal (Refused r) = r
 
 abbrev pub passOf : Ground → List ℕ → ℕ → Walk → Walk
 passOf d es i w = pass (edgesOf es (d .edges)) (edgeAt es i .ends) w
@@ -213,14 +218,16 @@ module _ {d : Ground} {s : Way} {i : ℕ} {vs es x op : List ℕ} (q : Passing d
                 frame = record { kept = kept-put (d .vertices) vs (s .here) (h .root) here-in; beyond = k .beyond; beyond-open = k .beyond-open };
               })
 
-        pub pass-stop : (m : ℕ) → r ≡ Turned m → Passed d s i vs vs es x x' op op' (Refused 9)
-        pass-stop m e =
+        pub pass-stop : (m : ℕ) → r ≡ Turned m → (j : ℕ) → j ≡ joinedRefusal r → Passed d s i vs vs es x x' op op' (Refused j)
+        pass-stop m e j f =
+            let same : j ≡ m = f ∙ ap joinedRefusal e in
             let k' : Steps (λ u. takeUnless (eqb outs 1) (ends (s .here) to) (openWhere o (s .here) u)) passing (d .most) (s .here) told-of x x' op op' (Turned m) = rw e at k in
-            record {
-              is = λ w p st. (refl, rw (← step-is w) (k' .is w (p * suc p) (rootOf vs) (st .held) (sym hr) .1));
+            rw same
+            (record {
+              is = λ w p st. let o = k' .is w (p * suc p) (rootOf vs) (st .held) (sym hr) in (o .0, rw (← step-is w) (o .1));
               arrives = tt;
               frame = record { kept = kept-self (d .vertices) vs; beyond = k .beyond; beyond-open = k .beyond-open };
-            }
+            })
 
 -- ---- the end of a walk
 unfoldable pub endOf : Ground → ℕ → Walk → Walk
@@ -295,10 +302,14 @@ module _ {d : Ground} {s : Way} {x op : List ℕ} (q : Ending d s x op) where
               few = omega arith;
             })
 
-    pub end-stop : (m : ℕ) → r ≡ Stopped m → Ended d s x x' op op' (Refused 9)
-    end-stop m e =
-        record {
-          is = λ w p vs st. (refl, rw (end-yes d (s .here) w h) (held-full w (d .most) (s .nodes) (s .groups) (p * suc p) (rootOf vs) x op (st .held) (ends (d .sink) (d .vertices)) x' op' m (rw e at t) .1));
+    pub end-stop : (m : ℕ) → r ≡ Stopped m → (j : ℕ) → j ≡ grownRefusal r → Ended d s x x' op op' (Refused j)
+    end-stop m e j f =
+        let same : j ≡ m = f ∙ ap grownRefusal e in
+        rw same
+        (record {
+          is = λ w p vs st.
+              let o = held-full w (d .most) (s .nodes) (s .groups) (p * suc p) (rootOf vs) x op (st .held) (ends (d .sink) (d .vertices)) x' op' m (rw e at t) in
+              (o .0, rw (end-yes d (s .here) w h) (o .1));
           beyond = t .beyond;
           beyond-open = far;
-        }
+        })

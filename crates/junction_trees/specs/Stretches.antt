@@ -28,7 +28,7 @@ use Rattle.junction_trees.specs.declared.Walked.the-variants.{Next, Refu
 use Rattle.junction_trees.specs.declared.Evidence.{Evidence}
 use Rattle.junction_trees.specs.declared.Evidence.the-variants.{Trees, Refused as Full}
 use Rattle.junction_trees.specs.Roots.{kept-self, graph-kept}
-use Rattle.junction_trees.specs.Steps.{Sound, sound-kept, State, state-more, Frame, frame-self, frame-on, passOf, Passing, Passed, endOf, end-is, Ending, Ended}
+use Rattle.junction_trees.specs.Steps.{walkedRefusal, Sound, sound-kept, State, state-more, Frame, frame-self, frame-on, passOf, Passing, Passed, endOf, end-is, Ending, Ended}
 
 -- ---- trees to trees
 abbrev pub begun : List Tree → Walk
@@ -173,13 +173,15 @@ module _ {d : Ground} {text vs₁ es x₁ op₁ : List ℕ} {a len count : ℕ} 
             frame = end-frame;
           }
 
-      pub left-end-stop : (m : ℕ) → r ≡ Refused m → Walking (walkOf d text vs₁ es a len) d a (a + len) count vs₁ vs x₁ x' op₁ op' (Full 9)
-      left-end-stop m f =
+      pub left-end-stop : (m : ℕ) → r ≡ Refused m → (o : ℕ) → o ≡ walkedRefusal r → Walking (walkOf d text vs₁ es a len) d a (a + len) count vs₁ vs x₁ x' op₁ op' (Full o)
+      left-end-stop m f o g =
+          let same : o ≡ m = g ∙ ap walkedRefusal f in
           let e' : Ended d s x x' op op' (Refused m) = rw f at e in
-          record {
-            is = λ ts st. (refl, rw (← whole-is ts, ← at-end ts) (e' .is (b .walked ts) (a + j) vs (b .is ts st) .1));
+          rw same
+          (record {
+            is = λ ts st. let c = e' .is (b .walked ts) (a + j) vs (b .is ts st) in (c .0, rw (← whole-is ts, ← at-end ts) (c .1));
             frame = end-frame;
-          }
+          })
 
     -- ---- a base more
     module _ (l : j < len - d .k) where
@@ -268,13 +270,15 @@ module _ {d : Ground} {text vs₁ es x₁ op₁ : List ℕ} {a len count : ℕ} 
                   run = λ ts. rw (e' .arrives) (turn ts);
                 }
 
-            pub left-stop : (m : ℕ) → r ≡ Refused m → Walking (walkOf d text vs₁ es a len) d a (a + len) count vs₁ vs' x₁ x' op₁ op' (Full 9)
-            left-stop m f =
+            pub left-stop : (m : ℕ) → r ≡ Refused m → (o : ℕ) → o ≡ walkedRefusal r → Walking (walkOf d text vs₁ es a len) d a (a + len) count vs₁ vs' x₁ x' op₁ op' (Full o)
+            left-stop m f o g =
+                let same : o ≡ m = g ∙ ap walkedRefusal f in
                 let e' : Passed d s (sl - 1) vs vs' es x x' op op' (Refused m) = rw f at e in
-                record {
-                  is = λ ts st. (refl, over ts (e' .is (b .walked ts) (a + j) (b .is ts st) .1));
+                rw same
+                (record {
+                  is = λ ts st. let c = e' .is (b .walked ts) (a + j) (b .is ts st) in (c .0, over ts (c .1));
                   frame = frame-on (b .frame) (e' .frame);
-                }
+                })
               where
                 over : (ts : List Tree) → d .most < many (passOf d es (sl - 1) (b .walked ts)) → d .most < length (nodes (walkOf d text vs₁ es a len ts))
                 over ts h =

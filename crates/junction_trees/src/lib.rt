@@ -14,6 +14,8 @@ use threading_tree::Grown;
 use threading_tree::Joined;
 use threading_tree::ThreadingState;
 use threading_tree::add_edge_to_junction_tree_nodes;
+use threading_tree::grown_refusal;
+use threading_tree::joined_refusal;
 use threading_tree::pass_edge;
 ghost use mathlib.Core.Path.{_≡_};
 ghost use mathlib.Core.List.{_++_};
@@ -26,7 +28,7 @@ ghost use Rattle.junction_tree_graph.specs.Built.{sampleOf};
 ghost use Rattle.assembly.specs.Index.{Finding};
 ghost use Rattle.junction_trees.specs.Degrees.{OutDegree, Warrants};
 ghost use Rattle.junction_trees.specs.Roots.{Cleared};
-ghost use Rattle.junction_trees.specs.Steps.{Passing, Passed, Ending, Ended};
+ghost use Rattle.junction_trees.specs.Steps.{walkedRefusal, Passing, Passed, Ending, Ended};
 ghost use Rattle.junction_trees.specs.Stretches.{Walks, Walking, walkOf};
 ghost use Rattle.junction_trees.specs.Reads.{ReadWalks, ReadsWalk, walksOf};
 ghost use Rattle.junction_trees.specs.Trees.{Gathers, Gathered};
@@ -116,6 +118,16 @@ pub enum Walked {
     Refused(u32),
 }
 
+// The number of a refusal, 0 for none.
+fn walked_refusal(r: Walked) -> u32
+    ensures { λ n. ⌜ n ≡ walkedRefusal r ⌝ }
+{
+    match r {
+        Walked::Next(_) => 0,
+        Walked::Refused(n) => n,
+    }
+}
+
 // The trees of all walks so far, as the number of their nodes.
 pub enum Evidence {
     Trees(usize),
@@ -164,7 +176,7 @@ fn extend_junction_threading_by_one(
         outs == 1,
     );
     let Joined::Next(h) = r else {
-        return Walked::Refused(9);
+        return Walked::Refused(joined_refusal(r));
     };
     keep_root(vertices, v, h.root);
     Walked::Next(Way {
@@ -192,7 +204,7 @@ fn take_symbolic_edge(nodes: &mut [u32], active: &mut [u32], d: Ground, s: Way) 
         d.vertices as u32,
     );
     let Grown::Nodes(n) = r else {
-        return Walked::Refused(9);
+        return Walked::Refused(grown_refusal(r));
     };
     Walked::Next(Way {
         here: s.here,
@@ -234,14 +246,14 @@ fn walk_stretch(
         }
         let r = extend_junction_threading_by_one(vertices, edges, nodes, active, d, s, slot - 1);
         let Walked::Next(t) = r else {
-            return Evidence::Refused(9);
+            return Evidence::Refused(walked_refusal(r));
         };
         s = t;
         j += 1;
     }
     let r = take_symbolic_edge(nodes, active, d, s);
     let Walked::Next(t) = r else {
-        return Evidence::Refused(9);
+        return Evidence::Refused(walked_refusal(r));
     };
     Evidence::Trees(t.nodes)
 }

@@ -6,12 +6,25 @@ ghost use lib.ListN.{drop};
 ghost use lib.Ieee.{le};
 ghost use Rattle.definition.specs.Limits.{floatZero, sixteen, climbing, columnFits};
 ghost use Rattle.definition.specs.Score.{columnPenalty};
-ghost use Rattle.kbest_haplotype.specs.Penalties.{penaltyOf};
+ghost use Rattle.kbest_haplotype.specs.Penalties.{penaltyOf, penaltyRefusal, priced};
 
-// The answer of `log_penalty`: a count or a total may have no place in the column.
+// The answer of `log_penalty`.
 pub enum Penalty {
     Of(f64),
-    NoPlace,
+    Refused(u32),
+}
+
+// A count or a total has no place in the column.
+const NO_PLACE: u32 = 10;
+
+// The number of a refusal, 0 for none.
+pub fn penalty_refusal(p: Penalty) -> u32
+    ensures { λ n. ⌜ n ≡ penaltyRefusal p ⌝ }
+{
+    match p {
+        Penalty::Of(_) => 0,
+        Penalty::Refused(n) => n,
+    }
 }
 
 // An edge that no read supports is scored as one that a single read supports.
@@ -26,7 +39,7 @@ fn at_least_one(count: u32) -> u32
 
 // The logarithm of the count less that of the total; a fork of no support costs nothing.
 pub fn log_penalty(column: &[f64], count: u32, total: u32) -> Penalty
-    ensures { λ r. ⌜ penaltyOf r ≡ columnPenalty (now (column .entry)) count total ⌝ }
+    ensures { λ r. ⌜ penaltyOf r ≡ priced (columnPenalty (now (column .entry)) count total) ⌝ }
 {
     if total < 1 {
         return Penalty::Of(0.0);
@@ -34,10 +47,10 @@ pub fn log_penalty(column: &[f64], count: u32, total: u32) -> Penalty
     let support = at_least_one(count) as usize;
     let outgoing = total as usize;
     if support >= column.len() {
-        return Penalty::NoPlace;
+        return Penalty::Refused(NO_PLACE);
     }
     if outgoing >= column.len() {
-        return Penalty::NoPlace;
+        return Penalty::Refused(NO_PLACE);
     }
     Penalty::Of(column[support] - column[outgoing])
 }

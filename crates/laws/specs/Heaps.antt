@@ -1,6 +1,6 @@
--- A binary heap over any linear order of numbers: the order over a function of places, what one step of a value up or down leaves of it, and then the
--- heap in the first n places of a list, with a law for each way of the loops of push and pop. What the places hold, sorted, is the list that the heap
--- stands for. K is what is known of each number in it.
+-- A binary heap over any linear order of numbers: the order over a function of places, what one step of a value up or of a hole down leaves of it, and
+-- then the heap in the first n places of a list, with a law for each way of the two loops, and for push and pop over them. What the places hold, sorted,
+-- is the list that the heap stands for. K is what is known of each number in it.
 use mathlib.Core.Path.{_≡_, refl, sym, ap, _∙_}
 use mathlib.Core.Logic.{_⊎_, inl, inr, _≢_}
 use mathlib.Core.Bool.{Bool, true, false}
@@ -42,9 +42,9 @@ module _ (before : ℕ → ℕ → Bool) where
     pub edges : (j : ℕ) → 0 < j → j < n → j ≢ i → before (f j) (f (above j)) ≡ false
     pub past : (j : ℕ) → 0 < j → j < n → above j ≡ i → 0 < i → before (f j) (f (above i)) ≡ false
 
-  -- all but i and those below it
-  pub record Sinking (f : ℕ → ℕ) (i n : ℕ) : Type 0 where
-    pub edges : (j : ℕ) → 0 < j → j < n → above j ≢ i → before (f j) (f (above j)) ≡ false
+  -- all but the hole i, whatever it holds
+  pub record Hole (f : ℕ → ℕ) (i n : ℕ) : Type 0 where
+    pub edges : (j : ℕ) → 0 < j → j < n → j ≢ i → above j ≢ i → before (f j) (f (above j)) ≡ false
     pub past : (j : ℕ) → 0 < j → j < n → above j ≡ i → 0 < i → before (f j) (f (above i)) ≡ false
 
   pub rising-end : (f : ℕ → ℕ) (i n : ℕ) → Rising f i n → (i ≡ 0) ⊎ (before (f i) (f (above i)) ≡ false) → Ordered f n
@@ -55,12 +55,32 @@ module _ (before : ℕ → ℕ → Bool) where
       go (inl z) (inl q) = absurd (omega arith)
       go (inr t) (inl q) = rw q t
 
-  pub sinking-end : (f : ℕ → ℕ) (i n : ℕ) → Sinking f i n → ((j : ℕ) → 0 < j → j < n → above j ≡ i → before (f j) (f i) ≡ false) → Ordered f n
-  sinking-end f i n r e j h l = go (same? (above j) i)
-    where
-      go : (above j ≡ i) ⊎ (above j ≢ i) → before (f j) (f (above j)) ≡ false
-      go (inl q) = rw q (e j h l q)
-      go (inr m) = r .edges j h l m
+  -- no place is below the hole: a value put there is to rise
+  pub hole-leaf : (f g : ℕ → ℕ) (i n : ℕ) → Hole f i n → n ≤ 2 * i + 1 → ((j : ℕ) → j ≢ i → g j ≡ f j) → Rising g i n
+  hole-leaf f g i n r q e =
+      record {
+        edges = λ j p l m. rw (e j m, e (above j) (omega arith)) (r .edges j p l m (omega arith));
+        past = λ j p l u z. absurd (omega arith);
+      }
+
+  -- ---- a step of the hole down: the first of those below i, at k, comes up to i
+  module _ (f g : ℕ → ℕ) (i k n : ℕ) (r : Hole f i n) (pos : 0 < k) (low : k < n) (u : above k ≡ i)
+      (least : (j : ℕ) → 0 < j → j < n → above j ≡ i → before (f j) (f k) ≡ false) (one : g i ≡ f k) (rest : (j : ℕ) → j ≢ i → g j ≡ f j) where
+    hole-edges : (j : ℕ) → 0 < j → j < n → j ≢ k → above j ≢ k → before (g j) (g (above j)) ≡ false
+    hole-edges j h l d m = go (same? j i) (same? (above j) i)
+      where
+        go : (j ≡ i) ⊎ (j ≢ i) → (above j ≡ i) ⊎ (above j ≢ i) → before (g j) (g (above j)) ≡ false
+        go (inl e) y = rw (e, one, rest (above i) (omega arith)) (r .past k pos low u (omega arith))
+        go (inr c) (inl e) = rw (e, one, rest j c) (least j h l e)
+        go (inr c) (inr e) = rw (rest j c, rest (above j) e) (r .edges j h l c e)
+
+    hole-past : (j : ℕ) → 0 < j → j < n → above j ≡ k → 0 < k → before (g j) (g (above k)) ≡ false
+    hole-past j h l w p =
+        let e : before (f j) (f k) ≡ false = rw w at (r .edges j h l (omega arith) (omega arith)) in
+        rw (u, one, rest j (omega arith)) e
+
+    pub hole-next : Hole g k n
+    hole-next = record { edges = hole-edges; past = hole-past }
 
   module _ (O : LinearOrder before) where
     -- ---- the root is before all
@@ -106,26 +126,6 @@ module _ (before : ℕ → ℕ → Bool) where
       pub rising-next : Rising g (above i) n
       rising-next = record { edges = rising-edges; past = rising-past }
 
-    -- ---- a step down: the first of those below i, at k, comes up to i
-    module _ (f g : ℕ → ℕ) (i k n : ℕ) (r : Sinking f i n) (pos : 0 < k) (low : k < n) (u : above k ≡ i)
-        (least : (j : ℕ) → 0 < j → j < n → above j ≡ i → before (f j) (f k) ≡ false) (t : before (f k) (f i) ≡ true) (s : Swapped f g i k) where
-      sinking-edges : (j : ℕ) → 0 < j → j < n → above j ≢ k → before (g j) (g (above j)) ≡ false
-      sinking-edges j h l m = go (same? j k) (same? (above j) i) (same? j i)
-        where
-          go : (j ≡ k) ⊎ (j ≢ k) → (above j ≡ i) ⊎ (above j ≢ i) → (j ≡ i) ⊎ (j ≢ i) → before (g j) (g (above j)) ≡ false
-          go (inl e) y z = rw (e, u, s .one, s .other) (O .flip (f k) (f i) t)
-          go (inr d) (inl e) z = rw (e, s .one, s .rest j (omega arith) d) (least j h l e)
-          go (inr d) (inr c) (inl e) = rw (e, s .one, s .rest (above i) (omega arith) (omega arith)) (r .past k pos low u (omega arith))
-          go (inr d) (inr c) (inr e) = rw (s .rest j e d, s .rest (above j) c m) (r .edges j h l c)
-
-      sinking-past : (j : ℕ) → 0 < j → j < n → above j ≡ k → 0 < k → before (g j) (g (above k)) ≡ false
-      sinking-past j h l w p =
-          let e : before (f j) (f k) ≡ false = rw w at (r .edges j h l (omega arith)) in
-          rw (u, s .one, s .rest j (omega arith) (omega arith)) e
-
-      pub sinking-next : Sinking g k n
-      sinking-next = record { edges = sinking-edges; past = sinking-past }
-
 -- ---- a heap in a list
 
 abbrev pub nth : List ℕ → ℕ → ℕ
@@ -149,6 +149,36 @@ module _ (before : ℕ → ℕ → Bool) (K : ℕ → Type 0) where
     pub heap : Heaped h′ (n - 1)
     pub rest : drop (n - 1) h′ ≡ drop (n - 1) h
 
+  -- r is to go where the hole i of the first n places is, or above it
+  pub record Raisable (h : List ℕ) (n i r : ℕ) : Type 0 where
+    pub low : i < n
+    pub room : n ≤ length h
+    pub known : (j : ℕ) → j < n → K (nth (set h i r) j)
+    pub rising : Rising before (nth (set h i r)) i n
+
+  -- the hole is at i now, and was at e
+  pub record Raising (h₀ : List ℕ) (n e r : ℕ) (h : List ℕ) (i : ℕ) : Type 0 where
+    pub size : length h ≡ length h₀
+    pub same : sortedTo before (nth (set h i r)) n ≡ sortedTo before (nth (set h₀ e r)) n
+    pub rest : drop n h ≡ drop n h₀
+    pub still : Raisable h n i r
+
+  -- r has risen from the hole e
+  pub record Raised (h : List ℕ) (n e r : ℕ) (h′ : List ℕ) : Type 0 where
+    pub is : sortedTo before (nth h′) n ≡ sortedTo before (nth (set h e r)) n
+    pub heap : Heaped h′ n
+    pub rest : drop n h′ ≡ drop n h
+
+  -- the hole is at i now, and was the root of the first m places
+  pub record Sunk (h₀ : List ℕ) (m : ℕ) (h : List ℕ) (i : ℕ) : Type 0 where
+    pub size : length h ≡ length h₀
+    pub low : i < m
+    pub room : m ≤ length h
+    pub known : (j : ℕ) → j < m → K (nth h j)
+    pub same : (v : ℕ) → sortedTo before (nth (set h i v)) m ≡ sortedTo before (nth (set h₀ 0 v)) m
+    pub rest : drop m h ≡ drop m h₀
+    pub hole : Hole before (nth h) i m
+
   pub heaped-none : (h : List ℕ) → Heaped h 0
   heaped-none h = record { room = omega arith; known = λ i l. absurd (omega arith); order = λ j p l. absurd (omega arith) }
 
@@ -159,22 +189,6 @@ module _ (before : ℕ → ℕ → Bool) where
     pub low : k < m
     pub up : above k ≡ i
     pub least : (j : ℕ) → 0 < j → j < m → above j ≡ i → before (nth h j) (nth h k) ≡ false
-
-  -- push: r is to go where the hole i is, or above it
-  pub record Raising (h₀ : List ℕ) (n r : ℕ) (h : List ℕ) (i : ℕ) : Type 0 where
-    pub size : length h ≡ length h₀
-    pub low : i ≤ n
-    pub same : sortedTo before (nth (set h i r)) (n + 1) ≡ sortedTo before (nth (set h₀ n r)) (n + 1)
-    pub rest : drop (n + 1) h ≡ drop (n + 1) h₀
-    pub rising : Rising before (nth (set h i r)) i (n + 1)
-
-  -- pop: v is to go where the hole i is, or below it
-  pub record Lowering (h₀ : List ℕ) (m v : ℕ) (h : List ℕ) (i : ℕ) : Type 0 where
-    pub size : length h ≡ length h₀
-    pub low : i < m
-    pub same : sortedTo before (nth (set h i v)) m ≡ sortedTo before (nth (set h₀ 0 v)) m
-    pub rest : drop m h ≡ drop m h₀
-    pub sinking : Sinking before (nth (set h i v)) i m
 
 -- ---- one number moves from k to the hole at i, and the hole to k
 moved : (h : List ℕ) (i k v : ℕ) → i < length h → k < length h → i ≢ k
@@ -235,14 +249,129 @@ module _ (before : ℕ → ℕ → Bool) (O : LinearOrder before) where
         go j (inr e) = rw e t
 
   module _ (K : ℕ → Type 0) where
+    -- ---- r rises from the hole e
+    pub raise-start : (h : List ℕ) (n e r : ℕ) → Raisable before K h n e r → Raising before K h n e r h e
+    raise-start h n e r P = record { size = refl; same = refl; rest = refl; still = P }
+
+    module _ (h₀ : List ℕ) (n e r : ℕ) (h : List ℕ) (i : ℕ) (R : Raising before K h₀ n e r h i) where
+      pub raise-path : K r
+      raise-path =
+          let w = R .still .low in
+          let f = R .still .room in
+          rw (getD-set-same h i r 0 (omega arith)) at (R .still .known i w)
+
+      pub raise-known : 0 < i → K (nth h (above i))
+      raise-known pos =
+          let w = R .still .low in
+          rw (getD-set-other h i (above i) r 0 (omega arith)) at (R .still .known (above i) (omega arith))
+
+      pub raise-next : 0 < i → before r (nth h (above i)) ≡ true → Raising before K h₀ n e r (set h i (nth h (above i))) (above i)
+      raise-next pos t =
+          let w = R .still .low in
+          let f = R .still .room in
+          let h′ = set h i (nth h (above i)) in
+          let m : sortedTo before (nth (set h′ (above i) r)) n ≡ sortedTo before (nth (set h i r)) n =
+          moved-up h i (above i) r n f w (omega arith)
+          in
+          record {
+            size = length-set h i (nth h (above i)) ∙ R .size;
+            same = m ∙ R .same;
+            rest = drop-set-lt n h i (nth h (above i)) w ∙ R .rest;
+            still =
+                record {
+                  low = omega arith;
+                  room = simp length-set f;
+                  known = sortedTo-all before K (nth (set h′ (above i) r)) n (rw m (all-sortedTo before (nth (set h i r)) n (R .still .known)));
+                  rising =
+                      rising-next before O (nth (set h i r)) (nth (set h′ (above i) r)) i n (R .still .rising) pos w
+                      (rw (getD-set-same h i r 0 (omega arith), getD-set-other h i (above i) r 0 (omega arith)) t)
+                      (moved h i (above i) r (omega arith) (omega arith) (omega arith));
+                };
+          }
+
+      raise-stop : (i ≡ 0) ⊎ (before (nth (set h i r) i) (nth (set h i r) (above i)) ≡ false) → Raised before K h₀ n e r (set h i r)
+      raise-stop z =
+          record {
+            is = R .same;
+            heap =
+                record {
+                  room = simp length-set (R .still .room);
+                  known = R .still .known;
+                  order = rising-end before (nth (set h i r)) i n (R .still .rising) z;
+                };
+            rest = drop-set-lt n h i r (R .still .low) ∙ R .rest;
+          }
+
+      -- the hole is the root
+      pub raise-root : i ≤ 0 → Raised before K h₀ n e r (set h i r)
+      raise-root z = raise-stop (inl (omega arith))
+
+      -- what stands above stays there
+      pub raise-end : 0 < i → before r (nth h (above i)) ≡ false → Raised before K h₀ n e r (set h i r)
+      raise-end pos t =
+          let w = R .still .low in
+          let f = R .still .room in
+          raise-stop (inr (rw (getD-set-same h i r 0 (omega arith), getD-set-other h i (above i) r 0 (omega arith)) t))
+
+    -- ---- the hole goes down from the root
+    pub sink-start : (h : List ℕ) (m : ℕ) → Heaped before K h m → 0 < m → Sunk before K h m h 0
+    sink-start h m H p =
+        record {
+          size = refl;
+          low = p;
+          room = H .room;
+          known = H .known;
+          same = λ v. refl;
+          rest = refl;
+          hole = record { edges = λ j q l d e. H .order j q l; past = λ j q l u z. absurd (omega arith) };
+        }
+
+    pub sink-next : (h₀ : List ℕ) (m : ℕ) (h : List ℕ) (i k : ℕ) → Sunk before K h₀ m h i → Child before h m i k → Sunk before K h₀ m (set h i (nth h k)) k
+    sink-next h₀ m h i k S C =
+        let w = S .low in
+        let f = S .room in
+        let p = C .pos in
+        let l = C .low in
+        let u = C .up in
+        record {
+          size = length-set h i (nth h k) ∙ S .size;
+          low = l;
+          room = simp length-set f;
+          known = λ j q. known j q (same? j i);
+          same = λ v. moved-down h i k v m f l (omega arith) ∙ S .same v;
+          rest = drop-set-lt m h i (nth h k) w ∙ S .rest;
+          hole =
+              hole-next before (nth h) (nth (set h i (nth h k))) i k m (S .hole) p l u (C .least)
+              (getD-set-same h i (nth h k) 0 (omega arith)) (λ j d. getD-set-other h i j (nth h k) 0 d);
+        }
+      where
+        known : (j : ℕ) → j < m → (j ≡ i) ⊎ (j ≢ i) → K (nth (set h i (nth h k)) j)
+        known j q (inl e) =
+            let w = S .low in
+            let f = S .room in
+            rw (e, getD-set-same h i (nth h k) 0 (omega arith)) (S .known k (C .low))
+        known j q (inr d) = rw (getD-set-other h i j (nth h k) 0 d) (S .known j q)
+
     -- ---- push
-    module _ (h₀ : List ℕ) (n r : ℕ) (H : Heaped before K h₀ n) (F : n < length h₀) (k : K r) where
-      start-known : (j : ℕ) → j < n + 1 → K (nth (set h₀ n r) j)
-      start-known j l = go (same-or j n (omega arith))
+    module _ (h₀ : List ℕ) (n r : ℕ) (H : Heaped before K h₀ n) (F : n < length h₀) where
+      pub push-start : K r → Raisable before K h₀ (n + 1) n r
+      push-start k =
+          record {
+            low = omega arith;
+            room = omega arith;
+            known = λ j l. go j (same-or j n (omega arith));
+            rising =
+                record {
+                  edges =
+                      λ j p l m.
+                      rw (getD-set-other h₀ n j r 0 m, getD-set-other h₀ n (above j) r 0 (omega arith)) (H .order j p (omega arith));
+                  past = λ j p l u q. absurd (omega arith);
+                };
+          }
         where
-          go : (j ≡ n) ⊎ (j < n) → K (nth (set h₀ n r) j)
-          go (inl e) = rw (e, getD-set-same h₀ n r 0 F) k
-          go (inr q) = rw (getD-set-other h₀ n j r 0 (omega arith)) (H .known j q)
+          go : (j : ℕ) → (j ≡ n) ⊎ (j < n) → K (nth (set h₀ n r) j)
+          go j (inl e) = rw (e, getD-set-same h₀ n r 0 F) k
+          go j (inr q) = rw (getD-set-other h₀ n j r 0 (omega arith)) (H .known j q)
 
       -- with r at the end it is the list with r put in
       start-is : sortedTo before (nth (set h₀ n r)) (n + 1) ≡ insert before r (sortedTo before (nth h₀) n)
@@ -252,69 +381,8 @@ module _ (before : ℕ → ℕ → Bool) (O : LinearOrder before) where
           in
           rw (add-one n, sorted-suc before (nth (set h₀ n r)) n, getD-set-same h₀ n r 0 F, s)
 
-      pub raise-start : Raising before h₀ n r h₀ n
-      raise-start =
-          record {
-            size = refl;
-            low = omega arith;
-            same = refl;
-            rest = refl;
-            rising =
-                record {
-                  edges =
-                      λ j p l m.
-                      rw (getD-set-other h₀ n j r 0 m, getD-set-other h₀ n (above j) r 0 (omega arith)) (H .order j p (omega arith));
-                  past = λ j p l u q. absurd (omega arith);
-                };
-          }
-
-      module _ (h : List ℕ) (i : ℕ) (R : Raising before h₀ n r h i) where
-        raise-all : (j : ℕ) → j < n + 1 → K (nth (set h i r) j)
-        raise-all = sortedTo-all before K (nth (set h i r)) (n + 1) (rw (R .same) (all-sortedTo before (nth (set h₀ n r)) (n + 1) start-known))
-
-        raise-room : n < length h
-        raise-room = rw (R .size) F
-
-        pub raise-known : 0 < i → K (nth h (above i))
-        raise-known pos =
-            let w = R .low in
-            rw (getD-set-other h i (above i) r 0 (omega arith)) at (raise-all (above i) (omega arith))
-
-        pub raise-next : 0 < i → before r (nth h (above i)) ≡ true → Raising before h₀ n r (set h i (nth h (above i))) (above i)
-        raise-next pos t =
-            let w = R .low in
-            let f = raise-room in
-            record {
-              size = length-set h i (nth h (above i)) ∙ R .size;
-              low = omega arith;
-              same = moved-up h i (above i) r (n + 1) (omega arith) (omega arith) (omega arith) ∙ R .same;
-              rest = drop-set-lt (n + 1) h i (nth h (above i)) (omega arith) ∙ R .rest;
-              rising =
-                  rising-next before O (nth (set h i r)) (nth (set (set h i (nth h (above i))) (above i) r)) i (n + 1) (R .rising) pos (omega arith)
-                  (rw (getD-set-same h i r 0 (omega arith), getD-set-other h i (above i) r 0 (omega arith)) t)
-                  (moved h i (above i) r (omega arith) (omega arith) (omega arith));
-            }
-
-        raise-stop : (i ≡ 0) ⊎ (before (nth (set h i r) i) (nth (set h i r) (above i)) ≡ false) → Put before K h₀ n r (set h i r)
-        raise-stop e =
-            let w = R .low in
-            let f = raise-room in
-            record {
-              is = R .same ∙ start-is;
-              heap = record { room = simp length-set (omega arith); known = raise-all; order = rising-end before (nth (set h i r)) i (n + 1) (R .rising) e };
-              rest = drop-set-lt (n + 1) h i r (omega arith) ∙ R .rest;
-            }
-
-        -- the hole is the root
-        pub raise-root : i ≤ 0 → Put before K h₀ n r (set h i r)
-        raise-root e = raise-stop (inl (omega arith))
-
-        -- what stands above stays there
-        pub raise-end : 0 < i → before r (nth h (above i)) ≡ false → Put before K h₀ n r (set h i r)
-        raise-end pos t =
-            let w = R .low in
-            let f = raise-room in
-            raise-stop (inr (rw (getD-set-same h i r 0 (omega arith), getD-set-other h i (above i) r 0 (omega arith)) t))
+      pub push-end : (h : List ℕ) → Raised before K h₀ (n + 1) n r h → Put before K h₀ n r h
+      push-end h R = record { is = R .is ∙ start-is; heap = R .heap; rest = R .rest }
 
     -- ---- pop
     pub pop-one : (h : List ℕ) (n : ℕ) → n ≡ 1 → Taken before K h n (nth h 0) h
@@ -327,13 +395,6 @@ module _ (before : ℕ → ℕ → Bool) (O : LinearOrder before) where
         }
 
     module _ (h₀ : List ℕ) (n m : ℕ) (H : Heaped before K h₀ n) (N : 0 < n) (D : m ≡ n - 1) (E : m ≡ 0 → ⊥) where
-      first-known : (j : ℕ) → j < m → K (nth (set h₀ 0 (nth h₀ m)) j)
-      first-known j l = go (same? j 0)
-        where
-          go : (j ≡ 0) ⊎ (j ≢ 0) → K (nth (set h₀ 0 (nth h₀ m)) j)
-          go (inl e) = let w = H .room in rw (e, getD-set-same h₀ 0 (nth h₀ m) 0 (omega arith)) (H .known m (omega arith))
-          go (inr d) = rw (getD-set-other h₀ 0 j (nth h₀ m) 0 d) (H .known j (omega arith))
-
       -- none that is left stands before the root
       first-least : (j : ℕ) → j < m → before (nth (set h₀ 0 (nth h₀ m)) j) (nth h₀ 0) ≡ false
       first-least j l = go (same? j 0)
@@ -357,77 +418,34 @@ module _ (before : ℕ → ℕ → Bool) (O : LinearOrder before) where
           rw (q, sorted-suc before (nth h₀) m)
           (ap (λ (v : ℕ). insert before v (sortedTo before (nth h₀) m)) (sym e) ∙ sym o ∙ sorted-least before g m (nth h₀ 0) first-least)
 
-      pub lower-start : Lowering before h₀ m (nth h₀ m) h₀ 0
-      lower-start =
-          record {
-            size = refl;
-            low = omega arith;
-            same = refl;
-            rest = refl;
-            sinking =
-                record {
-                  edges =
-                      λ j p l d.
-                      rw (getD-set-other h₀ 0 j (nth h₀ m) 0 (omega arith), getD-set-other h₀ 0 (above j) (nth h₀ m) 0 d) (H .order j p (omega arith));
-                  past = λ j p l u q. absurd (omega arith);
-                };
-          }
+      pub pop-start : Heaped before K h₀ m
+      pop-start =
+          let w = H .room in
+          record { room = omega arith; known = λ j l. H .known j (omega arith); order = λ j p l. H .order j p (omega arith) }
 
-      module _ (h : List ℕ) (i : ℕ) (R : Lowering before h₀ m (nth h₀ m) h i) where
-        lower-all : (j : ℕ) → j < m → K (nth (set h i (nth h₀ m)) j)
-        lower-all = sortedTo-all before K (nth (set h i (nth h₀ m))) m (rw (R .same) (all-sortedTo before (nth (set h₀ 0 (nth h₀ m))) m first-known))
-
-        lower-size : m < length h
-        lower-size = let w = H .room in rw (R .size) (omega arith)
-
-        pub lower-room : m ≤ length h
-        lower-room = let f = lower-size in omega arith
-
-        pub lower-known : (j : ℕ) → 0 < j → j < m → above j ≡ i → K (nth h j)
-        lower-known j p l u = rw (getD-set-other h i j (nth h₀ m) 0 (omega arith)) at (lower-all j l)
-
-        pub lower-next : (k : ℕ) → Child before h m i k → before (nth h k) (nth h₀ m) ≡ true → Lowering before h₀ m (nth h₀ m) (set h i (nth h k)) k
-        lower-next k C t =
-            let w = R .low in
-            let f = lower-size in
-            let p = C .pos in
-            let l = C .low in
-            let u = C .up in
+      -- the hole is at a leaf: the last number is to rise from there
+      module _ (h : List ℕ) (i : ℕ) (S : Sunk before K h₀ m h i) where
+        pub pop-hole : m ≤ 2 * i + 1 → Raisable before K h m i (nth h₀ m)
+        pop-hole q =
             record {
-              size = length-set h i (nth h k) ∙ R .size;
-              low = l;
-              same = moved-down h i k (nth h₀ m) m (omega arith) l (omega arith) ∙ R .same;
-              rest = drop-set-lt m h i (nth h k) w ∙ R .rest;
-              sinking =
-                  sinking-next before O (nth (set h i (nth h₀ m))) (nth (set (set h i (nth h k)) k (nth h₀ m))) i k m (R .sinking) p l u
-                  (λ j x y z. rw (getD-set-other h i j (nth h₀ m) 0 (omega arith), getD-set-other h i k (nth h₀ m) 0 (omega arith)) (C .least j x y z))
-                  (rw (getD-set-same h i (nth h₀ m) 0 (omega arith), getD-set-other h i k (nth h₀ m) 0 (omega arith)) t)
-                  (moved h i k (nth h₀ m) (omega arith) (omega arith) (omega arith));
+              low = S .low;
+              room = S .room;
+              known = λ j l. go j l (same? j i);
+              rising = hole-leaf before (nth h) (nth (set h i (nth h₀ m))) i m (S .hole) q (λ j d. getD-set-other h i j (nth h₀ m) 0 d);
             }
+          where
+            go : (j : ℕ) → j < m → (j ≡ i) ⊎ (j ≢ i) → K (nth (set h i (nth h₀ m)) j)
+            go j l (inl e) =
+                let w = S .low in
+                let f = S .room in
+                rw (e, getD-set-same h i (nth h₀ m) 0 (omega arith)) (H .known m (omega arith))
+            go j l (inr d) = rw (getD-set-other h i j (nth h₀ m) 0 d) (S .known j l)
 
-        lower-end : ((j : ℕ) → 0 < j → j < m → above j ≡ i → before (nth h j) (nth h₀ m) ≡ false) → Taken before K h₀ n (nth h₀ 0) (set h i (nth h₀ m))
-        lower-end e =
-            let w = R .low in
-            let f = lower-size in
+        pub pop-end : (h′ : List ℕ) → Raised before K h m i (nth h₀ m) h′ → Taken before K h₀ n (nth h₀ 0) h′
+        pop-end h′ R =
             let k : n - 1 ≡ m = omega arith in
             record {
-              is = rw k (first-is ∙ ap {B = List ℕ} (λ l. nth h₀ 0 ∷ l) (sym (R .same)));
-              heap =
-                  rw k
-                  (record {
-                    room = simp length-set (omega arith);
-                    known = lower-all;
-                    order =
-                        sinking-end before (nth (set h i (nth h₀ m))) i m (R .sinking)
-                        (λ j p l u. rw (getD-set-same h i (nth h₀ m) 0 (omega arith), getD-set-other h i j (nth h₀ m) 0 (omega arith)) (e j p l u));
-                  });
-              rest = rw k (drop-set-lt m h i (nth h₀ m) w ∙ R .rest);
+              is = rw k (first-is ∙ ap {B = List ℕ} (λ l. nth h₀ 0 ∷ l) (sym (R .is ∙ S .same (nth h₀ m))));
+              heap = rw k (R .heap);
+              rest = rw k (R .rest ∙ S .rest);
             }
-
-        -- no place is below the hole
-        pub lower-leaf : m ≤ 2 * i + 1 → Taken before K h₀ n (nth h₀ 0) (set h i (nth h₀ m))
-        lower-leaf q = lower-end (λ j p l u. absurd (omega arith))
-
-        -- what is below the hole stays there
-        pub lower-stop : (k : ℕ) → Child before h m i k → before (nth h k) (nth h₀ m) ≡ false → Taken before K h₀ n (nth h₀ 0) (set h i (nth h₀ m))
-        lower-stop k C t = lower-end (λ j p l u. O .through (nth h j) (nth h k) (nth h₀ m) (C .least j p l u) t)

@@ -17,6 +17,9 @@ pub enum Found {
     Refused(u32),
 }
 
+// An origin that names no sequence, or whose k + 1 bytes do not fit it.
+const NO_PART: u32 = 13;
+
 // Where a read, counted from 0, starts in the read bases: where the one before it ends.
 fn read_start(ends: &[u32], read: usize) -> usize
     requires { ⌜ read ≤ length (now ends) ⌝ }
@@ -40,7 +43,7 @@ fn fit(k: u32, in_reads: bool, start: usize, length: usize, place: u32) -> Found
             start: start + from,
         });
     }
-    Found::Refused(13)
+    Found::Refused(NO_PART)
 }
 
 // The part that an origin names, or its refusal.
@@ -63,7 +66,7 @@ pub fn find_origin(
     }
     let read = sequence as usize - 1;
     if read >= ends.len() {
-        return Found::Refused(13);
+        return Found::Refused(NO_PART);
     }
     let start = read_start(ends, read);
     let length = ends[read] as usize - start;

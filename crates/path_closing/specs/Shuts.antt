@@ -12,7 +12,7 @@ use Rattle.path_store.specs.declared.growth.PathAnswer.{PathAnswer}
 use Rattle.path_store.specs.declared.growth.PathAnswer.the-variants.{Made, Refused}
 use Rattle.path_store.specs.declared.growth.Taken.{Taken}
 use Rattle.path_store.specs.Cells.{treesOf, scoreOf, Inside, pathAt, putCells}
-use Rattle.path_store.specs.Grow.{Growable, Grown, closedRow}
+use Rattle.path_store.specs.Grow.{pathRefusal, Growable, Grown, closedRow}
 use Rattle.path_store.specs.Held as held
 use Rattle.fork_offers.specs.Actives.{Active}
 use Rattle.fork_offers.specs.Stops.{Stops}
@@ -107,13 +107,13 @@ module _ (g : Setting) (x ac t : List ℕ) (sc : List Float) (shut : List ℕ) (
       shut-not z = record { evidence = false; stops = subst Stopped z stopping; by = record { answer = refl; cells = refl; scores = refl; numbers = refl } }
 
       module _ (z : b ≡ true) (a : PathAnswer) (t′ : List ℕ) (sc′ : List Float) (gr : Grown t sc (p .records) (closedRow t sc taken) (g .most) a t′ sc′) where
-        pub shut-over : (i : ℕ) → a ≡ Refused i → Shutting g x ac t sc shut taken p (step.Refused 11) t′ sc′ shut
-        shut-over i y =
+        pub shut-over : (i : ℕ) → a ≡ Refused i → (j : ℕ) → j ≡ pathRefusal a → Shutting g x ac t sc shut taken p (step.Refused j) t′ sc′ shut
+        shut-over i y j d =
             let q =
             held.grown-refused t sc (p .records) (closedRow t sc taken) (g .most) t′ sc′ i
             (subst (λ (d : PathAnswer). Grown t sc (p .records) (closedRow t sc taken) (g .most) d t′ sc′) y gr)
             in
-            record { evidence = true; stops = subst Stopped z stopping; by = record { number = refl; over = q .1 } }
+            record { evidence = true; stops = subst Stopped z stopping; by = record { number = d ∙ ap pathRefusal y ∙ q .0 .number; over = q .1 } }
 
         pub shut-made : (i : ℕ) → a ≡ Made i → (shut′ : List ℕ) → shut′ ≡ set shut (p .closed) i → Shutting g x ac t sc shut taken p (step.On (withClosed p)) t′ sc′ shut′
         shut-made i y shut′ c =

@@ -6,6 +6,7 @@ use path_store::growth::PathAnswer;
 use path_store::growth::Taken;
 use path_store::growth::close_path;
 use path_store::growth::join_tree;
+use path_store::growth::path_refusal;
 use path_store::pivotal::cross_off;
 use path_store::records::path_at;
 use path_store::walks::has_visited;
@@ -111,7 +112,7 @@ fn shut_path(
     }
     let r = close_path(paths, scores, p.records, taken, g.most);
     let PathAnswer::Made(n) = r else {
-        return Step::Refused(11);
+        return Step::Refused(path_refusal(r));
     };
     let i = p.closed;
     shut[i] = n;

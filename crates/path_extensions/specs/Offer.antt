@@ -17,7 +17,7 @@ use Rattle.definition.specs.Evidence.{Branches}
 use Rattle.definition.specs.Search.{SearchInput, Path, extend, repeatRule}
 use Rattle.definition.proofs.Column.{column-keeps}
 use Rattle.kbest_haplotype.specs.declared.Penalty.{Penalty}
-use Rattle.kbest_haplotype.specs.Penalties.{penaltyOf}
+use Rattle.kbest_haplotype.specs.Penalties.{penaltyOf, penaltyRefusal, priced}
 use Rattle.fork_offers.specs.Rows.{offerAt}
 use Rattle.path_store.specs.declared.growth.Taken.{Taken}
 use Rattle.path_store.specs.Cells.{scoreOf}
@@ -43,13 +43,25 @@ plusPenalty (some d) s = some (add binary64 s d)
 abbrev pub offerScore : List Float → List ℕ → ℕ → Float → Option Float
 offerScore column out j s = plusPenalty (columnPenalty column (field out 4 j 1) (field out 4 j 2)) s
 
-pub no-score : (column : List Float) (out : List ℕ) (j : ℕ) (s : Float) (p : Penalty) → penaltyOf p ≡ columnPenalty column (field out 4 j 1) (field out 4 j 2) → p ≡ Penalty.NoPlace
-    → none ≡ offerScore column out j s
-no-score column out j s p h e = ap (λ (o : Option Float). plusPenalty o s) (ap penaltyOf (sym e) ∙ h)
+pub no-score : (column : List Float) (out : List ℕ) (j : ℕ) (s : Float) (p : Penalty) → penaltyOf p ≡ priced (columnPenalty column (field out 4 j 1) (field out 4 j 2)) → (n : ℕ) → p ≡ Penalty.Refused n
+    → penaltyOf p ≡ priced (offerScore column out j s)
+no-score column out j s p h n e = go (columnPenalty column (field out 4 j 1) (field out 4 j 2)) h
+  where
+    go : (o : Option Float) → penaltyOf p ≡ priced o → penaltyOf p ≡ priced (plusPenalty o s)
+    go none k = k
+    go (some d) k = let y : refused n ≡ ok d = ap penaltyOf (sym e) ∙ k in let z : _≡_ {A = ℕ} 0 1 = cc in absurd (omega arith)
 
-pub some-score : (column : List Float) (out : List ℕ) (j : ℕ) (s s′ : Float) (p : Penalty) (d : Float) → penaltyOf p ≡ columnPenalty column (field out 4 j 1) (field out 4 j 2) → p ≡ Penalty.Of d
-    → s′ ≡ s → some (add binary64 s′ d) ≡ offerScore column out j s
-some-score column out j s s′ p d h e z = ap (λ (y : Float). some (add binary64 y d)) z ∙ ap (λ (o : Option Float). plusPenalty o s) (ap penaltyOf (sym e) ∙ h)
+pub some-score : (column : List Float) (out : List ℕ) (j : ℕ) (s s′ : Float) (p : Penalty) (d : Float) → penaltyOf p ≡ priced (columnPenalty column (field out 4 j 1) (field out 4 j 2)) → p ≡ Penalty.Of d
+    → s′ ≡ s → ok (add binary64 s′ d) ≡ priced (offerScore column out j s)
+some-score column out j s s′ p d h e z = go (columnPenalty column (field out 4 j 1) (field out 4 j 2)) (ap penaltyOf (sym e) ∙ h)
+  where
+    go : (o : Option Float) → ok d ≡ priced o → ok (add binary64 s′ d) ≡ priced (plusPenalty o s)
+    go none k = let y : _≡_ {A = ℕ} 0 1 = cc in absurd (omega arith)
+    go (some f) k = let y : d ≡ f = cc in rw (z, y)
+
+priced-some : (o : Option Float) (s : Float) → priced o ≡ ok s → o ≡ some s
+priced-some none s h = let z : _≡_ {A = ℕ} 0 1 = cc in absurd (omega arith)
+priced-some (some d) s h = let y : d ≡ s = cc in ap some y
 
 -- ---- what is asked and what is made
 
@@ -80,12 +92,12 @@ abbrev pub wayOf : List ℕ → ℕ → Float → Way
 wayOf out j s = record { edge = field out 4 j 0; score = s; guided = not (eqb (field out 4 j 3) 0); free = false }
 
 module _ (column : List Float) (es out : List ℕ) (j : ℕ) (f : SearchInput) (p : Path Float) where
-  extend-refused : offerScore column out j (p .score) ≡ none → extended column es out j f p ≡ refused 10
+  extend-refused : (n : ℕ) → priced (offerScore column out j (p .score)) ≡ refused n → extended column es out j f p ≡ refused n
   unfolding extend columnScoring
-  extend-refused h = go (columnPenalty column (field out 4 j 1) (field out 4 j 2)) refl h
+  extend-refused n h = go (columnPenalty column (field out 4 j 1) (field out 4 j 2)) refl h
     where
-      go : (o : Option Float) → columnPenalty column (field out 4 j 1) (field out 4 j 2) ≡ o → plusPenalty o (p .score) ≡ none → extended column es out j f p ≡ refused 10
-      go none e k = rw (e, extend)
+      go : (o : Option Float) → columnPenalty column (field out 4 j 1) (field out 4 j 2) ≡ o → priced (plusPenalty o (p .score)) ≡ refused n → extended column es out j f p ≡ refused n
+      go none e k = let y : 10 ≡ n = cc in rw (e, extend) (ap (λ (i : ℕ). refused i) y)
       go (some d) e k = let z : _≡_ {A = ℕ} 0 1 = cc in absurd (omega arith)
 
   extend-is : (s : Float) → offerScore column out j (p .score) ≡ some s → offered column es out j f p ≡ lengthened es (wayOf out j s) f p
@@ -109,18 +121,19 @@ module _ {g : Setting} {es x to : List ℕ} {column : List Float} {t : List ℕ}
   pub parent-scored : taken .path < length sc
   parent-scored = let h = O .it .stands .here .known in let k = O .it .place .scores in omega arith
 
-  module _ {p : Penalty} (hp : penaltyOf p ≡ offerScore column out row (scoreOf sc (taken .path))) where
-    pub offer-refused : p ≡ Penalty.NoPlace → (o : List ℕ) → Gives g es x o to t sc ac n taken 1 (offered column es out row) (Refused 10) t sc ac
-    offer-refused e o =
+  module _ {p : Penalty} (hp : penaltyOf p ≡ priced (offerScore column out row (scoreOf sc (taken .path)))) where
+    pub offer-refused : (m : ℕ) → p ≡ Penalty.Refused m → (j : ℕ) → j ≡ penaltyRefusal p → (o : List ℕ) → Gives g es x o to t sc ac n taken 1 (offered column es out row) (Refused j) t sc ac
+    offer-refused m e j d o =
         record {
           is = λ f bs H.
               ap (λ (y : Result (Path Float)). andThen y (λ q. ok (q ∷ [])))
-              (extend-refused column es out row f (pathOf f es o to bs t sc (taken .path)) (sym hp ∙ ap penaltyOf e));
+              (extend-refused column es out row f (pathOf f es o to bs t sc (taken .path)) j
+              (sym hp ∙ ap penaltyOf e ∙ ap (λ (i : ℕ). refused i) (sym (d ∙ ap penaltyRefusal e))));
         }
 
     module _ {s : Float} (e : p ≡ Penalty.Of s) {w : Way} (hw : w ≡ wayOf out row s) where
       scored : offerScore column out row (scoreOf sc (taken .path)) ≡ some s
-      scored = sym hp ∙ ap penaltyOf e
+      scored = priced-some (offerScore column out row (scoreOf sc (taken .path))) s (sym hp ∙ ap penaltyOf e)
 
       pub offer-asks : Lengthens g es x to t sc ac n taken w
       offer-asks =

@@ -34,7 +34,7 @@ use Rattle.path_store.specs.Cells.{countOf, sinceOf, treesOf, scoreOf, Inside, 
 use Rattle.path_store.specs.Path.{Same}
 use Rattle.path_store.specs.Path as paths
 use Rattle.path_store.specs.Push.{put-same}
-use Rattle.path_store.specs.Grow.{extendedRow, Growable, Grown}
+use Rattle.path_store.specs.Grow.{pathRefusal, extendedRow, Growable, Grown}
 use Rattle.path_store.specs.Held.{Put, grown-made, grown-refused, held-extended}
 use Rattle.path_store.specs.View.{viewOf, extended-made, extended-full}
 use Rattle.search_state.specs.declared.Setting.{Setting}
@@ -382,14 +382,15 @@ module _ {g : Setting} {es x to t : List ℕ} {sc : List Float} {ac : List ℕ} 
           new-row : PathRecord
           new-row = extendedRow t to taken (record { edge = w .edge; score = w .score; since = since; trees = r })
 
-          pub lengthen-refused : {k₀ : ℕ} → answer ≡ answers.Refused k₀ → (o : List ℕ) → Gives g es x o to t sc ac n taken 1 (lengthened es w) (Refused 11) t′ sc′ ad
+          pub lengthen-refused : {k₀ : ℕ} → answer ≡ answers.Refused k₀ → (j : ℕ) → j ≡ pathRefusal answer → (o : List ℕ) → Gives g es x o to t sc ac n taken 1 (lengthened es w) (Refused j) t′ sc′ ad
           unfolding new-row
-          lengthen-refused {k₀} e o =
+          lengthen-refused {k₀} e j d o =
               let q = grown-refused t sc n new-row (g .most) t′ sc′ k₀ (rw e at G) in
               record {
                 is = λ f bs H.
                     one-refused g es x o to t sc ac n taken (L .place) f bs H (p * g .active) k (m * g .active) (ap (λ (i : ℕ). i * g .active) hp) many-trees (ap (λ (i : ℕ). i * g .active) hm) w
-                    (L .edge) (L .score) a b source-is target-is ad r W long since since-by (q .1);
+                    (L .edge) (L .score) a b source-is target-is ad r W long since since-by (q .1)
+                    ∙ ap (λ (i : ℕ). refused i) (sym (d ∙ ap pathRefusal e ∙ q .0 .number));
               }
 
           module _ {m₀ : ℕ} (told : answer ≡ answers.Made m₀) where

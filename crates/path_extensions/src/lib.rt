@@ -5,11 +5,13 @@ use fork_offers::applicable_next_edges;
 use fork_offers::walk_trees;
 use kbest_haplotype::Penalty;
 use kbest_haplotype::log_penalty;
+use kbest_haplotype::penalty_refusal;
 use path_store::chains::wide;
 use path_store::growth::Extension;
 use path_store::growth::PathAnswer;
 use path_store::growth::Taken;
 use path_store::growth::extend_path;
+use path_store::growth::path_refusal;
 use path_store::records::path_at;
 use path_store::walks::count_in_path;
 use path_store::walks::repeat_rule;
@@ -19,7 +21,7 @@ ghost use mathlib.Core.List.{List};
 ghost use Prim.Native.Nat.{ℕ, _+_, _*_, _<_, _≤_};
 ghost use lib.ListN.{length};
 ghost use Rattle.laws.specs.Records.{field};
-ghost use Rattle.kbest_haplotype.specs.Penalties.{penaltyOf};
+ghost use Rattle.kbest_haplotype.specs.Penalties.{penaltyOf, priced};
 ghost use Rattle.path_store.specs.Cells.{scoreOf};
 ghost use Rattle.path_store.specs.Path.{Table};
 ghost use Rattle.path_extensions.specs.One.{decisions, Lengthens, lengthened, Gives};
@@ -110,7 +112,7 @@ fn extend_with_edges(
     };
     let made = extend_path(paths, scores, to, n, taken, x, g.most);
     let PathAnswer::Made(m) = made else {
-        return Extended::Refused(11);
+        return Extended::Refused(path_refusal(made));
     };
     Extended::Made(m + 1)
 }
@@ -118,11 +120,11 @@ fn extend_with_edges(
 // The score of the path with the penalty of the offer in a row, if its counts have a place in the column.
 fn offer_score(column: &[f64], scores: &[f64], offers: &[u32], path: u32, row: usize) -> Penalty
     requires { ⌜ (path < length (now scores)) × (row * 4 + 4 ≤ length (now offers)) ⌝ }
-    ensures { λ r. ⌜ penaltyOf r ≡ offerScore (now (column .entry)) (now (offers .entry)) row (scoreOf (now (scores .entry)) path) ⌝ }
+    ensures { λ r. ⌜ penaltyOf r ≡ priced (offerScore (now (column .entry)) (now (offers .entry)) row (scoreOf (now (scores .entry)) path)) ⌝ }
 {
     let p = log_penalty(column, offers[row * 4 + 1], offers[row * 4 + 2]);
     let Penalty::Of(penalty) = p else {
-        return Penalty::NoPlace;
+        return p;
     };
     Penalty::Of(scores[wide(path)] + penalty)
 }
@@ -147,7 +149,7 @@ fn extend_by_offer(
 {
     let p = offer_score(column, scores, offers, taken.path, row);
     let Penalty::Of(score) = p else {
-        return Extended::Refused(10);
+        return Extended::Refused(penalty_refusal(p));
     };
     let way = Way {
         edge: offers[row * 4 + 0],

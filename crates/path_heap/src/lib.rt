@@ -2,7 +2,7 @@
 ghost use mathlib.Core.Path.{_≡_};
 ghost use Prim.Native.Nat.{ℕ, _+_, _-_, _*_, _<_, _≤_};
 ghost use lib.ListN.{length};
-ghost use Rattle.laws.specs.Heaps.{above, nth, Child};
+ghost use Rattle.laws.specs.Heaps.{above, nth, Child, Raisable, Raised, Sunk};
 ghost use Rattle.path_heap.specs.First.{Known, leads};
 ghost use Rattle.path_heap.specs.Heap.{ScoreHeap, Pushable, Pushed, Popped};
 
@@ -40,12 +40,12 @@ fn child(queue: &[u32], m: usize, scores: &[f64], i: usize) -> usize
     a
 }
 
-// The path joins the n that wait in queue[..n].
-pub fn heap_push(queue: &mut [u32], n: usize, scores: &[f64], path: u32)
-    requires { ⌜ Pushable (now scores) (now queue) n path ⌝ }
-    ensures { λ _. ⌜ Pushed (now (scores .entry)) (now (queue .entry)) n path (now (queue .exit)) ⌝ }
+// The path rises from the hole, one of the n places of queue[..n], past each path that it is taken before.
+fn raise(queue: &mut [u32], n: usize, scores: &[f64], hole: usize, path: u32)
+    requires { ⌜ Raisable (leads (now scores)) (Known (now scores)) (now queue) n hole path ⌝ }
+    ensures { λ _. ⌜ Raised (leads (now (scores .entry))) (Known (now (scores .entry))) (now (queue .entry)) n hole path (now (queue .exit)) ⌝ }
 {
-    let mut i = n;
+    let mut i = hole;
     while i > 0 {
         let p = (i - 1) / 2;
         let q = queue[p];
@@ -59,6 +59,28 @@ pub fn heap_push(queue: &mut [u32], n: usize, scores: &[f64], path: u32)
     queue[i] = path;
 }
 
+// The hole goes from the root of queue[..m] down to a leaf, with one comparison a level, since the path that fills it is not looked at.
+fn sink_hole(queue: &mut [u32], m: usize, scores: &[f64]) -> usize
+    requires { ⌜ ScoreHeap (now scores) (now queue) m × (0 < m) ⌝ }
+    ensures { λ r. ⌜ Sunk (leads (now (scores .entry))) (Known (now (scores .entry))) (now (queue .entry)) m (now (queue .exit)) r × (m ≤ 2 * r + 1) ⌝ }
+{
+    let mut i: usize = 0;
+    while 2 * i + 1 < m {
+        let c = child(queue, m, scores, i);
+        queue[i] = queue[c];
+        i = c;
+    }
+    i
+}
+
+// The path joins the n that wait in queue[..n].
+pub fn heap_push(queue: &mut [u32], n: usize, scores: &[f64], path: u32)
+    requires { ⌜ Pushable (now scores) (now queue) n path ⌝ }
+    ensures { λ _. ⌜ Pushed (now (scores .entry)) (now (queue .entry)) n path (now (queue .exit)) ⌝ }
+{
+    raise(queue, n + 1, scores, n, path);
+}
+
 // The first of the n that wait in queue[..n]; the others wait in queue[..n - 1].
 pub fn heap_pop(queue: &mut [u32], n: usize, scores: &[f64]) -> u32
     requires { ⌜ ScoreHeap (now scores) (now queue) n × (0 < n) ⌝ }
@@ -70,17 +92,8 @@ pub fn heap_pop(queue: &mut [u32], n: usize, scores: &[f64]) -> u32
         return top;
     }
     let v = queue[m];
-    let mut i: usize = 0;
-    while 2 * i + 1 < m {
-        let c = child(queue, m, scores, i);
-        let q = queue[c];
-        if !leads(scores, q, v) {
-            queue[i] = v;
-            return top;
-        }
-        queue[i] = q;
-        i = c;
-    }
-    queue[i] = v;
+    // The last path comes from a leaf and mostly stays near one.
+    let i = sink_hole(queue, m, scores);
+    raise(queue, m, scores, i, v);
     top
 }

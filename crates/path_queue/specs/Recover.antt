@@ -12,7 +12,7 @@ use Rattle.path_store.specs.declared.growth.PathAnswer.{PathAnswer}
 use Rattle.path_store.specs.declared.growth.PathAnswer.the-variants as answer
 use Rattle.path_store.specs.Cells.{countOf, scoreOf, Inside, putCells}
 use Rattle.path_store.specs.Path.{Table, edges, table-front}
-use Rattle.path_store.specs.Grow.{Growable, Grown, recoveredRow}
+use Rattle.path_store.specs.Grow.{pathRefusal, Growable, Grown, recoveredRow}
 use Rattle.path_store.specs.Held.{grown-made, grown-refused}
 use Rattle.path_store.specs.Split.{splitAt}
 use Rattle.path_store.specs.Recover.{edges-in, all-at, split-low}
@@ -132,10 +132,10 @@ module _ {only to t : List ℕ} {sc : List Float} {walk : List ℕ} {g : Setting
         same : c ≡ kept only to t path v
         same = q ∙ K
 
-        pub leave-over : (n : ℕ) → r ≡ answer.Refused n → Left only to t sc g p path v e t′ sc′ (recovery.Refused 11)
-        leave-over n E =
+        pub leave-over : (n : ℕ) → r ≡ answer.Refused n → (j : ℕ) → j ≡ pathRefusal r → Left only to t sc g p path v e t′ sc′ (recovery.Refused j)
+        leave-over n E j d =
             let R = grown-refused t sc (p .records) (recoveredRow only t sc to path c e) (g .most) t′ sc′ n (rw E at G) in
-            record { number = refl; some = omega (arith, same); over = omega (arith, same, R .1) }
+            record { number = d ∙ ap pathRefusal E ∙ R .0 .number; some = omega (arith, same); over = omega (arith, same, R .1) }
 
         pub leave-made : (n : ℕ) → r ≡ answer.Made n → Left only to t sc g p path v e t′ sc′ (recovery.Made (oneMore p))
         leave-made n E =

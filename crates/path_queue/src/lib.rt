@@ -4,6 +4,7 @@ use path_heap::heap_pop;
 use path_heap::heap_push;
 use path_store::chains::wide;
 use path_store::growth::PathAnswer;
+use path_store::growth::path_refusal;
 use path_store::growth::recover_path;
 use path_store::growth::start_path;
 use path_store::pivotal::best_through;
@@ -245,7 +246,7 @@ fn leave_path(
         g.most,
     );
     let PathAnswer::Made(_) = r else {
-        return Recovery::Refused(11);
+        return Recovery::Refused(path_refusal(r));
     };
     Recovery::Made(Progress {
         records: p.records + 1,

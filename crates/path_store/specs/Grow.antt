@@ -25,6 +25,10 @@ abbrev pub answerOf : PathAnswer → Result ℕ
 answerOf (Made n) = ok n
 answerOf (Refused k) = refused k
 
+abbrev pub pathRefusal : PathAnswer → ℕ
+pathRefusal (Made n) = 0
+pathRefusal (Refused k) = k
+
 -- an answer with the tables that it leaves
 pub record Store : Type 0 where
   pub answer : PathAnswer

@@ -7,7 +7,7 @@ ghost use Rattle.path_store.specs.Cells.{Inside, Stored, countOf, endOf}
 ghost use Rattle.path_store.specs.Path.{Table};
 ghost use Rattle.path_store.specs.Cut.{before, ownerOf, cutOf, Links};
 ghost use Rattle.path_store.specs.Extend.{Ends};
-ghost use Rattle.path_store.specs.Grow.{startRow, Following, Growable, Grown, extendedRow, closedRow, recoveredRow, Joined};
+ghost use Rattle.path_store.specs.Grow.{pathRefusal, startRow, Following, Growable, Grown, extendedRow, closedRow, recoveredRow, Joined};
 use crate::chains::at;
 use crate::chains::chain_from;
 use crate::chains::walk;
@@ -20,6 +20,19 @@ use crate::records::path_put;
 pub enum PathAnswer {
     Made(u32),
     Refused(u32),
+}
+
+// A path's edges or active trees above their maximum.
+const ABOVE_MAXIMUM: u32 = 11;
+
+// The number of a refusal, 0 for none.
+pub fn path_refusal(r: PathAnswer) -> u32
+    ensures { λ n. ⌜ n ≡ pathRefusal r ⌝ }
+{
+    match r {
+        PathAnswer::Made(_) => 0,
+        PathAnswer::Refused(n) => n,
+    }
 }
 
 // A taken path, the length of the chain after it, and the vertex that the chain leads to.
@@ -94,7 +107,7 @@ pub fn extend_path(
     let parent = path_at(paths, scores, taken.path);
     let k = wide(parent.edges) + wide(taken.chain) + 1;
     if k > wide(most) {
-        return PathAnswer::Refused(11);
+        return PathAnswer::Refused(ABOVE_MAXIMUM);
     }
     let row = PathRecord {
         score: x.score,
@@ -127,7 +140,7 @@ pub fn close_path(
     let parent = path_at(paths, scores, taken.path);
     let k = wide(parent.edges) + wide(taken.chain);
     if k > wide(most) {
-        return PathAnswer::Refused(11);
+        return PathAnswer::Refused(ABOVE_MAXIMUM);
     }
     let row = PathRecord {
         score: parent.score,
@@ -221,7 +234,7 @@ pub fn recover_path(
     ensures { λ r. ⌜ Grown (now (paths .entry)) (now (scores .entry)) n (recoveredRow (now (only .entry)) (now (paths .entry)) (now (scores .entry)) (now (to .entry)) path k e) most r (now (paths .exit)) (now (scores .exit)) ⌝ }
 {
     if k >= most {
-        return PathAnswer::Refused(11);
+        return PathAnswer::Refused(ABOVE_MAXIMUM);
     }
     let best = path_at(paths, scores, path);
     let cut = cut_path(paths, scores, path, k);
@@ -249,7 +262,7 @@ pub fn join_tree(paths: &mut [u32], scores: &mut [f64], path: u32, v: u32, most:
 {
     let row = path_at(paths, scores, path);
     if row.trees >= most {
-        return PathAnswer::Refused(11);
+        return PathAnswer::Refused(ABOVE_MAXIMUM);
     }
     let with = PathRecord {
         score: row.score,

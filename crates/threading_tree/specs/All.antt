@@ -15,7 +15,7 @@ use Rattle.threading_tree.specs.Nodes.{Fields, Nodes, nil, node, erase, 
 use Rattle.threading_tree.specs.Good.{Good, at-live}
 use Rattle.threading_tree.specs.Forest.{erase-times}
 use Rattle.threading_tree.specs.Walks.{Group, onward, spread, growM, Stand}
-use Rattle.threading_tree.specs.Take.{Wide, wide-kept, Packable, Ready, Went, Full, Taken}
+use Rattle.threading_tree.specs.Take.{stepRefusal, Wide, wide-kept, Packable, Ready, Went, Full, Taken}
 use Rattle.threading_tree.specs.Slots.{cols, told, Beyond}
 use Rattle.threading_tree.specs.declared.Reached as SD
 use Rattle.threading_tree.specs.declared.Step.{Step}
@@ -125,6 +125,10 @@ pub new-live : (f : Fields) (n m : ℕ) (e : Ends) (k : ℕ) {t : Nodes} {s : �
 new-live f n m e k a g = at-live f n (f .kid 0) (at-new m e k a) (g .links) (omega arith)
 
 -- ---- what the loop asks, keeps and ensures
+
+abbrev pub grownRefusal : Grown → ℕ
+grownRefusal (Many n) = 0
+grownRefusal (Stopped k) = k
 
 pub record Walking (cap n w : ℕ) (e : Ends) (x op : List ℕ) : Type 0 where
   pub tree : Nodes
@@ -347,17 +351,16 @@ module _ (cap n₀ w : ℕ) (e : Ends) (x op₀ : List ℕ) (p : Walking cap n�
                 opened = length-set op (i * 2 + 0) (st .at) ∙ k .opened;
               })
 
-        pub track-stop : (m' : ℕ) → r ≡ Refused m' → TookAll cap n₀ w e x y' op₀ op (Stopped 9)
-        track-stop m' z =
+        pub track-stop : (m' : ℕ) → r ≡ Refused m' → (o : ℕ) → o ≡ stepRefusal r → TookAll cap n₀ w e x y' op₀ op (Stopped o)
+        track-stop m' z o d =
+            let same : o ≡ m' = d ∙ ap stepRefusal z in
             let q' : Taken cap n (field op 2 i 0) (field op 2 i 1) e y y' (Refused m') = rw z at as-held in
-            record {
-              is = λ t gs g s' l. nine (stop cap w e x y op n i t gs y' m' (turn cap w e x y op n i t gs (k .all t gs g s' l) h) q');
+            rw same
+            (record {
+              is = λ t gs g s' l. stop cap w e x y op n i t gs y' m' (turn cap w e x y op n i t gs (k .all t gs g s' l) h) q';
               beyond = λ j f. q .beyond j f ∙ k .beyond j f;
               beyond-open = k .beyond-open;
-            }
-          where
-            nine : {t : Nodes} {gs : List Group} → Over cap e t gs m' → Over cap e t gs 9
-            nine o = record { number = refl; over = o .over }
+            })
 
     pub track-end : w ≤ i → TookAll cap n₀ w e x y op₀ op (Many n)
     track-end h =

@@ -17,7 +17,7 @@ use Rattle.threading_tree.specs.Slots.{cols, told, Beyond}
 use Rattle.threading_tree.specs.Walks.{Group, raise, HasAt, first, after, Same, same-raised, same-opened}
 use Rattle.threading_tree.specs.All.{Standing1, Standing, total, new-live}
 use Rattle.threading_tree.specs.Apart.{at-one, path-one, Differs, Apart, apart-new, apart-raise, groups-few, groups-fewer}
-use Rattle.threading_tree.specs.Take.{Went, Full}
+use Rattle.threading_tree.specs.Take.{stepRefusal, Went, Full}
 use Rattle.threading_tree.specs.Open.{RootAt, Openable, OpenedAt}
 use Rattle.threading_tree.specs.declared.Reached as SD
 use Rattle.threading_tree.specs.declared.ThreadingState as TS
@@ -25,6 +25,10 @@ use Rattle.threading_tree.specs.declared.Step.{Step}
 use Rattle.threading_tree.specs.declared.Step.the-variants.{Next, Refused}
 use Rattle.threading_tree.specs.declared.Joined.{Joined}
 use Rattle.threading_tree.specs.declared.Joined.the-variants.{Next as Holds, Refused as Turned}
+
+abbrev pub joinedRefusal : Joined → ℕ
+joinedRefusal (Holds h) = 0
+joinedRefusal (Turned k) = k
 
 -- the first place among the first w that holds the slot, or w
 pub record Sited (op : List ℕ) (w at r : ℕ) : Type 0 where
@@ -181,16 +185,18 @@ module _ (cap n v root w : ℕ) (x op : List ℕ) (p : Joinable cap n v root w x
   join-search = let a = join-few in let b = p .in-open in omega arith
 
   module _ (y : List ℕ) (r : Step) (o : OpenedAt cap n v root x y r) where
-    pub join-turned : (k : ℕ) → r ≡ Refused k → JoinedTo cap n v root w x y op op (Turned 9)
-    join-turned k z =
-        record {
+    pub join-turned : (k : ℕ) → r ≡ Refused k → (j : ℕ) → j ≡ stepRefusal r → JoinedTo cap n v root w x y op op (Turned j)
+    join-turned k z j d =
+        let same : j ≡ k = d ∙ ap stepRefusal z in
+        rw same
+        (record {
           is = λ t gs g ro s l a.
               let q : Full cap n 1 (ends v v) x y t [] k = rw z at (o .is t g ro) in
-              record { number = refl; over = q .over; same = q .same; same-open = refl };
+              record { number = q .number; over = q .over; same = q .same; same-open = refl };
           counts = o .counts;
           beyond = o .beyond;
           beyond-open = λ i q. refl;
-        }
+        })
 
     module _ (st : SD.Reached) (z : r ≡ Next st) where
       went : (t : Nodes) → Good (cols x) n t → RootAt root v t → Went cap n 1 (ends v v) y t [] (landed (ends v v) (suc n) t) st

@@ -1,6 +1,6 @@
 -- One edge of a walk, as the definition passes it: the first vertex's tree is opened where that vertex warrants one, and every open tree takes the
 -- edge unless it is the only one that leaves. The contracts here are HeldWalk before and after.
-use mathlib.Core.Path.{_≡_, refl, sym, _∙_}
+use mathlib.Core.Path.{_≡_, refl, sym, ap, _∙_}
 use Prim.Native.Nat.{ℕ, _+_, _*_, _^_, _<_, _≤_}
 use mathlib.Core.Bool.{Bool, true, false, cond}
 use mathlib.Core.List.{List}
@@ -14,7 +14,7 @@ use Rattle.definition.specs.Evidence.{Walk, opens, takeEdge, openTree, pass, no
 use Rattle.threading_tree.specs.Ends.{ends}
 use Rattle.threading_tree.specs.Slots.{told, Beyond}
 use Rattle.threading_tree.specs.Take.{Packable}
-use Rattle.threading_tree.specs.All.{Walking, TookAll}
+use Rattle.threading_tree.specs.All.{grownRefusal, Walking, TookAll}
 use Rattle.threading_tree.specs.Join.{Joinable, JoinedTo}
 use Rattle.threading_tree.specs.Held.{HeldWalk, held-roots, held-under, held-few, held-walking, held-takes, held-full, held-joinable, held-opens, held-turned}
 use Rattle.threading_tree.specs.Grows.{many, take-edge-grows, open-many}
@@ -159,12 +159,13 @@ module _ (cap : ℕ) (e : Ends) (h : TS.ThreadingState) (x op : List ℕ) (q : B
           beyond-open = far;
         })
 
-    pub take-full : (m : ℕ) → r ≡ Stopped m → Steps (takeUnless q e) taking cap (e .from) h x y op op' (Refused 9)
+    pub take-full : (m : ℕ) → r ≡ Stopped m → (j : ℕ) → j ≡ grownRefusal r → Steps (takeUnless q e) taking cap (e .from) h x y op op' (Refused j)
     unfolding takeUnless
-    take-full m f =
-        rw z
+    take-full m f j d =
+        let same : j ≡ m = d ∙ ap grownRefusal f in
+        rw (same, z)
         (record {
-          is = λ w b root c a. (refl, held-full w cap (h .nodes) (h .groups) b root x op c e y op' m (rw f at t) .1);
+          is = λ w b root c a. held-full w cap (h .nodes) (h .groups) b root x op c e y op' m (rw f at t);
           beyond = t .beyond;
           beyond-open = far;
         })
@@ -245,9 +246,3 @@ module _ (cap : ℕ) (e : Ends) (h : TS.ThreadingState) (x op : List ℕ) (o q :
             let m = where-many o (e .from) w in
             λ root' c off. held-under (b + (2 + length (w .opened))) (omega arith) (t root' c (λ u n. off u n ∙ sym (keep-off root (e .from) (k .root) u n)))
         go (Refused m) w b root t = t
-
--- ---- refused, with 9, exactly where the definition's trees have more nodes than the maximum
-
-abbrev pub number : Joined → ℕ
-number (Holds k) = 0
-number (Refused k) = k

@@ -19,6 +19,10 @@ use Rattle.threading_tree.specs.declared.Reached.{Reached}
 use Rattle.threading_tree.specs.declared.Step.{Step}
 use Rattle.threading_tree.specs.declared.Step.the-variants.{Next, Refused}
 
+abbrev pub stepRefusal : Step → ℕ
+stepRefusal (Next st) = 0
+stepRefusal (Refused k) = k
+
 -- room for slots up to cap, and a slot is a number of the table
 pub record Wide (cap : ℕ) (x : List ℕ) : Type 0 where
   pub long : told cap ≤ length x

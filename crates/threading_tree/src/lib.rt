@@ -17,10 +17,10 @@ ghost use Rattle.definition.specs.Threading.{compareEnds};
 ghost use Rattle.threading_tree.specs.Ends.{ends};
 ghost use Rattle.threading_tree.specs.Slots.{cols, Slot, raised, placed, linked};
 ghost use Rattle.threading_tree.specs.Cells.{rank, Rowed, Sought};
-ghost use Rattle.threading_tree.specs.Take.{Ready, Taken};
+ghost use Rattle.threading_tree.specs.Take.{stepRefusal, Ready, Taken};
 ghost use Rattle.threading_tree.specs.Open.{Openable, OpenedAt};
-ghost use Rattle.threading_tree.specs.All.{Walking, TookAll};
-ghost use Rattle.threading_tree.specs.Join.{Sited, Joinable, JoinedTo};
+ghost use Rattle.threading_tree.specs.All.{grownRefusal, Walking, TookAll};
+ghost use Rattle.threading_tree.specs.Join.{joinedRefusal, Sited, Joinable, JoinedTo};
 ghost use Rattle.threading_tree.specs.Pass.{openWhere, takeUnless, Stepping, Steps, opening, taking, passing};
 ghost use Rattle.threading_tree.specs.Write.{Writable, Written};
 ghost use Rattle.threading_tree.specs.Read.{Readable, ChildSlot, Summed};
@@ -154,6 +154,16 @@ pub enum Step {
     Refused(u32),
 }
 
+// The number of a refusal, 0 for none.
+fn step_refusal(r: Step) -> u32
+    ensures { λ n. ⌜ n ≡ stepRefusal r ⌝ }
+{
+    match r {
+        Step::Next(_) => 0,
+        Step::Refused(n) => n,
+    }
+}
+
 // The node in slot `s` takes the edge (a, b) with the multiplicity m: it gains m, and so does its child for that edge, which is made where it is not
 // there. The answer is the child's slot, or 9 where the table has no room for it, and then nothing has changed.
 pub fn add_edge(nodes: &mut [u32], n: usize, cap: usize, s: usize, a: u32, b: u32, m: u32) -> Step
@@ -214,6 +224,15 @@ pub enum Grown {
     Refused(u32),
 }
 
+pub fn grown_refusal(r: Grown) -> u32
+    ensures { λ n. ⌜ n ≡ grownRefusal r ⌝ }
+{
+    match r {
+        Grown::Nodes(_) => 0,
+        Grown::Refused(n) => n,
+    }
+}
+
 // Every active tree of a walk takes the edge (a, b): the first `w` pairs of `active` are the slots where active trees stand, and how many stand there.
 pub fn add_edge_to_junction_tree_nodes(
     nodes: &mut [u32],
@@ -234,7 +253,7 @@ pub fn add_edge_to_junction_tree_nodes(
         let m = active_count(active, i);
         let r = add_edge(nodes, k, cap, s, a, b, m);
         let Step::Next(st) = r else {
-            return Grown::Refused(9);
+            return Grown::Refused(step_refusal(r));
         };
         active[i * 2 + 0] = st.at as u32;
         k = st.nodes;
@@ -253,6 +272,15 @@ pub struct ThreadingState {
 pub enum Joined {
     Next(ThreadingState),
     Refused(u32),
+}
+
+pub fn joined_refusal(r: Joined) -> u32
+    ensures { λ n. ⌜ n ≡ joinedRefusal r ⌝ }
+{
+    match r {
+        Joined::Next(_) => 0,
+        Joined::Refused(n) => n,
+    }
 }
 
 // The first of the first `w` pairs of `active` that stands at slot `at`, or `w`.
@@ -285,7 +313,7 @@ pub fn add_tree_if_necessary(
 {
     let r = get_and_increment_root(nodes, n, cap, v, root);
     let Step::Next(st) = r else {
-        return Joined::Refused(9);
+        return Joined::Refused(step_refusal(r));
     };
     let at = st.at;
     let i = find_active(active, w, at);
@@ -345,7 +373,7 @@ pub fn take_unless(
     }
     let r = add_edge_to_junction_tree_nodes(nodes, active, held.groups, held.nodes, cap, a, b);
     let Grown::Nodes(k) = r else {
-        return Joined::Refused(9);
+        return Joined::Refused(grown_refusal(r));
     };
     Joined::Next(ThreadingState {
         nodes: k,

@@ -20,7 +20,7 @@ enum-told-2 : tie.Need-enum-told-2
 enum-told-2 c = search needs
 
 returns-2 : tie.Need-returns-2
-returns-2 c = k-untried _ _ (c .before .before .try-new .ensures) (c .enum-told2 .given .1)
+returns-2 c = k-untried _ _ (c .before .before .try-new .ensures) _ (c .enum-told2 .given .1)
 
 returns-3 : tie.Need-returns-3
 returns-3 c =

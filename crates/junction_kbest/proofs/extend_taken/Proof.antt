@@ -7,7 +7,6 @@ use Rattle.junction_kbest.proofs.extend_taken.Tie as tie
 use Rattle.junction_kbest.proofs.extend_taken.Reads as reads
 use Rattle.junction_kbest.proofs.extend_taken.Lts as lts
 use Rattle.junction_kbest.proofs.extend_refusal.Reads as extend-refusal-reads
-use Rattle.junction_kbest.proofs.join_refusal.Reads as join-refusal-reads
 use Rattle.path_closing.proofs.add_junction_tree.Reads as add-junction-tree-reads
 use Rattle.path_closing.proofs.close_at_sink.Reads as close-at-sink-reads
 use Rattle.path_extensions.proofs.process_vertex.Reads as process-vertex-reads
@@ -24,8 +23,8 @@ enum-told-2 : tie.Need-enum-told-2
 enum-told-2 c = search needs
 
 -- src/lib.rt:58:30
-join-refusal-requires : tie.Need-join-refusal-requires
-join-refusal-requires c κs = search needs
+path-refusal-requires : tie.Need-path-refusal-requires
+path-refusal-requires c κs = search needs
 
 -- src/lib.rt:58:9
 same-length : tie.Need-same-length
@@ -41,7 +40,7 @@ same-length-3 c = search needs
 
 -- src/lib.rt:58:9
 returns : tie.Need-returns
-returns c = step-join-refused _ _ _ _ _ _ _ _ _ _ _ _ (c .before .before .before .before .before .before .before .before .before .before .before .before .before .before .before .before .before .before .before .before .before .before .before .before .before .args .offers .now) _ _ _ _ _ _ (c .before .before .before .before .before .before .before .before .before .add-junction-tree .ensures) _ (c .before .enum-told2 .given .1) _ (c .join-refusal .ensures)
+returns c = step-join-refused _ _ _ _ _ _ _ _ _ _ _ _ (c .before .before .before .before .before .before .before .before .before .before .before .before .before .before .before .before .before .before .before .before .before .before .before .before .before .args .offers .now) _ _ _ _ _ _ (c .before .before .before .before .before .before .before .before .before .add-junction-tree .ensures) _ (c .before .enum-told2 .given .1) _ (c .path-refusal .ensures)
 
 -- src/lib.rt:60:9
 close-at-sink-requires : tie.Need-close-at-sink-requires
@@ -158,7 +157,7 @@ extend-taken-spec =
     add-junction-tree-requires
     enum-told
     enum-told-2
-    join-refusal-requires
+    path-refusal-requires
     same-length
     same-length-2
     same-length-3

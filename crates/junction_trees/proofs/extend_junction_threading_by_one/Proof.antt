@@ -32,6 +32,9 @@ enum-known-r c = search needs
 enum-told : tie.Need-enum-told
 enum-told c = search needs
 
+joined-refusal-requires : tie.Need-joined-refusal-requires
+joined-refusal-requires c κs = search needs
+
 same-length : tie.Need-same-length
 same-length c = search needs
 
@@ -42,7 +45,7 @@ same-length-3 : tie.Need-same-length-3
 same-length-3 c = search needs
 
 returns : tie.Need-returns
-returns c = pass-stop (c .before .before .before .before .before .before .before .before .before .before .before .before .before .before .before .before .before .before .before .before .pre) _ ((c .before .before .before .before .before .before .before .before .before .before .before .before .before .before .before .edge-to) .ensures) _ ((c .before .before .before .before .before .before .before .before .before .root-slot) .ensures) _ ((c .before .before .before .before .before .before .before .before .before .before .before .before .before .out-degree) .ensures) _ ((c .before .before .before .before .before .before .before .before .before .before .before .vertex-warrants-junction-tree) .ensures) _ _ _ ((c .before .before .before .before .before .before .pass-edge) .ensures) _ ((c .enum-told) .given .1)
+returns c = pass-stop (c .before .before .before .before .before .before .before .before .before .before .before .before .before .before .before .before .before .before .before .before .before .pre) _ ((c .before .before .before .before .before .before .before .before .before .before .before .before .before .before .before .before .edge-to) .ensures) _ ((c .before .before .before .before .before .before .before .before .before .before .root-slot) .ensures) _ ((c .before .before .before .before .before .before .before .before .before .before .before .before .before .before .out-degree) .ensures) _ ((c .before .before .before .before .before .before .before .before .before .before .before .before .vertex-warrants-junction-tree) .ensures) _ _ _ ((c .before .before .before .before .before .before .before .pass-edge) .ensures) _ ((c .before .enum-told) .given .1) _ (c .joined-refusal .ensures)
 
 keep-root-requires : tie.Need-keep-root-requires
 keep-root-requires c κs = (pass-row (c .before .before .before .before .before .before .before .before .before .before .before .before .before .before .before .before .before .before .before .before .before .before .pre), pass-root-fits (c .before .before .before .before .before .before .before .before .before .before .before .before .before .before .before .before .before .before .before .before .before .before .pre) _ ((c .before .before .before .before .before .before .before .before .before .before .before .before .before .before .before .before .before .edge-to) .ensures) _ ((c .before .before .before .before .before .before .before .before .before .before .before .root-slot) .ensures) _ ((c .before .before .before .before .before .before .before .before .before .before .before .before .before .before .before .out-degree) .ensures) _ ((c .before .before .before .before .before .before .before .before .before .before .before .before .before .vertex-warrants-junction-tree) .ensures) _ _ _ ((c .before .before .before .before .before .before .before .before .pass-edge) .ensures) _ ((c .before .before .r) .given .1))
@@ -72,6 +75,7 @@ extend-junction-threading-by-one-spec =
     pass-edge-requires
     enum-known-r
     enum-told
+    joined-refusal-requires
     same-length
     same-length-2
     same-length-3

@@ -23,14 +23,17 @@ enum-known-r c = search needs
 enum-told : tie.Need-enum-told
 enum-told c = search needs
 
+grown-refusal-requires : tie.Need-grown-refusal-requires
+grown-refusal-requires c κs = search needs
+
 same-length : tie.Need-same-length
-same-length c = (c .before .before .before .before .before .before .add-edge-to-junction-tree-nodes) .kept .0
+same-length c = (c .before .before .before .before .before .before .before .add-edge-to-junction-tree-nodes) .kept .0
 
 same-length-2 : tie.Need-same-length-2
-same-length-2 c = (c .before .before .before .before .before .before .add-edge-to-junction-tree-nodes) .kept .1 .0
+same-length-2 c = (c .before .before .before .before .before .before .before .add-edge-to-junction-tree-nodes) .kept .1 .0
 
 returns-2 : tie.Need-returns-2
-returns-2 c = end-stop (c .before .before .before .before .before .before .before .before .before .before .before .before .before .before .before .before .pre) ((c .before .before .before .before .before .before .before .before .before .before .before .if1) .left) _ _ _ ((c .before .before .before .before .before .before .add-edge-to-junction-tree-nodes) .ensures) _ ((c .enum-told) .given .1)
+returns-2 c = end-stop (c .before .before .before .before .before .before .before .before .before .before .before .before .before .before .before .before .before .pre) ((c .before .before .before .before .before .before .before .before .before .before .before .before .if1) .left) _ _ _ ((c .before .before .before .before .before .before .before .add-edge-to-junction-tree-nodes) .ensures) _ ((c .before .enum-told) .given .1) _ (c .grown-refusal .ensures)
 
 same-length-3 : tie.Need-same-length-3
 same-length-3 c = (c .before .before .before .before .before .before .before .add-edge-to-junction-tree-nodes) .kept .0
@@ -51,6 +54,7 @@ take-symbolic-edge-spec =
     add-edge-to-junction-tree-nodes-requires
     enum-known-r
     enum-told
+    grown-refusal-requires
     same-length
     same-length-2
     returns-2

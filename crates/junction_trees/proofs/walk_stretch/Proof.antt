@@ -56,17 +56,20 @@ enum-known-r c = search needs
 enum-told : tie.Need-enum-told Inv-loop μ-loop
 enum-told c = search needs
 
+walked-refusal-requires : tie.Need-walked-refusal-requires Inv-loop μ-loop
+walked-refusal-requires c κs = search needs
+
 same-length-4 : tie.Need-same-length-4 Inv-loop μ-loop
-same-length-4 c = c .before .before .before .before .before .before .before .before .extend-junction-threading-by-one .kept .0 ∙ c .before .before .before .before .before .before .before .before .before .before .before .before .before .before .before .before .before .loop .inv .frame .kept .size
+same-length-4 c = c .before .before .before .before .before .before .before .before .before .extend-junction-threading-by-one .kept .0 ∙ c .before .before .before .before .before .before .before .before .before .before .before .before .before .before .before .before .before .before .loop .inv .frame .kept .size
 
 same-length-5 : tie.Need-same-length-5 Inv-loop μ-loop
-same-length-5 c = c .before .before .before .before .before .before .before .before .extend-junction-threading-by-one .kept .1 .1 .0 ∙ c .before .before .before .before .before .before .before .before .before .before .before .before .before .before .before .before .before .loop .inv .size-x
+same-length-5 c = c .before .before .before .before .before .before .before .before .before .extend-junction-threading-by-one .kept .1 .1 .0 ∙ c .before .before .before .before .before .before .before .before .before .before .before .before .before .before .before .before .before .before .loop .inv .size-x
 
 same-length-6 : tie.Need-same-length-6 Inv-loop μ-loop
-same-length-6 c = c .before .before .before .before .before .before .before .before .extend-junction-threading-by-one .kept .1 .1 .1 .0 ∙ c .before .before .before .before .before .before .before .before .before .before .before .before .before .before .before .before .before .loop .inv .size-op
+same-length-6 c = c .before .before .before .before .before .before .before .before .before .extend-junction-threading-by-one .kept .1 .1 .1 .0 ∙ c .before .before .before .before .before .before .before .before .before .before .before .before .before .before .before .before .before .before .loop .inv .size-op
 
 returns-2 : tie.Need-returns-2 Inv-loop μ-loop
-returns-2 c = left-stop (c .before .before .before .before .before .before .before .before .before .before .before .before .before .before .before .before .before .before .before .before .before .before .before .before .before .before .before .before .pre .0) (c .before .before .before .before .before .before .before .before .before .before .before .before .before .before .before .before .before .before .before .before .before .before .before .before .before .before .before .before .pre .1) _ (c .before .before .before .before .before .before .before .before .before .before .before .before .before .before .before .before .before .before .find-kmer .ensures) (c .before .before .before .before .before .before .before .before .before .before .before .before .before .before .before .before .before .loop .inv) (c .before .before .before .before .before .before .before .before .before .before .before .before .before .before .before .before .loop-test .taken) _ (c .before .before .before .before .before .before .before .before .before .before .before .before .before .next-edge .ensures) (c .before .before .before .before .before .before .before .before .before .before .before .before .if1 .left) _ _ _ _ (c .before .before .before .before .before .before .before .before .extend-junction-threading-by-one .ensures) _ (c .enum-told .given .1)
+returns-2 c = left-stop (c .before .before .before .before .before .before .before .before .before .before .before .before .before .before .before .before .before .before .before .before .before .before .before .before .before .before .before .before .before .pre .0) (c .before .before .before .before .before .before .before .before .before .before .before .before .before .before .before .before .before .before .before .before .before .before .before .before .before .before .before .before .before .pre .1) _ (c .before .before .before .before .before .before .before .before .before .before .before .before .before .before .before .before .before .before .before .find-kmer .ensures) (c .before .before .before .before .before .before .before .before .before .before .before .before .before .before .before .before .before .before .loop .inv) (c .before .before .before .before .before .before .before .before .before .before .before .before .before .before .before .before .before .loop-test .taken) _ (c .before .before .before .before .before .before .before .before .before .before .before .before .before .before .next-edge .ensures) (c .before .before .before .before .before .before .before .before .before .before .before .before .before .if1 .left) _ _ _ _ (c .before .before .before .before .before .before .before .before .before .extend-junction-threading-by-one .ensures) _ (c .before .enum-told .given .1) _ (c .walked-refusal .ensures)
 
 add-j : tie.Need-add-j Inv-loop μ-loop
 add-j c = let f = c .before .before .before .before .before .before .before .before .before .before .before .before .before .before .before .before .before .before .before .before .before .before .before .before .before .before .before .before .before .fits .len in let l = c .before .before .before .before .before .before .before .before .before .before .before .before .before .before .before .before .before .loop-test .taken in omega arith
@@ -86,17 +89,20 @@ enum-known-r-2 c = search needs
 enum-told-2 : tie.Need-enum-told-2 Inv-loop μ-loop
 enum-told-2 c = search needs
 
+walked-refusal-requires-2 : tie.Need-walked-refusal-requires-2 Inv-loop μ-loop
+walked-refusal-requires-2 c κs = search needs
+
 same-length-7 : tie.Need-same-length-7 Inv-loop μ-loop
-same-length-7 c = c .before .before .before .before .before .before .before .before .before .before .loop .inv .frame .kept .size
+same-length-7 c = c .before .before .before .before .before .before .before .before .before .before .before .loop .inv .frame .kept .size
 
 same-length-8 : tie.Need-same-length-8 Inv-loop μ-loop
-same-length-8 c = c .before .before .before .before .before .before .take-symbolic-edge .kept .0 ∙ c .before .before .before .before .before .before .before .before .before .before .loop .inv .size-x
+same-length-8 c = c .before .before .before .before .before .before .before .take-symbolic-edge .kept .0 ∙ c .before .before .before .before .before .before .before .before .before .before .before .loop .inv .size-x
 
 same-length-9 : tie.Need-same-length-9 Inv-loop μ-loop
-same-length-9 c = c .before .before .before .before .before .before .take-symbolic-edge .kept .1 .0 ∙ c .before .before .before .before .before .before .before .before .before .before .loop .inv .size-op
+same-length-9 c = c .before .before .before .before .before .before .before .take-symbolic-edge .kept .1 .0 ∙ c .before .before .before .before .before .before .before .before .before .before .before .loop .inv .size-op
 
 returns-3 : tie.Need-returns-3 Inv-loop μ-loop
-returns-3 c = left-end-stop (c .before .before .before .before .before .before .before .before .before .before .before .before .before .before .before .before .before .before .before .before .before .pre .0) (c .before .before .before .before .before .before .before .before .before .before .before .before .before .before .before .before .before .before .before .before .before .pre .1) _ (c .before .before .before .before .before .before .before .before .before .before .before .find-kmer .ensures) (c .before .before .before .before .before .before .before .before .before .before .loop .inv) (c .before .before .before .before .before .before .before .before .before .loop-test .left) _ _ _ (c .before .before .before .before .before .before .take-symbolic-edge .ensures) _ (c .enum-told2 .given .1)
+returns-3 c = left-end-stop (c .before .before .before .before .before .before .before .before .before .before .before .before .before .before .before .before .before .before .before .before .before .before .pre .0) (c .before .before .before .before .before .before .before .before .before .before .before .before .before .before .before .before .before .before .before .before .before .before .pre .1) _ (c .before .before .before .before .before .before .before .before .before .before .before .before .find-kmer .ensures) (c .before .before .before .before .before .before .before .before .before .before .before .loop .inv) (c .before .before .before .before .before .before .before .before .before .before .loop-test .left) _ _ _ (c .before .before .before .before .before .before .before .take-symbolic-edge .ensures) _ (c .before .enum-told2 .given .1) _ (c .walked-refusal2 .ensures)
 
 same-length-10 : tie.Need-same-length-10 Inv-loop μ-loop
 same-length-10 c = c .before .before .before .before .before .before .before .before .before .before .before .loop .inv .frame .kept .size
@@ -130,6 +136,7 @@ walk-stretch-spec =
     extend-junction-threading-by-one-requires
     enum-known-r
     enum-told
+    walked-refusal-requires
     same-length-4
     same-length-5
     same-length-6
@@ -140,6 +147,7 @@ walk-stretch-spec =
     take-symbolic-edge-requires
     enum-known-r-2
     enum-told-2
+    walked-refusal-requires-2
     same-length-7
     same-length-8
     same-length-9

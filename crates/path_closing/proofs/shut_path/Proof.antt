@@ -40,6 +40,9 @@ enum-known-r c = search needs
 enum-told : tie.Need-enum-told
 enum-told c = search needs
 
+path-refusal-requires : tie.Need-path-refusal-requires
+path-refusal-requires c κs = search needs
+
 same-length-3 : tie.Need-same-length-3
 same-length-3 c = search needs
 
@@ -47,7 +50,7 @@ same-length-4 : tie.Need-same-length-4
 same-length-4 c = search needs
 
 returns-2 : tie.Need-returns-2
-returns-2 c = shut-over _ _ _ _ _ _ _ _ _ (c .before .before .before .before .before .before .before .before .before .before .before .before .before .wide .ensures) _ (c .before .before .before .before .before .before .before .before .before .before .before .before .before .before .path-at .ensures) _ (c .before .before .before .before .before .before .before .before .before .before .before .wide2 .ensures) _ (c .before .before .before .before .before .before .before .before .before .before .has-stopping-evidence .ensures) (not-false _ (c .before .before .before .before .before .before .before .before .before .if1 .left)) _ _ _ (c .before .before .before .before .before .before .close-path .ensures) _ (c .enum-told .given .1)
+returns-2 c = shut-over _ _ _ _ _ _ _ _ _ (c .before .before .before .before .before .before .before .before .before .before .before .before .before .before .wide .ensures) _ (c .before .before .before .before .before .before .before .before .before .before .before .before .before .before .before .path-at .ensures) _ (c .before .before .before .before .before .before .before .before .before .before .before .before .wide2 .ensures) _ (c .before .before .before .before .before .before .before .before .before .before .before .has-stopping-evidence .ensures) (not-false _ (c .before .before .before .before .before .before .before .before .before .before .if1 .left)) _ _ _ (c .before .before .before .before .before .before .before .close-path .ensures) _ (c .before .enum-told .given .1) _ (c .path-refusal .ensures)
 
 mul-shut : tie.Need-mul-shut
 mul-shut c = let q = c .before .before .before .before .before .before .before .before .before .before .before .before .before .before .before .before .before .before .before .before .before .before .before .pre .more in let l = c .before .before .before .before .before .before .before .before .before .before .before .before .before .before .before .before .before .before .before .before .before .before .before .good .1 .1 .1 .1 .0 in omega arith
@@ -55,8 +58,8 @@ mul-shut c = let q = c .before .before .before .before .before .before .before .
 slice-write-shut : tie.Need-slice-write-shut
 slice-write-shut c = c .before .before .before .before .before .before .before .before .before .before .before .before .before .before .before .before .before .before .before .before .before .before .before .pre .more
 
-add-t27 : tie.Need-add-t27
-add-t27 c = let q = c .before .before .before .before .before .before .before .before .before .before .before .before .before .before .before .before .before .before .before .before .before .before .before .before .pre .few in omega arith
+add-t28 : tie.Need-add-t28
+add-t28 c = let q = c .before .before .before .before .before .before .before .before .before .before .before .before .before .before .before .before .before .before .before .before .before .before .before .before .pre .few in omega arith
 
 add-t19 : tie.Need-add-t19
 add-t19 c = let q = c .before .before .before .before .before .before .before .before .before .before .before .before .before .before .before .before .before .before .before .before .before .before .before .before .before .pre .more in let l = c .before .before .before .before .before .before .before .before .before .before .before .before .before .before .before .before .before .before .before .before .before .before .before .before .before .good .1 .1 .1 .1 .0 in omega arith
@@ -88,12 +91,13 @@ shut-path-spec =
     close-path-requires
     enum-known-r
     enum-told
+    path-refusal-requires
     same-length-3
     same-length-4
     returns-2
     mul-shut
     slice-write-shut
-    add-t27
+    add-t28
     add-t19
     same-length-5
     same-length-6

@@ -14,35 +14,38 @@ enum-known-p c = search needs
 enum-told : tie.Need-enum-told
 enum-told c = search needs
 
+penalty-refusal-requires : tie.Need-penalty-refusal-requires
+penalty-refusal-requires c κs = search needs
+
 same-length : tie.Need-same-length
 same-length c = search needs
 
 returns : tie.Need-returns
-returns c = offer-refused (c .before .before .before .before .before .before .before .before .before .before .before .before .pre) (c .before .before .offer-score .ensures) (c .enum-told .given .1)
+returns c = offer-refused (c .before .before .before .before .before .before .before .before .before .before .before .before .before .pre) (c .before .before .before .offer-score .ensures) _ (c .before .enum-told .given .1) _ (c .penalty-refusal .ensures)
 
-mul-t18 : tie.Need-mul-t18
-mul-t18 c = search needs
+mul-t19 : tie.Need-mul-t19
+mul-t19 c = search needs
 
-add-t19 : tie.Need-add-t19
-add-t19 c = search needs
+add-t20 : tie.Need-add-t20
+add-t20 c = search needs
 
-mul-t20 : tie.Need-mul-t20
-mul-t20 c = search needs
+mul-t21 : tie.Need-mul-t21
+mul-t21 c = search needs
 
-shared-slice-read-t22 : tie.Need-shared-slice-read-t22
-shared-slice-read-t22 c = search needs
+shared-slice-read-t23 : tie.Need-shared-slice-read-t23
+shared-slice-read-t23 c = search needs
 
-mul-t23 : tie.Need-mul-t23
-mul-t23 c = search needs
+mul-t24 : tie.Need-mul-t24
+mul-t24 c = search needs
 
-add-t24 : tie.Need-add-t24
-add-t24 c = search needs
+add-t25 : tie.Need-add-t25
+add-t25 c = search needs
 
-mul-t25 : tie.Need-mul-t25
-mul-t25 c = search needs
+mul-t26 : tie.Need-mul-t26
+mul-t26 c = search needs
 
-shared-slice-read-t27 : tie.Need-shared-slice-read-t27
-shared-slice-read-t27 c = search needs
+shared-slice-read-t28 : tie.Need-shared-slice-read-t28
+shared-slice-read-t28 c = search needs
 
 extend-with-edges-requires : tie.Need-extend-with-edges-requires
 extend-with-edges-requires c κs = offer-asks (c .before .before .before .before .before .before .before .before .before .before .before .before .before .before .before .before .before .before .pre) (c .before .before .before .before .before .before .before .before .offer-score .ensures) (c .before .before .before .before .before .before .p .given .1) refl
@@ -66,16 +69,17 @@ extend-by-offer-spec =
     offer-score-requires
     enum-known-p
     enum-told
+    penalty-refusal-requires
     same-length
     returns
-    mul-t18
-    add-t19
-    mul-t20
-    shared-slice-read-t22
-    mul-t23
-    add-t24
-    mul-t25
-    shared-slice-read-t27
+    mul-t19
+    add-t20
+    mul-t21
+    shared-slice-read-t23
+    mul-t24
+    add-t25
+    mul-t26
+    shared-slice-read-t28
     extend-with-edges-requires
     same-length-2
     same-length-3

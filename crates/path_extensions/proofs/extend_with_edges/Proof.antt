@@ -50,6 +50,9 @@ enum-known-made c = search needs
 enum-told : tie.Need-enum-told
 enum-told c = search needs
 
+path-refusal-requires : tie.Need-path-refusal-requires
+path-refusal-requires c κs = search needs
+
 same-length : tie.Need-same-length
 same-length c = search needs
 
@@ -60,7 +63,7 @@ same-length-3 : tie.Need-same-length-3
 same-length-3 c = search needs
 
 returns : tie.Need-returns
-returns c = lengthen-refused (c .before .before .before .before .before .before .before .before .before .before .before .before .before .before .before .before .before .before .before .before .before .before .before .before .before .before .before .before .before .pre) (c .before .before .before .before .before .before .before .before .before .before .before .before .before .before .before .before .before .before .before .before .path-at .ensures) (c .before .before .before .before .before .before .before .before .before .before .before .before .before .before .before .before .before .before .wide2 .ensures .0) (c .before .before .before .before .before .before .before .before .before .before .before .before .before .wide4 .ensures .0) (c .before .before .before .before .before .before .before .before .before .before .before .before .before .before .before .before .before .wide3 .ensures .0) (c .before .before .before .before .before .before .before .before .before .before .before .before .before .before .before .before .before .before .before .wide .ensures .0) (c .before .before .before .before .before .before .before .before .before .before .before .before .before .before .before .before .edge-end .ensures) (c .before .before .before .before .before .before .before .before .before .before .before .before .before .before .before .edge-end2 .ensures) (c .before .before .before .before .before .before .before .before .before .before .before .before .walk-trees .ensures) (c .before .before .before .before .before .before .before .before .before .before .before .before .walk-trees .kept .1 .1 .1 .0) (c .before .before .before .before .before .before .before .before .before .decisions-since .ensures) (c .before .before .before .before .before .before .extend-path .ensures) (c .enum-told .given .1)
+returns c = lengthen-refused (c .before .before .before .before .before .before .before .before .before .before .before .before .before .before .before .before .before .before .before .before .before .before .before .before .before .before .before .before .before .before .pre) (c .before .before .before .before .before .before .before .before .before .before .before .before .before .before .before .before .before .before .before .before .before .path-at .ensures) (c .before .before .before .before .before .before .before .before .before .before .before .before .before .before .before .before .before .before .before .wide2 .ensures .0) (c .before .before .before .before .before .before .before .before .before .before .before .before .before .before .wide4 .ensures .0) (c .before .before .before .before .before .before .before .before .before .before .before .before .before .before .before .before .before .before .wide3 .ensures .0) (c .before .before .before .before .before .before .before .before .before .before .before .before .before .before .before .before .before .before .before .before .wide .ensures .0) (c .before .before .before .before .before .before .before .before .before .before .before .before .before .before .before .before .before .edge-end .ensures) (c .before .before .before .before .before .before .before .before .before .before .before .before .before .before .before .before .edge-end2 .ensures) (c .before .before .before .before .before .before .before .before .before .before .before .before .before .walk-trees .ensures) (c .before .before .before .before .before .before .before .before .before .before .before .before .before .walk-trees .kept .1 .1 .1 .0) (c .before .before .before .before .before .before .before .before .before .before .decisions-since .ensures) (c .before .before .before .before .before .before .before .extend-path .ensures) (c .before .enum-told .given .1) _ (c .path-refusal .ensures)
 
 add-t29 : tie.Need-add-t29
 add-t29 c = let h = made-low (c .before .before .before .before .before .before .before .before .before .before .before .before .before .before .before .before .before .before .before .before .before .before .before .before .before .before .before .before .before .before .pre) (c .before .before .before .before .before .before .before .before .before .before .before .before .before .before .before .before .before .before .before .before .before .path-at .ensures) (c .before .before .before .before .before .before .before .before .before .before .before .before .before .before .before .before .before .before .before .wide2 .ensures .0) (c .before .before .before .before .before .before .before .before .before .before .before .before .before .before .wide4 .ensures .0) (c .before .before .before .before .before .before .before .before .before .before .before .before .before .before .before .before .before .before .wide3 .ensures .0) (c .before .before .before .before .before .before .before .before .before .before .before .before .before .before .before .before .before .before .before .before .wide .ensures .0) (c .before .before .before .before .before .before .before .before .before .before .before .before .before .before .before .before .before .edge-end .ensures) (c .before .before .before .before .before .before .before .before .before .before .before .before .before .before .before .before .edge-end2 .ensures) (c .before .before .before .before .before .before .before .before .before .before .before .before .before .walk-trees .ensures) (c .before .before .before .before .before .before .before .before .before .before .before .before .before .walk-trees .kept .1 .1 .1 .0) (c .before .before .before .before .before .before .before .before .before .before .decisions-since .ensures) (c .before .before .before .before .before .before .before .extend-path .ensures) (c .before .made .given .1) in omega arith
@@ -96,6 +99,7 @@ extend-with-edges-spec =
     extend-path-requires
     enum-known-made
     enum-told
+    path-refusal-requires
     same-length
     same-length-2
     same-length-3

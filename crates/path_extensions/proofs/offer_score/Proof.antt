@@ -42,7 +42,7 @@ enum-told : tie.Need-enum-told
 enum-told c = search needs
 
 returns : tie.Need-returns
-returns c = no-score (c .before .before .before .before .before .before .before .before .args .column .now) (c .before .before .before .before .before .before .before .before .args .offers .now) (c .before .before .before .before .before .before .before .before .args .row) _ _ (c .before .before .log-penalty .ensures) (c .enum-told .given .1)
+returns c = no-score (c .before .before .before .before .before .before .before .before .args .column .now) (c .before .before .before .before .before .before .before .before .args .offers .now) (c .before .before .before .before .before .before .before .before .args .row) _ _ (c .before .before .log-penalty .ensures) _ (c .enum-told .given .1)
 
 wide-requires : tie.Need-wide-requires
 wide-requires c κs = search needs

@@ -36,6 +36,9 @@ enum-told c = search needs
 enum-told-2 : tie.Need-enum-told-2
 enum-told-2 c = search needs
 
+path-refusal-requires : tie.Need-path-refusal-requires
+path-refusal-requires c κs = search needs
+
 same-length-4 : tie.Need-same-length-4
 same-length-4 c = search needs
 
@@ -46,7 +49,7 @@ same-length-6 : tie.Need-same-length-6
 same-length-6 c = search needs
 
 returns-2 : tie.Need-returns-2
-returns-2 c = leave-over (c .before .before .before .before .before .before .before .before .before .before .before .before .before .before .before .before .before .before .before .before .before .pre) _ _ (c .before .before .before .before .before .before .before .before .before .before .before .before .split-at .ensures) (c .before .before .before .before .before .before .before .before .before .if1 .left) _ refl _ _ _ (c .before .before .before .before .before .before .recover-path .ensures) _ (c .enum-told2 .given .1)
+returns-2 c = leave-over (c .before .before .before .before .before .before .before .before .before .before .before .before .before .before .before .before .before .before .before .before .before .before .pre) _ _ (c .before .before .before .before .before .before .before .before .before .before .before .before .before .split-at .ensures) (c .before .before .before .before .before .before .before .before .before .before .if1 .left) _ refl _ _ _ (c .before .before .before .before .before .before .before .recover-path .ensures) _ (c .before .enum-told2 .given .1) _ (c .path-refusal .ensures)
 
 add-t24 : tie.Need-add-t24
 add-t24 c = omega (arith, c .before .before .before .before .before .before .before .before .before .before .before .before .before .before .before .before .before .before .before .before .before .before .pre .fits)
@@ -76,6 +79,7 @@ leave-path-spec =
     recover-path-requires
     enum-told
     enum-told-2
+    path-refusal-requires
     same-length-4
     same-length-5
     same-length-6

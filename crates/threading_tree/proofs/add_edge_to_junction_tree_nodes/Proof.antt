@@ -39,16 +39,20 @@ enum-told : tie.Need-enum-told Inv-loop μ-loop
 enum-told c = search needs
 
 -- src/lib.rt:214:13
+step-refusal-requires : tie.Need-step-refusal-requires Inv-loop μ-loop
+step-refusal-requires c κs = search needs
+
+-- src/lib.rt:214:13
 same-length : tie.Need-same-length Inv-loop μ-loop
-same-length c = c .before .before .before .before .add-edge .kept .0 ∙ c .before .before .before .before .before .before .before .before .before .before .before .loop .inv .nodes
+same-length c = c .before .before .before .before .before .add-edge .kept .0 ∙ c .before .before .before .before .before .before .before .before .before .before .before .before .loop .inv .nodes
 
 -- src/lib.rt:214:13
 same-length-2 : tie.Need-same-length-2 Inv-loop μ-loop
-same-length-2 c = c .before .before .before .before .before .before .before .before .before .before .before .loop .inv .opened
+same-length-2 c = c .before .before .before .before .before .before .before .before .before .before .before .before .loop .inv .opened
 
 -- src/lib.rt:214:13
 returns : tie.Need-returns Inv-loop μ-loop
-returns c = track-stop _ _ _ _ _ _ (c .before .before .before .before .before .before .before .before .before .before .before .before .before .before .pre) _ _ _ _ (c .before .before .before .before .before .before .before .before .before .before .before .loop .inv) _ _ (c .before .before .before .before .before .before .before .before .active-slot .ensures) (c .before .before .before .before .before .before .active-count .ensures) _ _ (c .before .before .before .before .before .before .before .before .before .before .loop-test .taken) (c .before .before .before .before .add-edge .ensures) _ (c .enum-told .given .1)
+returns c = track-stop _ _ _ _ _ _ (c .before .before .before .before .before .before .before .before .before .before .before .before .before .before .before .pre) _ _ _ _ (c .before .before .before .before .before .before .before .before .before .before .before .before .loop .inv) _ _ (c .before .before .before .before .before .before .before .before .before .active-slot .ensures) (c .before .before .before .before .before .before .before .active-count .ensures) _ _ (c .before .before .before .before .before .before .before .before .before .before .before .loop-test .taken) (c .before .before .before .before .before .add-edge .ensures) _ (c .before .enum-told .given .1) _ (c .step-refusal .ensures)
 
 -- src/lib.rt:216:29
 cast-active : tie.Need-cast-active Inv-loop μ-loop
@@ -106,6 +110,7 @@ add-edge-to-junction-tree-nodes-spec =
     add-edge-requires
     enum-known-r
     enum-told
+    step-refusal-requires
     same-length
     same-length-2
     returns

@@ -19,12 +19,16 @@ enum-told : tie.Need-enum-told
 enum-told c = search needs
 
 -- src/lib.rt:258:9
+step-refusal-requires : tie.Need-step-refusal-requires
+step-refusal-requires c κs = search needs
+
+-- src/lib.rt:258:9
 same-length : tie.Need-same-length
 same-length c = search needs
 
 -- src/lib.rt:258:9
 returns : tie.Need-returns
-returns c = join-turned _ _ _ _ _ _ _ (c .before .before .before .before .before .before .before .before .pre) _ _ (c .before .before .before .before .get-and-increment-root .ensures) _ (c .enum-told .given .1)
+returns c = join-turned _ _ _ _ _ _ _ (c .before .before .before .before .before .before .before .before .before .pre) _ _ (c .before .before .before .before .before .get-and-increment-root .ensures) _ (c .before .enum-told .given .1) _ (c .step-refusal .ensures)
 
 -- src/lib.rt:261:9
 find-active-requires : tie.Need-find-active-requires
@@ -103,8 +107,8 @@ slice-write-active-3 : tie.Need-slice-write-active-3
 slice-write-active-3 c = simp length-set (join-second _ _ _ _ _ _ _ (c .before .before .before .before .before .before .before .before .before .before .before .before .pre) _ _ (c .before .before .before .before .before .before .before .before .get-and-increment-root .ensures) _ (c .before .before .before .before .r .given .1) _ (c .before .find-active .ensures) (c .if1 .left))
 
 -- src/lib.rt:269:51
-add-t27 : tie.Need-add-t27
-add-t27 c = fits-next _ _ (new-in _ _ _ _ _ _ _ (c .before .before .before .before .before .before .before .before .before .before .before .before .pre) _ _ (c .before .before .before .before .before .before .before .before .get-and-increment-root .ensures) _ (c .before .before .before .before .r .given .1) _ (c .before .find-active .ensures) (c .if1 .left)) (c .before .before .before .before .before .before .before .before .before .before .before .before .fits .cap)
+add-t28 : tie.Need-add-t28
+add-t28 c = fits-next _ _ (new-in _ _ _ _ _ _ _ (c .before .before .before .before .before .before .before .before .before .before .before .before .pre) _ _ (c .before .before .before .before .before .before .before .before .get-and-increment-root .ensures) _ (c .before .before .before .before .r .given .1) _ (c .before .find-active .ensures) (c .if1 .left)) (c .before .before .before .before .before .before .before .before .before .before .before .before .fits .cap)
 
 -- src/lib.rt:252:1
 same-length-4 : tie.Need-same-length-4
@@ -125,6 +129,7 @@ add-tree-if-necessary-spec =
     get-and-increment-root-requires
     enum-known-r
     enum-told
+    step-refusal-requires
     same-length
     returns
     find-active-requires
@@ -146,7 +151,7 @@ add-tree-if-necessary-spec =
     add-active-3
     mul-active-6
     slice-write-active-3
-    add-t27
+    add-t28
     same-length-4
     same-length-5
     returns-3)

@@ -21,6 +21,10 @@ enum-told : tie.Need-enum-told
 enum-told c = search needs
 
 -- src/lib.rt:323:9
+grown-refusal-requires : tie.Need-grown-refusal-requires
+grown-refusal-requires c κs = search needs
+
+-- src/lib.rt:323:9
 same-length : tie.Need-same-length
 same-length c = search needs
 
@@ -30,7 +34,7 @@ same-length-2 c = search needs
 
 -- src/lib.rt:323:9
 returns-2 : tie.Need-returns-2
-returns-2 c = take-full _ (ends (c .before .before .before .before .before .before .before .before .before .before .before .before .args .a) (c .before .before .before .before .before .before .before .before .before .before .before .before .args .b)) _ _ _ (c .before .before .before .before .before .before .before .before .before .before .before .before .args .only) (c .before .before .before .before .before .before .before .before .before .before .before .before .pre) (c .before .before .before .before .before .before .before .before .before .if1 .left) _ _ _ (c .before .before .before .before .before .before .add-edge-to-junction-tree-nodes .ensures) _ (c .enum-told .given .1)
+returns-2 c = take-full _ (ends (c .before .before .before .before .before .before .before .before .before .before .before .before .before .args .a) (c .before .before .before .before .before .before .before .before .before .before .before .before .before .args .b)) _ _ _ (c .before .before .before .before .before .before .before .before .before .before .before .before .before .args .only) (c .before .before .before .before .before .before .before .before .before .before .before .before .before .pre) (c .before .before .before .before .before .before .before .before .before .before .if1 .left) _ _ _ (c .before .before .before .before .before .before .before .add-edge-to-junction-tree-nodes .ensures) _ (c .before .enum-told .given .1) _ (c .grown-refusal .ensures)
 
 -- src/lib.rt:314:1
 same-length-3 : tie.Need-same-length-3
@@ -52,6 +56,7 @@ take-unless-spec =
     add-edge-to-junction-tree-nodes-requires
     enum-known-r
     enum-told
+    grown-refusal-requires
     same-length
     same-length-2
     returns-2
