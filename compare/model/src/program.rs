@@ -20,16 +20,16 @@ struct Text<'a> {
     reads: Vec<(&'a [u8], &'a [u8])>,
 }
 
-/// The whole output, for standard input and what `column.f64` holds, where there is such a file.
-pub fn output(input: &[u8], column: Option<&[u8]>) -> String {
+/// The whole output, for standard input and what `column.f64` holds; none is what could not be read whole, or a file that is missing.
+pub fn output(input: Option<&[u8]>, column: Option<&[u8]>) -> String {
     match run(input, column) {
         Ok(text) => text,
         Err(number) => format!("refused {number}\n"),
     }
 }
 
-fn run(input: &[u8], column: Option<&[u8]>) -> Result<String, Refusal> {
-    let text = read(input).ok_or(14u32)?;
+fn run(input: Option<&[u8]>, column: Option<&[u8]>) -> Result<String, Refusal> {
+    let text = input.and_then(read).ok_or(14u32)?;
     let column = read_column(column).ok_or(14u32)?;
     let sample = sample(&text)?;
     if !(0..=MOST_PATHS).contains(&text.paths) {

@@ -18,6 +18,7 @@ const USAGE: &str = "usage:
   run bench [--original] [FILE..]       times of library and original, or of the original alone
   run paths BINARY|--model DIR..        run the program `paths` on files of input and output
   run paths-fuzz BINARY|--model N SEED  run it on N random and damaged inputs
+  run paths-io BINARY                   run it where reads and writes fail
 ";
 
 fn main() -> ExitCode {
@@ -49,6 +50,7 @@ fn command(args: &[String]) -> Result<bool, String> {
         ["bench", ..] => bench::both(&args[1..]),
         ["paths", binary, _, ..] => program::run(&program_of(binary)?, &args[2..]),
         ["paths-fuzz", binary, inputs, seed] => program::random::run(&program_of(binary)?, number(inputs)?, number(seed)?),
+        ["paths-io", binary] => program::io::run(binary),
         _ => Err(USAGE.into()),
     }
 }

@@ -64,14 +64,14 @@ pub case6-read : read (textOf input) (columnOf file) ≡ some (ask (sample 3 seq
 unfolding openText ofBits
 case6-read = refl
 
-pub case6-printed : printed input (some file) ≡ output
+pub case6-printed : printed (some input) (some file) ≡ output
 unfolding openRefusal openScore openLimits openStretch openThreading openEvidence openSearch openBuilding openListing openText add sub lt eq le toBits ofBits
 case6-printed = refl
 
 -- ---- the borders of the form, each with the number that it prints
 
 pub record Border : Type 0 where
-  pub text : List ℕ
+  pub text : Option (List ℕ)
   pub held : Option (List ℕ)
   pub number : ℕ
 
@@ -109,11 +109,15 @@ returned = 65 ∷ 67 ∷ 71 ∷ 84 ∷ 65 ∷ 13 ∷ 10 ∷ []
 
 -- a first line, and what stands behind its line feed
 abbrev under : List ℕ → List ℕ → ℕ → Border
-under first rest n = record { text = first ++ 10 ∷ rest; held = some file; number = n }
+under first rest n = record { text = some (first ++ 10 ∷ rest); held = some file; number = n }
 
--- a text of this form, and a file that is missing or of so many bytes
+-- a text of this form, and a file that is missing, could not be read whole, or has so many bytes
 abbrev over : Option (List ℕ) → ℕ → Border
-over f n = record { text = input; held = f; number = n }
+over f n = record { text = some input; held = f; number = n }
+
+-- standard input that could not be read whole, whatever came before
+abbrev unread : Option (List ℕ) → Border
+unread f = record { text = none; held = f; number = 14 }
 
 pub borders : List Border
 borders =
@@ -152,12 +156,19 @@ borders =
     ∷ under (51 ∷ 32 ∷ 49 ∷ 48 ∷ 32 ∷ 53 ∷ 32 ∷ 53 ∷ 32 ∷ 48 ∷ 13 ∷ []) plain 14
     ∷ under (51 ∷ 32 ∷ 49 ∷ 48 ∷ 32 ∷ 53 ∷ 32 ∷ 53 ∷ 32 ∷ 48 ∷ []) returned 3
     -- nothing, and one line
-    ∷ record { text = []; held = some file; number = 14 }
-    ∷ record { text = 51 ∷ 10 ∷ []; held = some file; number = 14 }
+    ∷ record { text = some []; held = some file; number = 14 }
+    ∷ record { text = some (51 ∷ 10 ∷ []); held = some file; number = 14 }
     -- a text too long
     ∷ under (replicate 8192 51) plain 14
-    -- a file missing, ragged, too long: 14; none or one entry: 6
+    -- standard input not read whole: 14, also where the file is missing, ragged, or of no entry
+    ∷ unread (some file)
+    ∷ unread none
+    ∷ unread (some (replicate 12 0))
+    ∷ unread (some [])
+    -- a file missing or not read whole, ragged, too long: 14; none or one entry: 6
     ∷ over none 14
+    -- also where the text alone would be refused by 1
+    ∷ record { text = some (45 ∷ 51 ∷ 32 ∷ 49 ∷ 48 ∷ 32 ∷ 57 ∷ 32 ∷ 53 ∷ 32 ∷ 48 ∷ 10 ∷ plain); held = none; number = 14 }
     ∷ over (some (replicate 12 0)) 14
     ∷ over (some (replicate 4104 0)) 14
     ∷ over (some []) 6

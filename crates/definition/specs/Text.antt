@@ -251,10 +251,10 @@ unfoldable pub afterText : Text → List Float → ℕ → Answer Float
 afterText t c zero = answer (inputOf t c) [] []
 afterText t c (suc n) = refusal (suc n)
 
--- "`refused 14`, before all others"; `file` is none where the column file is missing
-unfoldable pub answerTo : List ℕ → Option (List ℕ) → Answer Float
+-- "`refused 14`, before all others"; `input` is none where standard input could not be read whole, `file` where the column file is missing or could not be
+unfoldable pub answerTo : Option (List ℕ) → Option (List ℕ) → Answer Float
 answerTo input file =
-    elim (textOf input) [
+    elim (with input textOf) [
       | none ↦ refusal 14
       | some t ↦ elim (with file columnOf) [ none ↦ refusal 14 | some c ↦ afterText t c (firstBroken (textRules t)) ]
     ]
@@ -314,8 +314,8 @@ unfoldable pub printedOf : Answer Float → List ℕ
 printedOf (refusal n) = refusedLine n
 printedOf (listed rs pushes longest) = firstLine (length rs) pushes ++ pathLines 1 rs
 
--- the whole standard output, for standard input and what `column.f64` holds, where there is such a file
-unfoldable pub printed : List ℕ → Option (List ℕ) → List ℕ
+-- the whole standard output, for standard input and what `column.f64` holds, where they could be read whole
+unfoldable pub printed : Option (List ℕ) → Option (List ℕ) → List ℕ
 printed input file = printedOf (answerTo input file)
 
 -- A key: to unfold it is to unfold every definition of this file. The worked cases compute with it; a proof names only what it needs.

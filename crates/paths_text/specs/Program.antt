@@ -14,7 +14,7 @@ use Rattle.laws.specs.ListLaws.{and-left, and-right}
 use Rattle.definition.specs.Refusal.{firstBroken}
 use Rattle.definition.specs.Limits.{Input, rising, endsFit, readsFit, longEnough, listRules}
 use Rattle.definition.specs.Listing.{Answer, answer}
-use Rattle.definition.specs.Text.{Text, textOf, columnOf, textRules, sampleOf, inputOf, sizeOf, evenRead, endsFrom, allBases, askedWithin, graphMaxima, searchMaxima, afterText, answerTo, refusedLine, printedOf, printed}
+use Rattle.definition.specs.Text.{Text, textOf, columnOf, with, textRules, sampleOf, inputOf, sizeOf, evenRead, endsFrom, allBases, askedWithin, graphMaxima, searchMaxima, afterText, answerTo, refusedLine, printedOf, printed}
 use Rattle.limits.specs.Rules.{none-broken}
 use Rattle.limits.specs.Handed as L
 use Rattle.paths_text.specs.Numbers.{askedOf, asked-within, asked-same}
@@ -24,39 +24,31 @@ use Rattle.paths_text.specs.declared.header.Settings.{Settings}
 
 -- ---- 14
 
-pub prints-no-text : (input : List ℕ) (file : Option (List ℕ)) → textOf input ≡ none → refusedLine 14 ≡ printed input file
+pub prints-no-text : (input file : Option (List ℕ)) → with input textOf ≡ none → refusedLine 14 ≡ printed input file
 unfolding printed printedOf answerTo
 prints-no-text input file e = rw (e, answerTo)
 
-pub prints-no-file : (input : List ℕ) → refusedLine 14 ≡ printed input none
+pub prints-no-column : (input file : Option (List ℕ)) → with file columnOf ≡ none → refusedLine 14 ≡ printed input file
 unfolding printed printedOf answerTo
-prints-no-file input = go (textOf input) refl
+prints-no-column input file f = go (with input textOf) refl
   where
-    go : (o : Option Text) → textOf input ≡ o → refusedLine 14 ≡ printedOf (answerTo input none)
-    go none e = rw (e, answerTo)
-    go (some t) e = rw (e, answerTo)
-
-pub prints-no-column : (input bytes : List ℕ) → columnOf bytes ≡ none → refusedLine 14 ≡ printed input (some bytes)
-unfolding printed printedOf answerTo
-prints-no-column input bytes f = go (textOf input) refl
-  where
-    go : (o : Option Text) → textOf input ≡ o → refusedLine 14 ≡ printedOf (answerTo input (some bytes))
+    go : (o : Option Text) → with input textOf ≡ o → refusedLine 14 ≡ printedOf (answerTo input file)
     go none e = rw (e, answerTo)
     go (some t) e = rw (e, answerTo, f)
 
 -- ---- 1 to 5, and the call for the list
 
-module _ (input bytes : List ℕ) (t : Text) (c : List Float) (e : textOf input ≡ some t) (f : columnOf bytes ≡ some c) where
-  answer-is : answerTo input (some bytes) ≡ afterText t c (firstBroken (textRules t))
+module _ (input file : Option (List ℕ)) (t : Text) (c : List Float) (e : with input textOf ≡ some t) (f : with file columnOf ≡ some c) where
+  answer-is : answerTo input file ≡ afterText t c (firstBroken (textRules t))
   unfolding answerTo
   answer-is = rw (e, answerTo, f)
 
-  pub prints-refused : (n : ℕ) → n ≡ firstBroken (textRules t) → 0 < n → refusedLine n ≡ printed input (some bytes)
+  pub prints-refused : (n : ℕ) → n ≡ firstBroken (textRules t) → 0 < n → refusedLine n ≡ printed input file
   unfolding printed printedOf afterText
   prints-refused zero h k = absurd (omega arith)
   prints-refused (suc n) h k = sym (ap printedOf (answer-is ∙ ap (afterText t c) (sym h)))
 
-  pub prints-answer : 0 ≡ firstBroken (textRules t) → (a : Answer Float) → a ≡ answer (inputOf t c) [] [] → printedOf a ≡ printed input (some bytes)
+  pub prints-answer : 0 ≡ firstBroken (textRules t) → (a : Answer Float) → a ≡ answer (inputOf t c) [] [] → printedOf a ≡ printed input file
   unfolding printed afterText
   prints-answer h a g = ap printedOf (g ∙ sym (answer-is ∙ ap (afterText t c) (sym h)))
 

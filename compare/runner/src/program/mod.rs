@@ -1,5 +1,6 @@
 //! `paths`: runs the program `paths` over files of input and output, each in a folder with its `column.f64`.
 
+pub mod io;
 pub mod random;
 
 use crate::answers::{Tally, Verdict};
@@ -23,9 +24,9 @@ impl Program {
     fn output(&self, folder: &Path, input: &Path) -> Result<Vec<u8>, String> {
         match self {
             Self::Model => {
-                let text = fs::read(input).map_err(|e| e.to_string())?;
+                let text = fs::read(input).ok();
                 let column = fs::read(folder.join("column.f64")).ok();
-                Ok(model::program::output(&text, column.as_deref()).into_bytes())
+                Ok(model::program::output(text.as_deref(), column.as_deref()).into_bytes())
             }
             Self::Binary(binary) => {
                 let input = File::open(input).map_err(|e| e.to_string())?;
@@ -45,6 +46,28 @@ impl Program {
             Ok(found) => Verdict::equal(&String::from_utf8_lossy(&found), &String::from_utf8_lossy(expected)),
         }
     }
+}
+
+/// A folder of its own for the files of a run, removed at its end.
+struct Folder(PathBuf);
+
+impl Folder {
+    fn new(name: &str) -> Result<Self, String> {
+        let path = std::env::temp_dir().join(format!("{name}-{}", std::process::id()));
+        fs::create_dir_all(&path).map_err(|e| format!("{}: {e}", path.display()))?;
+        Ok(Self(path))
+    }
+}
+
+impl Drop for Folder {
+    fn drop(&mut self) {
+        let _ = fs::remove_dir_all(&self.0);
+    }
+}
+
+/// A column as its file has it.
+fn bytes_of(column: &[f64]) -> Vec<u8> {
+    column.iter().flat_map(|x| x.to_le_bytes()).collect()
 }
 
 /// True where nothing failed.

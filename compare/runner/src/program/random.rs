@@ -1,32 +1,15 @@
 //! `paths-fuzz`: random and damaged input for the program `paths`, against the model's reading of the text form.
 
-use super::Program;
+use super::{bytes_of, Folder, Program};
 use crate::answers::Tally;
 use crate::random::Random;
 use model::input::log10_column;
 use std::fs;
 use std::path::{Path, PathBuf};
 
-/// A folder of its own for the files of this run, removed at its end.
-struct Folder(PathBuf);
-
-impl Folder {
-    fn new() -> Result<Self, String> {
-        let path = std::env::temp_dir().join(format!("paths-fuzz-{}", std::process::id()));
-        fs::create_dir_all(&path).map_err(|e| format!("{}: {e}", path.display()))?;
-        Ok(Self(path))
-    }
-}
-
-impl Drop for Folder {
-    fn drop(&mut self) {
-        let _ = fs::remove_dir_all(&self.0);
-    }
-}
-
 /// True where nothing failed.
 pub fn run(program: &Program, inputs: u64, seed: u64) -> Result<bool, String> {
-    let folder = Folder::new()?;
+    let folder = Folder::new("paths-fuzz")?;
     let column = bytes_of(&log10_column(512));
     let mut tally = Tally::default();
     let mut answers: std::collections::BTreeMap<String, usize> = Default::default();
@@ -34,7 +17,7 @@ pub fn run(program: &Program, inputs: u64, seed: u64) -> Result<bool, String> {
         let mut random = Random::for_input(seed, number);
         let text = text(&mut random);
         let column = if random.once_in(8) { damaged_column(&mut random, &column) } else { Some(column.clone()) };
-        let expected = model::program::output(&text, column.as_deref());
+        let expected = model::program::output(Some(&text), column.as_deref());
         let first = expected.lines().next().unwrap_or_default();
         *answers.entry(if first.starts_with("refused") { first.into() } else { "accepted".into() }).or_default() += 1;
         let input = store(&folder.0, &text, column.as_deref()).map_err(|e| e.to_string())?;
@@ -59,10 +42,6 @@ fn store(folder: &Path, text: &[u8], column: Option<&[u8]>) -> std::io::Result<P
     let input = folder.join("input");
     fs::write(&input, text)?;
     Ok(input)
-}
-
-fn bytes_of(column: &[f64]) -> Vec<u8> {
-    column.iter().flat_map(|x| x.to_le_bytes()).collect()
 }
 
 /// Healthy text, or healthy text with some damage.
