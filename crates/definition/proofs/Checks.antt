@@ -1,5 +1,5 @@
 -- What an accepted run has passed: rules 1 to 6, in numbers, and that its rows come from the search.
-use mathlib.Core.Path.{_≡_, refl}
+use mathlib.Core.Path.{_≡_, refl, sym, ap, _∙_}
 use Prim.Native.Nat.{ℕ, zero, suc, _≤_}
 use native.Mathlib.Omega.{arith}
 use mathlib.Core.Bool.{Bool, true, false, _&&_}
@@ -7,15 +7,15 @@ use mathlib.Core.List.{List, _∷_}
 use lib.Dec.{leb, eqb}
 use lib.ListN.{length}
 use lib.Ieee.{Float}
-use borrow.Author.Tests.{leb-true, eqb-true}
+use borrow.Author.Tests.{leb-true, le-leb, eqb-true}
 use Rattle.laws.specs.Numbers.{within}
 use Rattle.laws.specs.ListLaws.{and-left, and-right}
 use Rattle.definition.specs.Refusal.{Rule, firstBroken}
 use Rattle.definition.specs.Score.{columnScoring}
-use Rattle.definition.specs.Limits.{Input, kFits, referenceFits, referenceBases, endsFit, readsFit, graphMaximaFit, searchMaximaFit, settingsFit, columnFits, originRules, sampleRules, listRules}
+use Rattle.definition.specs.Limits.{Input, kFits, referenceFits, referenceBases, endsFit, readsFit, graphMaximaFit, searchMaximaFit, settingsFit, columnFits, longEnough, originRules, sampleRules, listRules}
 use Rattle.definition.specs.Building.{built}
 use Rattle.definition.specs.Listing.{Row, listed, afterBuild, afterChecks, answer}
-use Rattle.definition.proofs.Found.{Listing, listing, refusal-listed}
+use Rattle.definition.proofs.Found.{Listing, listing, refusal-listed, withAsked}
 
 -- rules 1 to 6, which an accepted run has passed
 pub record Checked (i : Input) : Type 0 where
@@ -32,16 +32,49 @@ unfolding firstBroken
 holds-first n true rs e = (refl, e)
 holds-first n false rs e = absurd (omega arith)
 
-pub checked : (i : Input) (told lent : List ℕ) → firstBroken (listRules i told lent) ≡ 0 → Checked i
+-- rules 1 to 6, and 7
+all-checked : (i : Input) (told lent : List ℕ) → firstBroken (listRules i told lent) ≡ 0 → Checked i × (longEnough told lent ≡ true)
 unfolding listRules sampleRules
-checked i told lent e =
+all-checked i told lent e =
     let a = holds-first 0 _ _ e in
     let b = holds-first 1 _ _ (a .1) in
     let c = holds-first 2 _ _ (b .1) in
     let d = holds-first 3 _ _ (c .1) in
     let f = holds-first 4 _ _ (d .1) in
-    let g = holds-first 5 _ _ (f .1) in
-    record { k-fits = a .0; reference-fits = b .0; reference-bases = c .0; reads-fit = d .0; settings-fit = f .0; column-fits = g .0 }
+    let g = holds-first 5 _ _ (f .1) in (
+      record { k-fits = a .0; reference-fits = b .0; reference-bases = c .0; reads-fit = d .0; settings-fit = f .0; column-fits = g .0 },
+      holds-first 6 _ _ (g .1) .0,
+    )
+
+pub checked : (i : Input) (told lent : List ℕ) → firstBroken (listRules i told lent) ≡ 0 → Checked i
+checked i told lent e = all-checked i told lent e .0
+
+pub long-enough : (i : Input) (told lent : List ℕ) → firstBroken (listRules i told lent) ≡ 0 → longEnough told lent ≡ true
+long-enough i told lent e = all-checked i told lent e .1
+
+-- and no other rule is there
+pub none-broken : (i : Input) (told lent : List ℕ) → Checked i → longEnough told lent ≡ true → firstBroken (listRules i told lent) ≡ 0
+unfolding listRules sampleRules firstBroken
+none-broken i told lent c l =
+    rw (c .k-fits, firstBroken, c .reference-fits, firstBroken, c .reference-bases, firstBroken, c .reads-fit, firstBroken, c .settings-fit, firstBroken, c .column-fits, firstBroken, l, firstBroken)
+
+-- fewer paths asked pass them too
+pub fewer-checked : (i : Input) (n m : ℕ) → n ≤ m → Checked (withAsked i m) → Checked (withAsked i n)
+unfolding settingsFit
+fewer-checked i n m le c =
+    let g = graphMaximaFit (i .graphMaxima) in
+    let s = searchMaximaFit (i .searchMaxima) in
+    let e : (leb m 128 && g && s) ≡ true = c .settings-fit in
+    let l : m ≤ 128 = leb-true m 128 (and-left (leb m 128) g (and-left (leb m 128 && g) s e)) in
+    let h : leb n 128 ≡ leb m 128 = le-leb n 128 (omega arith) ∙ sym (le-leb m 128 l) in
+    record {
+      k-fits = c .k-fits;
+      reference-fits = c .reference-fits;
+      reference-bases = c .reference-bases;
+      reads-fit = c .reads-fit;
+      settings-fit = ap (λ (b : Bool). b && g && s) h ∙ e;
+      column-fits = c .column-fits;
+    }
 
 -- an answer that is a list has passed the checks, and is what the search gives
 pub passed : (i : Input) (told lent : List ℕ) (rows : List (Row Float)) (p q : ℕ) → answer i told lent ≡ listed rows p q

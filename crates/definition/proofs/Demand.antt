@@ -2,7 +2,7 @@
 use mathlib.Core.Path.{_≡_, sym, subst, _∙_}
 use Prim.Native.Nat.{ℕ, suc, _≤_}
 use native.Mathlib.Omega.{arith}
-use mathlib.Core.Bool.{false}
+use mathlib.Core.Bool.{true, false}
 use mathlib.Core.List.{List, [], _∷_}
 use lib.Dec.{leb}
 use lib.ListN.{take, drop, getD}
@@ -11,8 +11,9 @@ use Rattle.laws.specs.Lists.{keep}
 use Rattle.laws.specs.ListLaws.{clash, All, all-mono}
 use Rattle.definition.specs.Refusal.{ok, firstBroken}
 use Rattle.definition.specs.Score.{columnScoring}
-use Rattle.definition.specs.Limits.{Sample, Input, originRules, listRules}
+use Rattle.definition.specs.Limits.{Sample, Input, longEnough, originRules, listRules}
 use Rattle.definition.specs.Threading.{Origin}
+use Rattle.definition.specs.Building.{built}
 use Rattle.definition.specs.Listing.{Row, listed, afterChecks, answer}
 use Rattle.definition.specs.Origins.{bytesAt}
 use Rattle.definition.specs.Calls.{originOf, afterOriginChecks, originCall}
@@ -22,7 +23,8 @@ use Rattle.definition.proofs.Found.{refusal-listed, Falling, fine-listi
 use Rattle.definition.proofs.Origins.{SpelledRow, spelled-listing}
 use Rattle.definition.proofs.Bounds.{Bounded, bounded-listing}
 use Rattle.definition.proofs.Allowance.{withPushes, greater-maximum}
-use Rattle.definition.proofs.Checks.{Checked, checked, passed, accepted, k-some, reference-long, some-pushes, qualities-even, origin-checked}
+use Rattle.definition.proofs.Fewer.{IsList, build-fewer}
+use Rattle.definition.proofs.Checks.{Checked, checked, none-broken, fewer-checked, passed, accepted, k-some, reference-long, some-pushes, qualities-even, origin-checked}
 
 -- ---- the first half
 
@@ -109,6 +111,18 @@ pub demand-3b : (a b : Input) (told lent told′ lent′ : List ℕ) (rows rows�
 demand-3b a b told lent told′ lent′ rows rows′ p q p′ q′ e h ta tb =
     fewer-asked a (a .asked) (b .asked) told lent told′ lent′ rows rows′ p q p′ q′ h ta
     (subst (λ (x : Input). answer x told′ lent′ ≡ listed rows′ p′ q′) (only-asked a b e) tb)
+
+-- Where the call for more paths is accepted, the call for fewer is accepted too if it is lent what it is told: rules 1 to 6 hold of it, since they hold of
+-- the other and the paths asked are fewer, and nothing is refused after the rules.
+pub fewer-accepted : (a b : Input) (told lent told′ lent′ : List ℕ) (rows : List (Row Float)) (p q : ℕ) → AllElseEqual a b → a .asked ≤ b .asked
+    → answer b told′ lent′ ≡ listed rows p q → longEnough told lent ≡ true → IsList (answer a told lent)
+unfolding answer afterChecks
+fewer-accepted a b told lent told′ lent′ rows p q e h t l =
+    let m = b .asked in
+    let w : answer (withAsked a m) told′ lent′ ≡ listed rows p q = subst (λ (x : Input). answer x told′ lent′ ≡ listed rows p q) (only-asked a b e) t in
+    let c = passed (withAsked a m) told′ lent′ rows p q w in
+    rw (none-broken a told lent (fewer-checked a (a .asked) m h (checked (withAsked a m) told′ lent′ (c .0))) l)
+    (build-fewer (columnScoring (a .column)) a (a .asked) m (built (a .sample) (a .graphMaxima)) h (rw (c .1) tt))
 
 -- ---- a greater maximum of pushes
 

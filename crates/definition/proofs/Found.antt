@@ -143,7 +143,7 @@ withAsked i n =
     }
 
 -- what the search looks at does not depend on it
-same-input : (i : Input) (n : ℕ) (b : Built) → searchInput (withAsked i n) b ≡ searchInput i b
+pub same-input : (i : Input) (n : ℕ) (b : Built) → searchInput (withAsked i n) b ≡ searchInput i b
 unfolding searchInput
 same-input i n b = refl
 

@@ -1,22 +1,25 @@
--- What the build and the search refuse has a number of 8 or more, and no refusal has the number 0.
-use mathlib.Core.Path.{_≡_, refl}
+-- What the build and the search refuse has a number of 8 or more, no refusal has the number 0, and 7 is not answered where what is lent is as long as told.
+use mathlib.Core.Path.{_≡_, refl, sym, _∙_}
+use mathlib.Core.Logic.{_⊎_, inl, inr}
 use mathlib.Core.Bool.{Bool, true, false, not, cond, _&&_, _||_}
 use mathlib.Core.List.{List, [], _∷_, _++_}
 use mathlib.Core.Option.{Option, none, some}
-use Prim.Native.Nat.{ℕ, zero, suc, _+_, _≤_}
+use Prim.Native.Nat.{ℕ, zero, suc, _+_, _≤_, _<_}
 use native.Mathlib.Omega.{arith}
 use lib.Dec.{leb, ltb, eqb}
 use lib.ListN.{length, take}
 use lib.Ieee.{Float}
+use Rattle.laws.specs.ListLaws.{clash}
 use Rattle.laws.specs.Lists.{keep, any, findLast, position, isEmpty}
-use Rattle.definition.specs.Refusal.{Result, ok, refused, andThen, each, firstBroken}
+use Rattle.definition.specs.Refusal.{Result, ok, refused, andThen, each, Rule, firstBroken}
 use Rattle.definition.specs.Score.{Scoring, columnScoring}
-use Rattle.definition.specs.Limits.{Sample, GraphMaxima, Input, listRules}
+use Rattle.definition.specs.Limits.{Sample, GraphMaxima, Input, longEnough, graphTold, sampleRules, graphRules, listRules}
 use Rattle.definition.specs.Threading.{Ends, eqEnds, Edge, threaded, withSymbolic, leaving}
 use Rattle.definition.specs.Evidence.{Branches, hasBranch, treeAt, nodes, evidence}
 use Rattle.definition.specs.Building.{Built, built, builtOf}
 use Rattle.definition.specs.Search.{SearchInput, Path, Closed, State, Made, atEnd, broken, made, Turn, more, ended, failed, full, Offer, verticesFrom, endFrom, times, chain, offers, hasStoppingEvidence, push, pushAll, lengthen, extend, repeatRule, extensions, joinTree, closeAt, madeOf, extendAt, takePath, greatest, recover, advance, pushMade, turn, run, pivotalEdges, firstState, search}
 use Rattle.definition.specs.Listing.{Answer, refusal, listed, searchInput, listOf, answerOf, afterBuild, afterChecks, answer}
+use Rattle.definition.specs.Calls.{graphOf, afterGraphChecks, graphCall}
 
 abbrev Late : {A : Type 0} → Result A → Type 0
 Late (ok a) = Unit {0}
@@ -236,15 +239,73 @@ module _ {S : Type 0} (𝓢 : Scoring S) where
 pub found-late : (i : Input) → LateAnswer (afterBuild (columnScoring (i .column)) i (built (i .sample) (i .graphMaxima)))
 found-late i = after-late (columnScoring (i .column)) i (built (i .sample) (i .graphMaxima)) (built-late (i .sample) (i .graphMaxima))
 
+late-number : (a : Answer Float) (n : ℕ) → LateAnswer a → a ≡ refusal n → 8 ≤ n
+late-number (refusal m) n l e = let z : m ≡ n = cc in omega arith
+late-number (listed rs p q) n l e = let z : _≡_ {A = ℕ} 0 1 = cc in absurd (omega arith)
+
+-- a refusal is that of the first rule broken, or comes after the rules
+refused-by : (i : Input) (told lent : List ℕ) (n : ℕ) → answer i told lent ≡ refusal n
+    → ((1 ≤ n) × (firstBroken (listRules i told lent) ≡ n)) ⊎ (8 ≤ n)
+unfolding answer afterChecks
+refused-by i told lent n t = go (firstBroken (listRules i told lent)) refl
+  where
+    go : (b : ℕ) → firstBroken (listRules i told lent) ≡ b → ((1 ≤ n) × (firstBroken (listRules i told lent) ≡ n)) ⊎ (8 ≤ n)
+    go zero e = inr (late-number (afterBuild (columnScoring (i .column)) i (built (i .sample) (i .graphMaxima))) n (found-late i) (rw (e, afterChecks) at t))
+    go (suc b) e = let h : _≡_ {A = Answer Float} (refusal (suc b)) (refusal n) = rw (e, afterChecks) at t in let z : suc b ≡ n = cc in inl (omega arith, e ∙ z)
+
 -- no refusal has the number 0, which tells of none
 pub no-zero : (i : Input) (told lent : List ℕ) (n : ℕ) → answer i told lent ≡ refusal n → 1 ≤ n
-unfolding answer afterChecks
-no-zero i told lent n t = go (firstBroken (listRules i told lent)) refl
+no-zero i told lent n t = go (refused-by i told lent n t)
   where
-    some : (a : Answer Float) → LateAnswer a → a ≡ refusal n → 1 ≤ n
-    some (refusal m) l e = let z : m ≡ n = cc in omega arith
-    some (listed rs p q) l e = let z : _≡_ {A = ℕ} 0 1 = cc in absurd (omega arith)
+    go : ((1 ≤ n) × (firstBroken (listRules i told lent) ≡ n)) ⊎ (8 ≤ n) → 1 ≤ n
+    go (inl h) = h .0
+    go (inr h) = omega arith
 
-    go : (b : ℕ) → firstBroken (listRules i told lent) ≡ b → 1 ≤ n
-    go zero e = some (afterBuild (columnScoring (i .column)) i (built (i .sample) (i .graphMaxima))) (found-late i) (rw (e, afterChecks) at t)
-    go (suc b) e = let h : _≡_ {A = Answer Float} (refusal (suc b)) (refusal n) = rw (e, afterChecks) at t in let z : suc b ≡ n = cc in omega arith
+-- ---- 7
+
+-- each rule of that number holds
+abbrev Kept : ℕ → List Rule → Type 0
+Kept n [] = Unit {0}
+Kept n (r ∷ rs) = (r .number ≡ n → r .holds ≡ true) × Kept n rs
+
+kept-first : (n : ℕ) (rs : List Rule) → 1 ≤ n → Kept n rs → firstBroken rs ≡ n → ⊥
+unfolding firstBroken
+kept-first n [] l k e = omega arith
+kept-first n (r ∷ rs) l k e = go (r .holds) refl (kept-first n rs l (k .1))
+  where
+    go : (b : Bool) → r .holds ≡ b → (firstBroken rs ≡ n → ⊥) → ⊥
+    go true h ih = ih (rw (h, firstBroken) at e)
+    go false h ih = clash (sym (k .0 (rw (h, firstBroken) at e)) ∙ h)
+
+other : {A : Type 0} (n m : ℕ) → n < m → n ≡ m → A
+other n m l e = absurd (omega arith)
+
+-- 7 is not answered where each lent slice is at least as long as told: by the call for the list,
+pub list-not-7 : (i : Input) (told lent : List ℕ) → longEnough told lent ≡ true → answer i told lent ≡ refusal 7 → ⊥
+unfolding listRules sampleRules
+list-not-7 i told lent l t = go (refused-by i told lent 7 t)
+  where
+    go : ((1 ≤ 7) × (firstBroken (listRules i told lent) ≡ 7)) ⊎ (8 ≤ 7) → ⊥
+    go (inl h) =
+        kept-first 7 (listRules i told lent) (h .0)
+        (other 1 7 (omega arith), (other 2 7 (omega arith), (other 3 7 (omega arith), (other 4 7 (omega arith), (other 5 7 (omega arith), (other 6 7 (omega arith), ((λ e. l), tt)))))))
+        (h .1)
+    go (inr h) = omega arith
+
+-- and by the call for edges and trees
+pub graph-not-7 : (s : Sample) (m : GraphMaxima) (workspace lent es ns : List ℕ) → longEnough (graphTold m workspace) (length es ∷ length ns ∷ lent) ≡ true
+    → graphCall s m workspace lent es ns .refusal ≡ 7 → ⊥
+unfolding graphCall afterGraphChecks graphOf graphRules sampleRules
+graph-not-7 s m workspace lent es ns l t = go (firstBroken rules) refl t
+  where
+    rules : List Rule
+    rules = graphRules s m (graphTold m workspace) (length es ∷ length ns ∷ lent)
+
+    late : (r : Result Built) → Late r → graphOf r es ns .refusal ≡ 7 → ⊥
+    late (ok b) h e = omega arith
+    late (refused n) h e = omega arith
+
+    go : (b : ℕ) → firstBroken rules ≡ b → graphOf (afterGraphChecks s m b) es ns .refusal ≡ 7 → ⊥
+    go zero e h = late (built s m) (built-late s m) h
+    go (suc b) e h =
+        kept-first 7 rules (omega arith) (other 1 7 (omega arith), (other 2 7 (omega arith), (other 3 7 (omega arith), (other 4 7 (omega arith), (other 5 7 (omega arith), ((λ d. l), tt)))))) (e ∙ h)

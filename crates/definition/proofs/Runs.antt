@@ -2,7 +2,7 @@
 use mathlib.Core.Path.{_≡_, refl, sym}
 use Prim.Native.Nat.{ℕ, zero, suc, _+_}
 use native.Mathlib.Nat.{zero-add, suc-add}
-use mathlib.Core.Bool.{false}
+use mathlib.Core.Bool.{true, false}
 use mathlib.Core.List.{List}
 use lib.Dec.{leb}
 use lib.ListN.{length}
@@ -25,6 +25,11 @@ module _ {S : Type 0} where
       → turn 𝓢 f a limit s ≡ turn 𝓢 f b limit s
   unfolding turn
   turn-asked 𝓢 f a b limit s ha hb = rw (ha, hb, turn)
+
+  -- as many paths as asked have closed
+  pub turn-stop : (𝓢 : Scoring S) (f : SearchInput) (a limit : ℕ) (s : State S) → leb a (length (s .closed)) ≡ true → turn 𝓢 f a limit s ≡ ended s
+  unfolding turn
+  turn-stop 𝓢 f a limit s e = rw (e, turn)
 
   -- a search that has ended, failed or filled up stays so, and turns may be made in two parts
   pub run-ended : (𝓢 : Scoring S) (f : SearchInput) (a limit m : ℕ) (s : State S) → run 𝓢 f a limit m (ended s) ≡ ended s

@@ -14,7 +14,7 @@ use Rattle.laws.specs.ListLaws.{All, nil, cons, all-head, all-tail, all-append,
 use Rattle.definition.specs.Score.{Scoring}
 use Rattle.definition.specs.Threading.{Ends, Edge, supportOf, leaving}
 use Rattle.definition.specs.Search.{SearchInput, Path, Closed, State, Made, atEnd, broken, made, Turn, more, ended, failed, full, wait, push, pushAll, advance, pushMade, turn, run, Queued, among, endsOf, pivotalOf, pivotalFrom, pivotalEdges, firstState, search}
-use Rattle.definition.proofs.Runs.{length-wait, all-wait, turn-asked, run-ended, run-failed, run-full, run-add}
+use Rattle.definition.proofs.Runs.{length-wait, all-wait, turn-asked, turn-stop, run-ended, run-failed, run-full, run-add}
 use Rattle.definition.proofs.Order.{Keeps}
 use Rattle.definition.proofs.Walks.{Has, leaving-on, Good, GoodState, Numbered, advance-made}
 
@@ -124,10 +124,6 @@ module _ {S : Type 0} {𝓢 : Scoring S} {Fine : S → Type 0} (K : Keeps 𝓢 F
       go true e = let h : ended s ≡ more s′ = rw (e, turn) at t in let z : _≡_ {A = ℕ} 0 1 = cc in absurd (omega arith)
       go false e = after (advance 𝓢 f s (s .waiting) (s .pivotal)) refl (rw (e, turn) at t)
 
-  turn-stop : (asked : ℕ) (s : State S) → leb asked (length (s .closed)) ≡ true → turn 𝓢 f asked limit s ≡ ended s
-  unfolding turn
-  turn-stop asked s e = rw (e, turn)
-
   pub turn-ended : (asked : ℕ) (s s′ : State S) → turn 𝓢 f asked limit s ≡ ended s′ → s ≡ s′
   unfolding turn pushMade
   turn-ended asked s s′ t = go (leb asked (length (s .closed))) refl
@@ -230,7 +226,7 @@ module _ {S : Type 0} {𝓢 : Scoring S} {Fine : S → Type 0} (K : Keeps 𝓢 F
           → Goal
       go true e ih =
           let k : n ≤ length (s .closed) = leb-true n (length (s .closed)) e in
-          let en : s ≡ sn = same-some (ap lastOf (sym (run-ended 𝓢 f n limit fuel s)) ∙ (rw (turn-stop n s e) at tn)) in
+          let en : s ≡ sn = same-some (ap lastOf (sym (run-ended 𝓢 f n limit fuel s)) ∙ (rw (turn-stop 𝓢 f n limit s e) at tn)) in
           let r = run-reached m (suc fuel) s sm g tm in
           rw (r .closed, ← en) (keep-front n (s .closed) (r .extra) a h (r .numbered) k)
       go false e ih = after (turn 𝓢 f n limit s) refl
