@@ -15,7 +15,8 @@ use Rattle.limits.specs.Workspaces.{rowColumns}
 use Rattle.list_work.specs.declared.ListAnswer.{ListAnswer}
 use Rattle.list_work.specs.Outcome.{Outputs, Tables}
 use Rattle.list_call.specs.Outcome.{tablesAfter, floatZero}
-use Rattle.list_call.specs.Lent.{workspaceTold, workspaceLent}
+use Rattle.limits.specs.Lengths.{listWorkspaceTold}
+use Rattle.list_call.specs.Lent.{workspaceLent}
 use Rattle.list_call.specs.Within.{lengthsOf}
 use Rattle.path_rows.specs.declared.PathRow.{PathRow}
 use Rattle.path_rows.specs.Rows.{told}
@@ -81,4 +82,4 @@ pub record CalledFor (i : Input) (l : ListOutcome) (r : ListAnswer) (rs′ : Lis
 -- the whole call: the definition's answer and output; the columns are workspace too
 abbrev pub ListCalled : Input → ListAnswer → List PathRow → List PathRow → Outputs → Outputs → Tables → Tables → Type 0
 ListCalled i r rs rs′ o o′ w w′ =
-    CalledFor i (listCall i (workspaceTold (i .asked) (i .graphMaxima) (i .searchMaxima)) (workspaceLent (lengthsOf (length rs) o w)) (slicesOf rs o)) r rs′ o o′ w w′
+    CalledFor i (listCall i (listWorkspaceTold (i .asked) (i .graphMaxima) (i .searchMaxima)) (workspaceLent (lengthsOf (length rs) o w)) (slicesOf rs o)) r rs′ o o′ w w′

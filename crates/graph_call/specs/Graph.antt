@@ -18,9 +18,10 @@ use Rattle.definition.specs.Building.{built, builtOf}
 use Rattle.definition.specs.Calls.{GraphOutcome, graphOf, graphCall, afterGraphChecks, workspaceAfter}
 use Rattle.limits.specs.Rules.{rule, Numbered, low-broken, none-broken, first-broken, first-hold, sample-numbered, graph-rules}
 use Rattle.limits.specs.Workspaces.{vertexTable, edgeTable, kmerIndex, nodeTable, openTrees}
+use Rattle.limits.specs.Lengths.{graphWorkspaceTold}
 use Rattle.graph_work.specs.Clear.{zeros}
 use Rattle.graph_call.specs.declared.GraphAnswer.{GraphAnswer}
-use Rattle.graph_call.specs.Lent.{workspaceTold, Long, long-of, Lent}
+use Rattle.graph_call.specs.Lent.{Long, long-of, Lent}
 use Rattle.graph_call.specs.Outcome.{outcome, refusedAnswer, Graphed}
 use Rattle.graph_call.specs.Clear.{cleared-part}
 use Rattle.graph_call.specs.Made.{Made}
@@ -39,7 +40,7 @@ module _ (s : Sample) (m : GraphMaxima) (es ns wv we wi wx wo : List ℕ) where
   lent = length es ∷ length ns ∷ length wv ∷ length we ∷ length wi ∷ length wx ∷ length wo ∷ []
 
   abbrev rules : List Rule
-  rules = graphRules s m (graphTold m (workspaceTold m)) lent
+  rules = graphRules s m (graphTold m (graphWorkspaceTold m)) lent
 
   rules-low : firstBroken rules ≤ 7
   unfolding graphRules sampleRules
@@ -52,8 +53,8 @@ module _ (s : Sample) (m : GraphMaxima) (es ns wv we wi wx wo : List ℕ) where
 
   held : firstBroken rules ≡ 0 → Held
   held e =
-      let a = first-part (sampleRules s) (rule 5 (graphMaximaFit m) ∷ rule 7 (longEnough (graphTold m (workspaceTold m)) lent) ∷ []) (sample-numbered s) (graph-rules s m (graphTold m (workspaceTold m)) lent ∙ e) in
-      let b = none-broken (rule 5 (graphMaximaFit m) ∷ rule 7 (longEnough (graphTold m (workspaceTold m)) lent) ∷ []) (omega arith, (omega arith, tt)) (a .1) in
+      let a = first-part (sampleRules s) (rule 5 (graphMaximaFit m) ∷ rule 7 (longEnough (graphTold m (graphWorkspaceTold m)) lent) ∷ []) (sample-numbered s) (graph-rules s m (graphTold m (graphWorkspaceTold m)) lent ∙ e) in
+      let b = none-broken (rule 5 (graphMaximaFit m) ∷ rule 7 (longEnough (graphTold m (graphWorkspaceTold m)) lent) ∷ []) (omega arith, (omega arith, tt)) (a .1) in
       record { sample = a .0; maxima = b .0; long = long-of m (length es) (length ns) (length wv) (length we) (length wi) (length wx) (length wo) (b .1 .0) }
 
   module _ (n : ℕ) (e : n ≡ firstBroken rules) where
@@ -67,7 +68,7 @@ module _ (s : Sample) (m : GraphMaxima) (es ns wv we wi wx wo : List ℕ) where
         let y : within 1 7 n ≡ true = (λ i. l i && u i) in
         rw (y, workspaceAfter)
 
-    refused-is : 0 < n → outcome (refusedAnswer n) es ns ≡ graphCall s m (workspaceTold m) (length wv ∷ length we ∷ length wi ∷ length wx ∷ length wo ∷ []) es ns
+    refused-is : 0 < n → outcome (refusedAnswer n) es ns ≡ graphCall s m (graphWorkspaceTold m) (length wv ∷ length we ∷ length wi ∷ length wx ∷ length wo ∷ []) es ns
     unfolding graphCall graphOf afterGraphChecks
     refused-is h = go n refl h ∙ ap (λ (k : ℕ). graphOf (afterGraphChecks s m k) es ns) e
       where
@@ -109,7 +110,7 @@ module _ (s : Sample) (m : GraphMaxima) (es ns wv we wi wx wo : List ℕ) where
             w-open = length-take-le (openTrees m) wo (x .long .w-open);
           }
 
-      work-is : graphOf (built s m) es ns ≡ graphCall s m (workspaceTold m) (length wv ∷ length we ∷ length wi ∷ length wx ∷ length wo ∷ []) es ns
+      work-is : graphOf (built s m) es ns ≡ graphCall s m (graphWorkspaceTold m) (length wv ∷ length we ∷ length wi ∷ length wx ∷ length wo ∷ []) es ns
       unfolding graphCall afterGraphChecks
       work-is = ap (λ (k : ℕ). graphOf (afterGraphChecks s m k) es ns) (sym zero-n)
 

@@ -15,7 +15,8 @@ ghost use Rattle.definition.specs.Limits.{longEnough, graphTold};
 ghost use Rattle.definition.specs.Building.{built};
 ghost use Rattle.definition.specs.Calls.{graphOf};
 ghost use Rattle.limits.specs.Handed.{sampleOf, graphMaximaOf};
-ghost use Rattle.graph_call.specs.Lent.{workspaceTold, Lent};
+ghost use Rattle.limits.specs.Lengths.{graphWorkspaceTold};
+ghost use Rattle.graph_call.specs.Lent.{Lent};
 ghost use Rattle.graph_call.specs.Outcome.{outcome, refusedAnswer, Graphed};
 ghost use Rattle.graph_call.specs.Clear.{Zeroed};
 ghost use Rattle.graph_call.specs.Fill.{Writes, Wrote};
@@ -40,7 +41,7 @@ fn lent_fits(
     node_table: usize,
     open_trees: usize,
 ) -> bool
-    ensures { λ r. ⌜ r ≡ longEnough (graphTold (graphMaximaOf g) (workspaceTold (graphMaximaOf g)))
+    ensures { λ r. ⌜ r ≡ longEnough (graphTold (graphMaximaOf g) (graphWorkspaceTold (graphMaximaOf g)))
         (edges ∷ nodes ∷ «vertex_table» ∷ «edge_table» ∷ «kmer_index» ∷ «node_table» ∷ «open_trees» ∷ []) ⌝ }
 {
     if edges < g.edges as usize * 6 {

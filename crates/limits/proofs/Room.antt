@@ -1,13 +1,13 @@
 -- "together never above 256 MiB": all lengths that `lengths` tells, in bytes, whatever settings it accepts. Assumes nothing.
-use mathlib.Core.Path.{_≡_, refl, sym, ap, subst, _∙_}
-use Prim.Native.Nat.{ℕ, zero, suc, _≤_}
+use mathlib.Core.Path.{_≡_, sym, ap, subst, _∙_}
+use Prim.Native.Nat.{ℕ, _≤_}
 use native.Mathlib.Omega.{arith}
 use Rattle.definition.specs.Refusal.{firstBroken}
 use Rattle.definition.specs.Limits.{GraphMaxima, SearchMaxima, toldEdges, toldNodes, basesStride, toldBases, toldOrigins, lengthsRules}
 use Rattle.definition.specs.Calls.{LengthsAnswer, lengthsOf, lengthsCall}
 use Rattle.limits.specs.declared.LengthsTold.{LengthsTold}
 use Rattle.limits.specs.Bounds.{InLimits, accepted, active-places, path-places, base-places, walk-places}
-use Rattle.limits.specs.Lengths.{answerOf, workspaceTold, workspaceOf, workspaceCall, workspaceBytes, toldBytes, Told}
+use Rattle.limits.specs.Lengths.{answerOf, workspaceOf, workspaceCall, workspaceBytes, toldBytes, Told, told-number}
 
 -- 256 MiB
 abbrev pub most : ℕ
@@ -16,7 +16,7 @@ most = 268435456
 module _ (k asked : ℕ) (g : GraphMaxima) (s : SearchMaxima) where
   -- settings within the limits
   within-limits : k ≤ 128 → InLimits asked g s → toldBytes (lengthsOf k asked g s 0) (workspaceOf asked g s 0) ≤ most
-  unfolding toldBytes workspaceBytes workspaceOf workspaceTold lengthsOf toldEdges toldNodes toldBases toldOrigins basesStride
+  unfolding toldBytes workspaceBytes workspaceOf lengthsOf toldEdges toldNodes toldBases toldOrigins basesStride
   within-limits h b =
       let active = active-places asked g s b in
       let origins = path-places asked g s b in
@@ -24,16 +24,11 @@ module _ (k asked : ℕ) (g : GraphMaxima) (s : SearchMaxima) where
       let bases = base-places asked g s b k h in
       omega arith
 
-  told-number : (n : ℕ) → lengthsOf k asked g s n .refusal ≡ n
-  unfolding lengthsOf
-  told-number zero = refl
-  told-number (suc n) = refl
-
   -- the theorem, of the definition
   pub room : lengthsCall k asked g s .refusal ≡ 0 → toldBytes (lengthsCall k asked g s) (workspaceCall k asked g s) ≤ most
   unfolding lengthsCall workspaceCall
   room e =
-      let z : firstBroken (lengthsRules k asked g s) ≡ 0 = sym (told-number (firstBroken (lengthsRules k asked g s))) ∙ e in
+      let z : firstBroken (lengthsRules k asked g s) ≡ 0 = sym (told-number k asked g s (firstBroken (lengthsRules k asked g s))) ∙ e in
       let b = accepted k asked g s z in
       subst (λ (n : ℕ). toldBytes (lengthsOf k asked g s n) (workspaceOf asked g s n) ≤ most) (sym z) (within-limits (b .0) (b .1))
 

@@ -1,7 +1,8 @@
 -- The answer of `lengths` as the definition has it, the workspace told beside it, and all of it in bytes.
-use mathlib.Core.Path.{_≡_, ap, _∙_}
+use mathlib.Core.Path.{_≡_, refl, sym, ap, _∙_}
 use Prim.Native.Nat.{ℕ, zero, suc, _+_, _*_, _<_, _≤_}
 use native.Mathlib.Omega.{arith}
+use mathlib.Core.List.{List, [], _∷_}
 use Rattle.definition.specs.Refusal.{firstBroken}
 use Rattle.definition.specs.Limits.{GraphMaxima, SearchMaxima, toldEdges, toldNodes, toldBases, toldOrigins, lengthsRules}
 use Rattle.definition.specs.Calls.{LengthsAnswer, lengthsOf, lengthsCall}
@@ -34,7 +35,7 @@ withWalks t w =
       columns = t .columns;
     }
 
-unfoldable pub workspaceTold : ℕ → GraphMaxima → SearchMaxima → Workspace
+abbrev pub workspaceTold : ℕ → GraphMaxima → SearchMaxima → Workspace
 workspaceTold asked g s =
     record {
       vertices = vertexTable g;
@@ -55,7 +56,6 @@ workspaceTold asked g s =
     }
 
 pub told-walks : (asked : ℕ) (g : GraphMaxima) (s : SearchMaxima) (w : ℕ) → w ≡ pathWalks asked g s → withWalks (workspaceTold asked g s) w ≡ workspaceTold asked g s
-unfolding workspaceTold
 told-walks asked g s w e = rw e
 
 unfoldable pub noWorkspace : Workspace
@@ -69,6 +69,50 @@ workspaceOf asked g s (suc n) = noWorkspace
 
 unfoldable pub workspaceCall : ℕ → ℕ → GraphMaxima → SearchMaxima → Workspace
 workspaceCall k asked g s = workspaceOf asked g s (firstBroken (lengthsRules k asked g s))
+
+-- ---- rule 7: the slices told, in the order in which a call is lent them
+
+-- the workspace of the call for the list, which is lent no open trees and three columns
+abbrev pub listWorkspace : Workspace → List ℕ
+listWorkspace w =
+    w .vertices
+    ∷ w .edges
+    ∷ w .index
+    ∷ w .nodes
+    ∷ w .targets
+    ∷ w .paths
+    ∷ w .scores
+    ∷ w .active
+    ∷ w .queue
+    ∷ w .closed
+    ∷ w .order
+    ∷ w .marks
+    ∷ w .walks
+    ∷ w .columns
+    ∷ w .columns
+    ∷ w .columns
+    ∷ []
+
+-- the workspace of the call for edges and trees
+abbrev pub graphWorkspace : Workspace → List ℕ
+graphWorkspace w = w .vertices ∷ w .edges ∷ w .index ∷ w .nodes ∷ w .«open» ∷ []
+
+-- all slices of the call for the list: path rows, bases, the origins' sequences and their places, then the workspace
+abbrev pub listSlices : LengthsTold → List ℕ
+listSlices r = r .paths ∷ r .bases ∷ r .origins ∷ r .origins ∷ listWorkspace (r .workspace)
+
+-- all slices of the call for edges and trees: edge rows, node rows, then the workspace
+abbrev pub graphSlices : LengthsTold → List ℕ
+graphSlices r = r .edges ∷ r .nodes ∷ graphWorkspace (r .workspace)
+
+-- what each call's rule 7 compares the workspace with; that of edges and trees does not depend on the paths, which its call is told nothing of
+abbrev pub listWorkspaceTold : ℕ → GraphMaxima → SearchMaxima → List ℕ
+listWorkspaceTold asked g s = listWorkspace (workspaceTold asked g s)
+
+abbrev pub graphWorkspaceTold : GraphMaxima → List ℕ
+graphWorkspaceTold g = graphWorkspace (workspaceTold 0 g (record { pathEdges = 0; active = 0; pushes = 0 }))
+
+-- ---- the call
 
 -- The contract of `lengths`: every field is told.
 pub record Told (k asked : ℕ) (g : GraphMaxima) (s : SearchMaxima) (r : LengthsTold) : Type 0 where
@@ -111,6 +155,23 @@ module _ (k asked : ℕ) (g : GraphMaxima) (s : SearchMaxima) (r : LengthsTold) 
         answer = ap answerOf e ∙ ap (lengthsOf k asked g s) c;
         workspace = ap (λ (t : LengthsTold). t .workspace) e ∙ ap (workspaceOf asked g s) c;
       }
+
+-- the refusal told is the number of the rule broken
+pub told-number : (k asked : ℕ) (g : GraphMaxima) (s : SearchMaxima) (n : ℕ) → lengthsOf k asked g s n .refusal ≡ n
+unfolding lengthsOf
+told-number k asked g s zero = refl
+told-number k asked g s (suc n) = refl
+
+abbrev toldBy : LengthsAnswer → Workspace → LengthsTold
+toldBy a w = record { refusal = a .refusal; edges = a .edges; nodes = a .nodes; paths = a .paths; bases = a .bases; origins = a .origins; workspace = w }
+
+-- what is told without a refusal is told of settings within the limits
+pub accepted-is : (k asked : ℕ) (g : GraphMaxima) (s : SearchMaxima) (r : LengthsTold) → Told k asked g s r → r .refusal ≡ 0 → r ≡ acceptedLengths k asked g s
+unfolding lengthsOf lengthsCall workspaceOf workspaceCall acceptedLengths
+accepted-is k asked g s r t e =
+    let n = firstBroken (lengthsRules k asked g s) in
+    let z : n ≡ 0 = sym (told-number k asked g s n) ∙ ap (λ (a : LengthsAnswer). a .refusal) (sym (t .answer)) ∙ e in
+    (λ j. toldBy (t .answer j) (t .workspace j)) ∙ ap (λ (m : ℕ). toldBy (lengthsOf k asked g s m) (workspaceOf asked g s m)) z
 
 -- ---- in bytes
 

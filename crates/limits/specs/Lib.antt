@@ -2,6 +2,7 @@ pub mod Handed
 pub mod Tests
 pub mod Loops
 pub mod Rules
+pub mod Long
 pub mod Bounds
 pub mod Workspaces
 pub mod Lengths

@@ -30,7 +30,7 @@ targetTable g = g .edges
 abbrev pub pathCount : ℕ → SearchMaxima → ℕ
 pathCount asked s = s .pushes + asked + 8
 
--- a row of 8 numbers for each path
+-- a row of 9 numbers for each path
 abbrev pub pathTable : ℕ → SearchMaxima → ℕ
 pathTable asked s = pathCount asked s * 9
 

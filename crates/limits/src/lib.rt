@@ -403,8 +403,8 @@ fn workspace_told(asked: u32, g: GraphMaxima, s: SearchMaxima) -> Workspace
     }
 }
 
-// The lengths for settings within limits.
-fn lengths_within(k: u32, asked: u32, g: GraphMaxima, s: SearchMaxima) -> LengthsTold
+// The lengths for settings within limits: what rule 7 compares with.
+pub fn lengths_within(k: u32, asked: u32, g: GraphMaxima, s: SearchMaxima) -> LengthsTold
     requires { ⌜ (k ≤ 128) × InLimits asked (graphMaximaOf g) (searchMaximaOf s) ⌝ }
     ensures { λ r. ⌜ r ≡ acceptedLengths k asked (graphMaximaOf g) (searchMaximaOf s) ⌝ }
 {

@@ -1,40 +1,22 @@
--- What the call for the list is lent: the lengths told of its workspace, and when all slices are long enough. Assumes nothing.
-use mathlib.Core.Path.{_≡_, refl, ap, _∙_}
+-- What the call for the list is lent, and when all slices are as long as told. Assumes nothing.
+use mathlib.Core.Path.{_≡_, refl, sym, ap, _∙_}
 use mathlib.Core.Bool.{Bool, true, false, _&&_}
 use mathlib.Core.List.{List, [], _∷_, _++_}
-use Prim.Native.Nat.{ℕ, _+_, _*_, _<_, _≤_}
+use Prim.Native.Nat.{ℕ, _+_, _*_, _≤_}
 use native.Mathlib.Omega.{arith}
 use lib.Dec.{leb}
 use lib.ListN.{length}
-use borrow.Author.Tests.{leb-true, le-leb, lt-leb}
-use Rattle.laws.specs.ListLaws.{and-left, and-right}
 use Rattle.definition.specs.Limits.{GraphMaxima, SearchMaxima, Input, longEnough, basesStride, toldBases, toldOrigins, listTold}
 use Rattle.limits.specs.Workspaces.{vertexTable, edgeTable, kmerIndex, nodeTable, targetTable, pathTable, pathScores, activeNodes, waitingQueue, closedPaths, pivotalOrder, pivotalMarks, pathWalks, rowColumns}
+use Rattle.limits.specs.Lengths.{listSlices, listWorkspaceTold, acceptedLengths}
+use Rattle.limits.specs.Long.{long-head}
+use Rattle.limits.specs.declared.Workspace.{Workspace}
+use Rattle.limits.specs.declared.LengthsTold.{LengthsTold}
 use Rattle.list_call.specs.declared.Lent as lent
 
--- the lengths told of the workspace slices
-abbrev pub workspaceTold : ℕ → GraphMaxima → SearchMaxima → List ℕ
-workspaceTold asked g s =
-    vertexTable g
-    ∷ edgeTable g
-    ∷ kmerIndex g
-    ∷ nodeTable g
-    ∷ targetTable g
-    ∷ pathTable asked s
-    ∷ pathScores asked s
-    ∷ activeNodes asked s
-    ∷ waitingQueue s
-    ∷ closedPaths asked
-    ∷ pivotalOrder g
-    ∷ pivotalMarks g
-    ∷ pathWalks asked g s
-    ∷ rowColumns asked
-    ∷ rowColumns asked
-    ∷ rowColumns asked
-    ∷ []
-
+-- what rule 7 compares with
 abbrev pub toldOf : Input → List ℕ
-toldOf i = listTold i (workspaceTold (i .asked) (i .graphMaxima) (i .searchMaxima))
+toldOf i = listTold i (listWorkspaceTold (i .asked) (i .graphMaxima) (i .searchMaxima))
 
 -- the lengths lent of the workspace slices, and of all
 abbrev pub workspaceLent : lent.Lent → List ℕ
@@ -59,29 +41,6 @@ workspaceLent l =
 
 abbrev pub lentOf : lent.Lent → List ℕ
 lentOf l = l .rows ∷ l .bases ∷ l .sequences ∷ l .places ∷ workspaceLent l
-
-pub is-short : (n l : ℕ) (ns ls : List ℕ) → l < n → false ≡ longEnough (n ∷ ns) (l ∷ ls)
-unfolding longEnough
-is-short n l ns ls h = rw (lt-leb n l h)
-
-pub no-short : (n l : ℕ) (ns ls : List ℕ) → n ≤ l → longEnough ns ls ≡ longEnough (n ∷ ns) (l ∷ ls)
-unfolding longEnough
-no-short n l ns ls h = rw (le-leb n l h)
-
--- where the code has computed the length told
-pub is-short-by : (n m l : ℕ) (ns ls : List ℕ) → m ≡ n → l < m → false ≡ longEnough (n ∷ ns) (l ∷ ls)
-is-short-by n m l ns ls e h = is-short n l ns ls (omega arith)
-
-pub no-short-by : (n m l : ℕ) (ns ls : List ℕ) → m ≡ n → m ≤ l → longEnough ns ls ≡ longEnough (n ∷ ns) (l ∷ ls)
-no-short-by n m l ns ls e h = no-short n l ns ls (omega arith)
-
-pub none-short : true ≡ longEnough [] []
-unfolding longEnough
-none-short = refl
-
-long-head : (n l : ℕ) (ns ls : List ℕ) → longEnough (n ∷ ns) (l ∷ ls) ≡ true → (n ≤ l) × (longEnough ns ls ≡ true)
-unfolding longEnough
-long-head n l ns ls h = (leb-true n l (and-left (leb n l) (longEnough ns ls) h), and-right (leb n l) (longEnough ns ls) h)
 
 -- each slice is as long as told
 pub record Long (k asked : ℕ) (g : GraphMaxima) (s : SearchMaxima) (l : lent.Lent) : Type 0 where
@@ -109,33 +68,33 @@ pub record Long (k asked : ℕ) (g : GraphMaxima) (s : SearchMaxima) (l : lent.L
 -- ---- the parts of the test, as the code makes them
 
 -- the output slices
-abbrev pub outputsTold : ℕ → ℕ → SearchMaxima → List ℕ
-outputsTold k asked s = asked ∷ asked * (k + s .pathEdges) ∷ asked * s .pathEdges ∷ asked * s .pathEdges ∷ []
+abbrev pub outputsTold : LengthsTold → List ℕ
+outputsTold t = t .paths ∷ t .bases ∷ t .origins ∷ t .origins ∷ []
 
 abbrev pub outputsLent : lent.Lent → List ℕ
 outputsLent l = l .rows ∷ l .bases ∷ l .sequences ∷ l .places ∷ []
 
 -- the tables of the graph
-abbrev pub graphTold : GraphMaxima → List ℕ
-graphTold g = vertexTable g ∷ edgeTable g ∷ kmerIndex g ∷ nodeTable g ∷ targetTable g ∷ []
+abbrev pub graphTold : Workspace → List ℕ
+graphTold w = w .vertices ∷ w .edges ∷ w .index ∷ w .nodes ∷ w .targets ∷ []
 
 abbrev pub graphLent : lent.Lent → List ℕ
 graphLent l = l .vertices ∷ l .edges ∷ l .index ∷ l .nodes ∷ l .targets ∷ []
 
 -- the tables of the search
-abbrev pub searchTold : ℕ → GraphMaxima → SearchMaxima → List ℕ
-searchTold asked g s =
-    pathTable asked s
-    ∷ pathScores asked s
-    ∷ activeNodes asked s
-    ∷ waitingQueue s
-    ∷ closedPaths asked
-    ∷ pivotalOrder g
-    ∷ pivotalMarks g
-    ∷ pathWalks asked g s
-    ∷ rowColumns asked
-    ∷ rowColumns asked
-    ∷ rowColumns asked
+abbrev pub searchTold : Workspace → List ℕ
+searchTold w =
+    w .paths
+    ∷ w .scores
+    ∷ w .active
+    ∷ w .queue
+    ∷ w .closed
+    ∷ w .order
+    ∷ w .marks
+    ∷ w .walks
+    ∷ w .columns
+    ∷ w .columns
+    ∷ w .columns
     ∷ []
 
 abbrev pub searchLent : lent.Lent → List ℕ
@@ -165,17 +124,21 @@ long-parts (x ∷ a) b (y ∷ c) d e = rw (long-parts a b c d (omega arith)) (an
     and-assoc true q r = refl
     and-assoc false q r = refl
 
+-- what rule 7 compares with is what the call for lengths tells of settings within the limits
+pub slices-told : (i : Input) → listSlices (acceptedLengths (i .sample .k) (i .asked) (i .graphMaxima) (i .searchMaxima)) ≡ toldOf i
+unfolding acceptedLengths listTold
+slices-told i = refl
+
 -- what is told and lent in all, in those parts
-pub long-is : (i : Input) (l : lent.Lent)
+pub long-is : (i : Input) (l : lent.Lent) (t : LengthsTold) → t ≡ acceptedLengths (i .sample .k) (i .asked) (i .graphMaxima) (i .searchMaxima)
     → longEnough (toldOf i) (lentOf l)
-    ≡ (longEnough (outputsTold (i .sample .k) (i .asked) (i .searchMaxima)) (outputsLent l)
-    && (longEnough (graphTold (i .graphMaxima)) (graphLent l) && longEnough (searchTold (i .asked) (i .graphMaxima) (i .searchMaxima)) (searchLent l)))
-unfolding listTold toldBases toldOrigins basesStride
-long-is i l =
-    let o = outputsTold (i .sample .k) (i .asked) (i .searchMaxima) in
-    let g = graphTold (i .graphMaxima) in
-    let s = searchTold (i .asked) (i .graphMaxima) (i .searchMaxima) in
-    long-parts o (g ++ s) (outputsLent l) (graphLent l ++ searchLent l) refl
+    ≡ (longEnough (outputsTold t) (outputsLent l) && (longEnough (graphTold (t .workspace)) (graphLent l) && longEnough (searchTold (t .workspace)) (searchLent l)))
+long-is i l t e =
+    let o = outputsTold t in
+    let g = graphTold (t .workspace) in
+    let s = searchTold (t .workspace) in
+    ap (λ (n : List ℕ). longEnough n (lentOf l)) (sym (ap listSlices e ∙ slices-told i))
+    ∙ long-parts o (g ++ s) (outputsLent l) (graphLent l ++ searchLent l) refl
     ∙ ap (λ (b : Bool). longEnough o (outputsLent l) && b) (long-parts g s (graphLent l) (searchLent l) refl)
 
 pub long-of : (i : Input) (l : lent.Lent) → longEnough (toldOf i) (lentOf l) ≡ true → Long (i .sample .k) (i .asked) (i .graphMaxima) (i .searchMaxima) l

@@ -9,6 +9,8 @@ use Rattle.definition.specs.Limits.{Input, settingsFit, columnFits, longEnough,
 use Rattle.definition.proofs.Checks.{checked}
 use Rattle.limits.specs.Bounds.{InLimits, settings-most, k-most}
 use Rattle.limits.specs.Rules.{rule, Numbered, first-broken, first-hold, broken, holds, all-hold}
+use Rattle.limits.specs.Lengths.{acceptedLengths}
+use Rattle.limits.specs.declared.LengthsTold.{LengthsTold}
 use Rattle.list_call.specs.declared.Lent as lent
 use Rattle.list_call.specs.Lent.{toldOf, lentOf, outputsTold, outputsLent, graphTold, graphLent, searchTold, searchLent, long-is}
 
@@ -61,15 +63,16 @@ module _ (i : Input) (n : ℕ) (h : n ≡ firstBroken (listRules i [] [])) where
       (k-most (i .sample .k) (c .k-fits), settings-most (i .asked) (i .graphMaxima) (i .searchMaxima) (c .settings-fit))
 
   -- ---- the three tests of 7
-  module _ (l : n ≤ 0) (w : lent.Lent) where
+  -- t is what the code was told
+  module _ (l : n ≤ 0) (w : lent.Lent) (t : LengthsTold) (told-is : t ≡ acceptedLengths (i .sample .k) (i .asked) (i .graphMaxima) (i .searchMaxima)) where
     abbrev outputs : Bool
-    outputs = longEnough (outputsTold (i .sample .k) (i .asked) (i .searchMaxima)) (outputsLent w)
+    outputs = longEnough (outputsTold t) (outputsLent w)
 
     abbrev graphs : Bool
-    graphs = longEnough (graphTold (i .graphMaxima)) (graphLent w)
+    graphs = longEnough (graphTold (t .workspace)) (graphLent w)
 
     abbrev searches : Bool
-    searches = longEnough (searchTold (i .asked) (i .graphMaxima) (i .searchMaxima)) (searchLent w)
+    searches = longEnough (searchTold (t .workspace)) (searchLent w)
 
     false-1 : (a b c : Bool) → a ≡ false → (a && (b && c)) ≡ false
     false-1 a b c e = rw e
@@ -87,13 +90,13 @@ module _ (i : Input) (n : ℕ) (h : n ≡ firstBroken (listRules i [] [])) where
     true-3 a b c e f g = rw (e, f, g)
 
     pub short-outputs : outputs ≡ false → 7 ≡ firstBroken (listRules i (toldOf i) (lentOf w))
-    short-outputs e = late-refused l (toldOf i) (lentOf w) (long-is i w ∙ false-1 outputs graphs searches e)
+    short-outputs e = late-refused l (toldOf i) (lentOf w) (long-is i w t told-is ∙ false-1 outputs graphs searches e)
 
     pub short-graph : graphs ≡ false → 7 ≡ firstBroken (listRules i (toldOf i) (lentOf w))
-    short-graph e = late-refused l (toldOf i) (lentOf w) (long-is i w ∙ false-2 outputs graphs searches e)
+    short-graph e = late-refused l (toldOf i) (lentOf w) (long-is i w t told-is ∙ false-2 outputs graphs searches e)
 
     pub short-search : searches ≡ false → 7 ≡ firstBroken (listRules i (toldOf i) (lentOf w))
-    short-search e = late-refused l (toldOf i) (lentOf w) (long-is i w ∙ false-3 outputs graphs searches e)
+    short-search e = late-refused l (toldOf i) (lentOf w) (long-is i w t told-is ∙ false-3 outputs graphs searches e)
 
     pub none-short : outputs ≡ true → graphs ≡ true → searches ≡ true → 0 ≡ firstBroken (listRules i (toldOf i) (lentOf w))
-    none-short e f g = late-accepted l (toldOf i) (lentOf w) (long-is i w ∙ true-3 outputs graphs searches e f g)
+    none-short e f g = late-accepted l (toldOf i) (lentOf w) (long-is i w t told-is ∙ true-3 outputs graphs searches e f g)

@@ -1,8 +1,9 @@
 // The call for the list, over number slices alone: checks, build, trees, search, the list in columns, and clearing.
 use graph_rows::clear;
-use limits::GraphMaxima;
-use limits::SearchMaxima;
+use limits::LengthsTold;
+use limits::Workspace;
 use limits::check_list;
+use limits::lengths_within;
 use limits::walks_told;
 use list_work::ListAnswer;
 use list_work::Settings;
@@ -12,8 +13,6 @@ ghost use mathlib.Core.Path.{_≡_};
 ghost use Prim.Native.Nat.{_≤_};
 ghost use Rattle.definition.specs.Refusal.{firstBroken};
 ghost use Rattle.definition.specs.Limits.{longEnough, listRules};
-ghost use Rattle.limits.specs.Handed.{graphMaximaOf, searchMaximaOf};
-ghost use Rattle.limits.specs.Bounds.{InLimits};
 ghost use Rattle.list_work.specs.Works.{inputFor};
 ghost use lib.ListN.{length, replicate};
 ghost use Rattle.definition.specs.Calls.{writtenAt};
@@ -48,83 +47,79 @@ pub struct Lent {
 
 // ---- 7: whether each lent slice is as long as told
 
-fn outputs_fit(k: u32, asked: u32, g: GraphMaxima, s: SearchMaxima, l: Lent) -> bool
-    requires { ⌜ (k ≤ 128) × InLimits asked (graphMaximaOf g) (searchMaximaOf s) ⌝ }
-    ensures { λ r. ⌜ r ≡ longEnough (outputsTold k asked (searchMaximaOf s)) (outputsLent l) ⌝ }
+fn outputs_fit(told: LengthsTold, l: Lent) -> bool
+    ensures { λ r. ⌜ r ≡ longEnough (outputsTold told) (outputsLent l) ⌝ }
 {
-    if l.rows < asked as usize {
+    if l.rows < told.paths {
         return false;
     }
-    let most = s.path_edges as usize;
-    if l.bases < asked as usize * (k as usize + most) {
+    if l.bases < told.bases {
         return false;
     }
-    if l.sequences < asked as usize * most {
+    if l.sequences < told.origins {
         return false;
     }
-    if l.places < asked as usize * most {
+    if l.places < told.origins {
         return false;
     }
     true
 }
 
-fn graph_fits(g: GraphMaxima, l: Lent) -> bool
-    ensures { λ r. ⌜ r ≡ longEnough (graphTold (graphMaximaOf g)) (graphLent l) ⌝ }
+fn graph_fits(told: Workspace, l: Lent) -> bool
+    ensures { λ r. ⌜ r ≡ longEnough (graphTold told) (graphLent l) ⌝ }
 {
-    if l.vertices < g.vertices as usize * 12 {
+    if l.vertices < told.vertices {
         return false;
     }
-    if l.edges < g.edges as usize * 6 {
+    if l.edges < told.edges {
         return false;
     }
-    if l.index < g.vertices as usize * 2 {
+    if l.index < told.index {
         return false;
     }
-    if l.nodes < (g.nodes as usize + 1) * 5 {
+    if l.nodes < told.nodes {
         return false;
     }
-    if l.targets < g.edges as usize {
+    if l.targets < told.targets {
         return false;
     }
     true
 }
 
-fn search_fits(asked: u32, g: GraphMaxima, s: SearchMaxima, l: Lent) -> bool
-    requires { ⌜ InLimits asked (graphMaximaOf g) (searchMaximaOf s) ⌝ }
-    ensures { λ r. ⌜ r ≡ longEnough (searchTold asked (graphMaximaOf g) (searchMaximaOf s)) (searchLent l) ⌝ }
+fn search_fits(told: Workspace, l: Lent) -> bool
+    ensures { λ r. ⌜ r ≡ longEnough (searchTold told) (searchLent l) ⌝ }
 {
-    let paths = s.pushes as usize + asked as usize + 8;
-    if l.paths < paths * 9 {
+    if l.paths < told.paths {
         return false;
     }
-    if l.scores < paths {
+    if l.scores < told.scores {
         return false;
     }
-    if l.active < paths * s.active as usize {
+    if l.active < told.active {
         return false;
     }
-    if l.queue < s.pushes as usize {
+    if l.queue < told.queue {
         return false;
     }
-    if l.closed < asked as usize {
+    if l.closed < told.closed {
         return false;
     }
-    if l.order < g.edges as usize {
+    if l.order < told.order {
         return false;
     }
-    if l.marks < g.edges as usize {
+    if l.marks < told.marks {
         return false;
     }
-    if l.walks < walks_told(asked, g, s) {
+    if l.walks < told.walks {
         return false;
     }
-    if l.row_scores < asked as usize {
+    if l.row_scores < told.columns {
         return false;
     }
-    if l.row_closings < asked as usize {
+    if l.row_closings < told.columns {
         return false;
     }
-    if l.row_edges < asked as usize {
+    if l.row_edges < told.columns {
         return false;
     }
     true
@@ -159,15 +154,17 @@ fn check(
     if refusal > 0 {
         return refusal;
     }
-    let outputs = outputs_fit(a.k, a.asked, g, s, l);
+    let told = lengths_within(a.k, a.asked, g, s);
+    let outputs = outputs_fit(told, l);
     if !outputs {
         return 7;
     }
-    let graphs = graph_fits(g, l);
+    let tables = told.workspace;
+    let graphs = graph_fits(tables, l);
     if !graphs {
         return 7;
     }
-    let searches = search_fits(a.asked, g, s, l);
+    let searches = search_fits(tables, l);
     if !searches {
         return 7;
     }

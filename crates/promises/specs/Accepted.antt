@@ -1,24 +1,22 @@
 -- An accepted call for the list: the definition has made a list, the slices are long enough for it, and the rows read off them are its rows. Assumes nothing.
 use mathlib.Core.Path.{_≡_, refl, ap, _∙_}
-use Prim.Native.Nat.{ℕ, suc, _≤_}
+use Prim.Native.Nat.{ℕ, _≤_}
 use native.Mathlib.Omega.{arith}
-use mathlib.Core.Bool.{Bool, true, false}
-use mathlib.Core.List.{List, _∷_}
-use lib.Dec.{leb}
+use mathlib.Core.Bool.{true}
+use mathlib.Core.List.{List}
 use lib.Ieee.{Float}
-use borrow.Author.Tests.{leb-true}
-use Rattle.laws.specs.ListLaws.{and-left, and-right, All, all-mono, all-zip}
-use Rattle.definition.specs.Refusal.{Rule, firstBroken}
-use Rattle.definition.specs.Limits.{Input, longEnough, basesStride, toldBases, toldOrigins, listTold, sampleRules, listRules}
+use Rattle.laws.specs.ListLaws.{All, all-mono, all-zip}
+use Rattle.definition.specs.Limits.{Input, longEnough, basesStride, toldBases, toldOrigins, listTold}
 use Rattle.definition.specs.Listing.{Row, Answer, refusal, listed, answer}
 use Rattle.definition.specs.Calls.{ListSlices, listOutcome, listLent, listCall}
 use Rattle.definition.specs.Promises.{Spelled}
 use Rattle.definition.proofs.Bounds.{Bounded}
-use Rattle.definition.proofs.Checks.{passed}
+use Rattle.definition.proofs.Checks.{passed, long-enough}
+use Rattle.definition.proofs.Late.{no-zero}
 use Rattle.definition.proofs.Demand.{paths-spelled, within-bounds}
+use Rattle.limits.specs.Long.{long-head}
 use Rattle.promises.specs.Reading.{readList}
 use Rattle.promises.specs.Back.{Fits, LongFor, read-back}
-use Rattle.definition.proofs.Late.{no-zero}
 
 -- ---- the list
 
@@ -40,26 +38,6 @@ made i workspace lent old e = go (answer i (listTold i workspace) (listLent old 
     go (listed rs p q) t h = record { rows = rs; pushes = p; longest = q; is = t }
 
 -- ---- the slices are long enough, by rule 7
-
-holds-first : (n : ℕ) (b : Bool) (rs : List Rule) → firstBroken (record { number = suc n; holds = b } ∷ rs) ≡ 0 → (b ≡ true) × (firstBroken rs ≡ 0)
-unfolding firstBroken
-holds-first n true rs e = (refl, e)
-holds-first n false rs e = absurd (omega arith)
-
-long-enough : (i : Input) (told lent : List ℕ) → firstBroken (listRules i told lent) ≡ 0 → longEnough told lent ≡ true
-unfolding listRules sampleRules
-long-enough i told lent e =
-    let a = holds-first 0 _ _ e in
-    let b = holds-first 1 _ _ (a .1) in
-    let c = holds-first 2 _ _ (b .1) in
-    let d = holds-first 3 _ _ (c .1) in
-    let f = holds-first 4 _ _ (d .1) in
-    let g = holds-first 5 _ _ (f .1) in
-    holds-first 6 _ _ (g .1) .0
-
-long-head : (n l : ℕ) (ns ls : List ℕ) → longEnough (n ∷ ns) (l ∷ ls) ≡ true → (n ≤ l) × (longEnough ns ls ≡ true)
-unfolding longEnough
-long-head n l ns ls h = (leb-true n l (and-left (leb n l) (longEnough ns ls) h), and-right (leb n l) (longEnough ns ls) h)
 
 long-for : (i : Input) (workspace lent : List ℕ) (old : ListSlices) → longEnough (listTold i workspace) (listLent old lent) ≡ true → LongFor i (i .asked) old
 unfolding listTold toldBases toldOrigins basesStride listLent
@@ -86,13 +64,16 @@ module _ (i : Input) (workspace lent : List ℕ) (old : ListSlices) (m : Made i 
   unfolding listCall
   outcome = ap (λ (a : Answer Float). listOutcome i a old) (m .is)
 
+  -- each slice is at least as long as told
+  pub lent-long : longEnough (listTold i workspace) (listLent old lent) ≡ true
+  lent-long =
+      long-enough i (listTold i workspace) (listLent old lent)
+      (passed i (listTold i workspace) (listLent old lent) (m .rows) (m .pushes) (m .longest) (m .is) .0)
+
   read-made : readList i (listOutcome i (listed (m .rows) (m .pushes) (m .longest)) old) ≡ m .rows
   unfolding listOutcome
   read-made =
-      read-back i (m .rows) old rows-fit (bounded .rows-fit)
-      (long-for i workspace lent old
-      (long-enough i (listTold i workspace) (listLent old lent)
-      (passed i (listTold i workspace) (listLent old lent) (m .rows) (m .pushes) (m .longest) (m .is) .0)))
+      read-back i (m .rows) old rows-fit (bounded .rows-fit) (long-for i workspace lent old lent-long)
 
   pub rows-read : readList i (listCall i workspace lent old) ≡ m .rows
   rows-read = ap (readList i) outcome ∙ read-made

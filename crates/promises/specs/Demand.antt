@@ -1,16 +1,18 @@
 -- Demand 3 over the call for the list itself: what holds of the rows that a caller reads off the output slices of an accepted call. Assumes nothing.
-use mathlib.Core.Path.{_≡_, sym, _∙_}
+use mathlib.Core.Path.{_≡_, refl, sym, _∙_}
 use Prim.Native.Nat.{ℕ, _≤_}
+use mathlib.Core.Bool.{true}
 use mathlib.Core.List.{List}
 use lib.Dec.{leb}
 use lib.Ieee.{Float}
 use Rattle.laws.specs.Lists.{keep}
 use Rattle.laws.specs.ListLaws.{All}
-use Rattle.definition.specs.Limits.{Input, listTold}
-use Rattle.definition.specs.Listing.{Row}
+use Rattle.definition.specs.Limits.{Input, longEnough, listTold}
+use Rattle.definition.specs.Listing.{Row, Answer, refusal, listed, answer}
 use Rattle.definition.specs.Calls.{ListSlices, ListAnswer, listOutcome, listLent, listCall}
 use Rattle.definition.specs.Promises.{Spelled, NoneOutscores, AllElseEqual}
-use Rattle.definition.proofs.Demand.{demand-3a, demand-3b}
+use Rattle.definition.proofs.Fewer.{IsList}
+use Rattle.definition.proofs.Demand.{demand-3a, demand-3b, fewer-accepted}
 use Rattle.promises.specs.Reading.{readRows, readList}
 use Rattle.promises.specs.Accepted.{made, bounded, outcome, rows-read}
 
@@ -39,6 +41,20 @@ promise-3b a b workspace lent workspace′ lent′ old old′ same few e f =
     rw (rows-read a workspace lent old m, rows-read b workspace′ lent′ old′ n)
     (demand-3b a b (listTold a workspace) (listLent old lent) (listTold b workspace′) (listLent old′ lent′) (m .rows) (n .rows) (m .pushes) (m .longest)
     (n .pushes) (n .longest) same few (m .is) (n .is))
+
+-- Where the call for more paths is accepted, so is the call for fewer, if it is lent what it is told.
+pub promise-fewer : (a b : Input) (workspace lent workspace′ lent′ : List ℕ) (old old′ : ListSlices) → AllElseEqual a b → a .asked ≤ b .asked
+    → longEnough (listTold a workspace) (listLent old lent) ≡ true → listCall b workspace′ lent′ old′ .answer .refusal ≡ 0
+    → listCall a workspace lent old .answer .refusal ≡ 0
+unfolding listCall listOutcome
+promise-fewer a b workspace lent workspace′ lent′ old old′ same few long e =
+    let n = made b workspace′ lent′ old′ e in
+    go (answer a (listTold a workspace) (listLent old lent))
+    (fewer-accepted a b (listTold a workspace) (listLent old lent) (listTold b workspace′) (listLent old′ lent′) (n .rows) (n .pushes) (n .longest) same few (n .is) long)
+  where
+    go : (x : Answer Float) → IsList x → listOutcome a x old .answer .refusal ≡ 0
+    go (refusal n) h = absurd h
+    go (listed rs p q) h = refl
 
 -- what an accepted answer tells stays within what was asked and allowed; the waiting mark lies between the last two
 pub record ToldWithin (i : Input) (a : ListAnswer) : Type 0 where
@@ -77,3 +93,10 @@ pub called-3b : {a b : Input} {workspace lent workspace′ lent′ : List ℕ} {
     → number′ ≡ 0 → readRows a new paths ≡ keep (λ r. leb (r .closing) (a .asked)) (readRows b new′ paths′)
 called-3b {a} {b} {workspace} {lent} {workspace′} {lent′} {old} {old′} same few h k e f =
     rw (read-met h, read-met k) (promise-3b a b workspace lent workspace′ lent′ old old′ same few (sym (h .refusal-is) ∙ e) (sym (k .refusal-is) ∙ f))
+
+-- The call for fewer is accepted, of one program or of two.
+pub called-fewer : {a b : Input} {workspace lent workspace′ lent′ : List ℕ} {old old′ : ListSlices} {number paths number′ paths′ : ℕ} {new new′ : ListSlices}
+    → AllElseEqual a b → a .asked ≤ b .asked → Meets a workspace lent old number paths new → Meets b workspace′ lent′ old′ number′ paths′ new′
+    → longEnough (listTold a workspace) (listLent old lent) ≡ true → number′ ≡ 0 → number ≡ 0
+called-fewer {a} {b} {workspace} {lent} {workspace′} {lent′} {old} {old′} same few h k long f =
+    h .refusal-is ∙ promise-fewer a b workspace lent workspace′ lent′ old old′ same few long (sym (k .refusal-is) ∙ f)

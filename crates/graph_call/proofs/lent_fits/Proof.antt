@@ -1,6 +1,7 @@
 -- `lent_fits` meets its contract: the first slice shorter than told decides. Assumes nothing.
 use mathlib.Core.Path.{_∙_}
-use Rattle.graph_call.specs.Lent.{is-short, no-short, none-short, told-is}
+use Rattle.limits.specs.Long.{is-short, no-short, none-short}
+use Rattle.graph_call.specs.Lent.{told-is}
 use borrow.Author.Needs.{needs}
 use Rattle.graph_call.proofs.lent_fits.Statement.{statement}
 use Rattle.graph_call.proofs.lent_fits.Tie as tie

@@ -1,6 +1,6 @@
 -- `workspace_told` meets its contract. Assumes nothing.
 use Rattle.limits.specs.Bounds.{active-fits}
-use Rattle.limits.specs.Lengths.{workspaceTold, told-walks}
+use Rattle.limits.specs.Lengths.{told-walks}
 use borrow.Author.Needs.{needs}
 use Rattle.limits.proofs.workspace_told.Statement.{statement}
 use Rattle.limits.proofs.workspace_told.Tie as tie
@@ -98,7 +98,6 @@ cast-t24 c = search needs
 
 -- src/lib.rt:380:1
 returns : tie.Need-returns
-unfolding workspaceTold
 returns c = told-walks _ _ _ _ (c .before .before .before .before .before .before .before .before .before .before .walks-told .ensures)
 
 pub workspace-told-spec : {M : Type 1} → statement M
