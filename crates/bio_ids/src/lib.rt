@@ -1,15 +1,29 @@
 // The kmer size of `bio_ids.rs`, and document 01's limit on it.
 ghost use mathlib.Core.Path.{_≡_};
+ghost use Rattle.definition.specs.Refusal.{firstBroken};
 ghost use Rattle.definition.specs.Limits.{kFits};
-ghost use Rattle.bio_ids.specs.Sizes.{sizeOf, atLeastTwo};
+ghost use Rattle.bio_ids.specs.Sizes.{sizeOf, triedRefusal, atLeastTwo, kRules};
 
 // The number of bases of a kmer, made by `try_new`.
 pub struct KmerSize(pub u16);
 
-// The answer of `try_new`; too small a size is 1.
+// The answer of `try_new`.
 pub enum TriedKmerSize {
     Size(KmerSize),
     Refused(u32),
+}
+
+// k is outside the limits.
+const OUTSIDE_LIMITS: u32 = 1;
+
+// The number of a refusal, 0 for none.
+fn tried_refusal(r: TriedKmerSize) -> u32
+    ensures { λ n. ⌜ n ≡ triedRefusal r ⌝ }
+{
+    match r {
+        TriedKmerSize::Size(_) => 0,
+        TriedKmerSize::Refused(n) => n,
+    }
 }
 
 impl KmerSize {
@@ -18,7 +32,7 @@ impl KmerSize {
         ensures { λ r. ⌜ sizeOf r ≡ atLeastTwo k ⌝ }
     {
         if k < 2 {
-            return TriedKmerSize::Refused(1);
+            return TriedKmerSize::Refused(OUTSIDE_LIMITS);
         }
         TriedKmerSize::Size(KmerSize(k))
     }
@@ -31,16 +45,22 @@ impl KmerSize {
     }
 }
 
-// Whether k is within the calls' limits, 2 to 128; the upper limit comes first, since only then does k fit a kmer size.
-pub fn k_fits(k: u32) -> bool
-    ensures { λ r. ⌜ r ≡ kFits k ⌝ }
+// The number of a k outside the calls' limits, 2 to 128, or 0; the upper limit comes first, since only then does k fit a kmer size.
+pub fn k_refusal(k: u32) -> u32
+    ensures { λ r. ⌜ r ≡ firstBroken (kRules k) ⌝ }
 {
     if k > 128 {
-        return false;
+        return OUTSIDE_LIMITS;
     }
     let tried = KmerSize::try_new(k as u16);
     let TriedKmerSize::Size(_) = tried else {
-        return false;
+        return tried_refusal(tried);
     };
-    true
+    0
+}
+
+pub fn k_fits(k: u32) -> bool
+    ensures { λ r. ⌜ r ≡ kFits k ⌝ }
+{
+    k_refusal(k) == 0
 }
