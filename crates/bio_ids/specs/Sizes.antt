@@ -4,7 +4,7 @@ use Prim.Native.Nat.{ℕ, _<_, _≤_}
 use native.Mathlib.Omega.{arith}
 use mathlib.Core.Bool.{Bool, true, false, _&&_}
 use mathlib.Core.List.{List, [], _∷_}
-use lib.Dec.{leb, eqb}
+use lib.Dec.{leb}
 use borrow.Author.Tests.{le-leb, lt-leb}
 use Rattle.definition.specs.Refusal.{Result, ok, refused, Rule, firstBroken}
 use Rattle.definition.specs.Limits.{kFits}
@@ -80,11 +80,3 @@ module _ (k : ℕ) (tried : TriedKmerSize) (e : sizeOf tried ≡ atLeastTwo k) w
           let o : refused n ≡ refused 1 = ap sizeOf (sym f) ∙ e ∙ rw (g, atLeastTwo) in
           let y : n ≡ 1 = cc in
           d ∙ ap triedRefusal f ∙ y ∙ broken k (rw g)
-
--- k fits where no number is told
-pub k-within : (k r : ℕ) → r ≡ firstBroken (kRules k) → eqb r 0 ≡ kFits k
-k-within k r h = go (kFits k) refl
-  where
-    go : (b : Bool) → kFits k ≡ b → eqb r 0 ≡ kFits k
-    go true g = let z : r ≡ 0 = h ∙ sym (holds k g) in rw (g, z)
-    go false g = let z : r ≡ 1 = h ∙ sym (broken k g) in rw (g, z)

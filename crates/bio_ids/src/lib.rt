@@ -1,7 +1,6 @@
 // The kmer size of `bio_ids.rs`, and document 01's limit on it.
 ghost use mathlib.Core.Path.{_≡_};
 ghost use Rattle.definition.specs.Refusal.{firstBroken};
-ghost use Rattle.definition.specs.Limits.{kFits};
 ghost use Rattle.bio_ids.specs.Sizes.{sizeOf, triedRefusal, atLeastTwo, kRules};
 
 // The number of bases of a kmer, made by `try_new`.
@@ -57,10 +56,4 @@ pub fn k_refusal(k: u32) -> u32
         return tried_refusal(tried);
     };
     0
-}
-
-pub fn k_fits(k: u32) -> bool
-    ensures { λ r. ⌜ r ≡ kFits k ⌝ }
-{
-    k_refusal(k) == 0
 }

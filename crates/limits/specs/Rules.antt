@@ -7,6 +7,7 @@ use mathlib.Core.List.{List, [], _∷_, _++_}
 use lib.Dec.{eqb}
 use lib.ListN.{length}
 use Rattle.definition.specs.Refusal.{Rule, firstBroken}
+use Rattle.bio_ids.specs.Sizes.{kRules}
 use Rattle.definition.specs.Limits.{Sample, GraphMaxima, Input, kFits, referenceFits, referenceBases, endsFit, readsFit, graphMaximaFit, settingsFit, columnFits, longEnough, originRules, sampleRules, graphRules, listRules}
 
 abbrev pub rule : ℕ → Bool → Rule
@@ -52,6 +53,10 @@ first-hold (r ∷ rs) ys n d e h = go (r .holds) refl (λ k. first-hold rs ys n 
     go : (b : Bool) → r .holds ≡ b → (n ≡ firstBroken rs → firstBroken ys ≡ firstBroken (rs ++ ys)) → firstBroken ys ≡ firstBroken (r ∷ (rs ++ ys))
     go true f ih = rw (f, firstBroken) (ih (rw (f, firstBroken) at e))
     go false f ih = let z : n ≡ r .number = rw (f, firstBroken) at e in let y : 0 < r .number = d .0 in absurd (omega arith)
+
+-- n is what the check of k answered
+pub k-holds : (k : ℕ) (ys : List Rule) (n : ℕ) → n ≡ firstBroken (kRules k) → n ≤ 0 → firstBroken ys ≡ firstBroken (rule 1 (kFits k) ∷ ys)
+k-holds k ys n e h = first-hold (kRules k) ys n (omega arith, tt) e h
 
 -- every rule holds
 abbrev pub Holds : List Rule → Type 0

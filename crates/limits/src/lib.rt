@@ -166,11 +166,12 @@ pub fn settings_fit(asked: u32, g: GraphMaxima, s: SearchMaxima) -> bool
 }
 
 // 1 to 3, which every call that is given a reference checks first.
-fn check_reference(k: u32, reference: &[u8]) -> u32
+pub fn check_reference(k: u32, reference: &[u8]) -> u32
     ensures { λ r. ⌜ r ≡ firstBroken (referenceRules k (now (reference .entry))) ⌝ }
 {
-    if !bio_ids::k_fits(k) {
-        return 1;
+    let refusal = bio_ids::k_refusal(k);
+    if refusal > 0 {
+        return refusal;
     }
     if !reference_fits(k, reference) {
         return 2;
@@ -316,8 +317,9 @@ pub struct LengthsTold {
 fn check_lengths(k: u32, asked: u32, g: GraphMaxima, s: SearchMaxima) -> u32
     ensures { λ r. ⌜ r ≡ firstBroken (lengthsRules k asked (graphMaximaOf g) (searchMaximaOf s)) ⌝ }
 {
-    if !bio_ids::k_fits(k) {
-        return 1;
+    let refusal = bio_ids::k_refusal(k);
+    if refusal > 0 {
+        return refusal;
     }
     if !settings_fit(asked, g, s) {
         return 5;

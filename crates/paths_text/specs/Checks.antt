@@ -9,9 +9,9 @@ use lib.ListN.{length}
 use borrow.Author.Tests.{le-leb, lt-leb}
 use Rattle.laws.specs.Lists.{all, lastOr}
 use Rattle.definition.specs.Refusal.{Rule, firstBroken}
-use Rattle.definition.specs.Limits.{Sample, kFits, referenceFits, referenceBases, rising, endsFit, readsFit, sampleRules}
+use Rattle.definition.specs.Limits.{Sample, rising, endsFit, readsFit, sampleRules}
 use Rattle.definition.specs.Text.{Text, textRules, sampleOf, sizeOf, evenRead, endsFrom, allBases, allQualities, askedWithin}
-use Rattle.limits.specs.Rules.{rule, referenceRules, broken, holds, all-hold, first-broken, first-hold, sample-numbered}
+use Rattle.limits.specs.Rules.{rule, referenceRules, broken, holds, all-hold, first-broken, first-hold, reference-numbered, sample-numbered}
 use Rattle.limits.specs.Handed as L
 use Rattle.paths_text.specs.Numbers.{k-within, asked-within}
 use Rattle.paths_text.specs.Headers.{shown}
@@ -103,27 +103,14 @@ module _ {s : Settings} {reference ends bases qualities : List ℕ} {count : ℕ
       pub text-accepted : n ≤ 0 → s .asked ≤ 8 → 0 ≡ firstBroken (textRules t)
       text-accepted k l = all-hold ∙ holds 5 (askedWithin (t .header .asked)) [] (asked-is ∙ le-leb (s .asked) 8 l) ∙ last k
 
--- 1 to 3 by their tests, then 4
+-- 1 to 3, then 4
 module _ (k : ℕ) (reference : List ℕ) (rest : List Rule) where
   abbrev rules : List Rule
   rules = referenceRules k reference ++ (rule 4 false ∷ rest)
 
-  pub first-fails : (b : Bool) → b ≡ kFits k → b ≡ false → 1 ≡ firstBroken rules
-  unfolding referenceRules
-  first-fails b e f = broken 1 (kFits k) _ (sym e ∙ f)
+  pub reference-fails : (n : ℕ) → n ≡ firstBroken (referenceRules k reference) → 0 < n → n ≡ firstBroken rules
+  reference-fails n e h = first-broken (referenceRules k reference) (rule 4 false ∷ rest) n e h
 
-  pub second-fails : (b c : Bool) → b ≡ kFits k → b ≡ true → c ≡ referenceFits k reference → c ≡ false → 2 ≡ firstBroken rules
-  unfolding referenceRules
-  second-fails b c e f g h = broken 2 (referenceFits k reference) _ (sym g ∙ h) ∙ holds 1 (kFits k) _ (sym e ∙ f)
-
-  pub third-fails : (b c d : Bool) → b ≡ kFits k → b ≡ true → c ≡ referenceFits k reference → c ≡ true → d ≡ referenceBases reference → d ≡ false
-      → 3 ≡ firstBroken rules
-  unfolding referenceRules
-  third-fails b c d e f g h i j =
-      broken 3 (referenceBases reference) _ (sym i ∙ j) ∙ holds 2 (referenceFits k reference) _ (sym g ∙ h) ∙ holds 1 (kFits k) _ (sym e ∙ f)
-
-  pub fourth-fails : (b c d : Bool) → b ≡ kFits k → b ≡ true → c ≡ referenceFits k reference → c ≡ true → d ≡ referenceBases reference → d ≡ true
-      → 4 ≡ firstBroken rules
-  unfolding referenceRules
-  fourth-fails b c d e f g h i j =
-      broken 4 false rest refl ∙ holds 3 (referenceBases reference) _ (sym i ∙ j) ∙ holds 2 (referenceFits k reference) _ (sym g ∙ h) ∙ holds 1 (kFits k) _ (sym e ∙ f)
+  pub fourth-fails : (n : ℕ) → n ≡ firstBroken (referenceRules k reference) → n ≤ 0 → 4 ≡ firstBroken rules
+  fourth-fails n e h =
+      broken 4 false rest refl ∙ first-hold (referenceRules k reference) (rule 4 false ∷ rest) n (reference-numbered k reference) e h

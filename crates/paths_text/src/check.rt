@@ -12,14 +12,9 @@ ghost use Rattle.paths_text.specs.Checks.{Handed};
 fn refuse_reads(k: u32, reference: &[u8]) -> u32
     ensures { λ r. ⌜ ((rest : List Rule) → r ≡ firstBroken (referenceRules k (now (reference .entry)) ++ (rule 4 false ∷ rest))) ⌝ }
 {
-    if !bio_ids::k_fits(k) {
-        return 1;
-    }
-    if !limits::reference_fits(k, reference) {
-        return 2;
-    }
-    if !limits::reference_bases(reference) {
-        return 3;
+    let refusal = limits::check_reference(k, reference);
+    if refusal > 0 {
+        return refusal;
     }
     4
 }
