@@ -13,15 +13,18 @@ use Rattle.laws.specs.ListLaws.{All, cons, all-mono, all-zip}
 use Rattle.definition.specs.Refusal.{firstBroken}
 use Rattle.definition.specs.Limits.{Input, basesStride}
 use Rattle.definition.specs.Listing.{Row, Answer, refusal, listed, answer}
-use Rattle.definition.specs.Text.{Text, textOf, columnOf, textRules, graphMaxima, searchMaxima, firstLine, refusedLine, printedOf, printed}
+use Rattle.definition.specs.Text.{Text, textOf, columnOf, with, textRules, graphMaxima, searchMaxima, firstLine, refusedLine, printedOf, printed}
 use Rattle.definition.proofs.Demand.{paths-spelled, no-nan, within-bounds}
 use Rattle.definition.proofs.Late.{no-zero}
 use Rattle.list_call.specs.Lent.{toldOf, lentOf}
 use Rattle.list_work.specs.Outcome.{Outputs, Tables, outputsAfter, writtenList, summary}
 use Rattle.list_call.specs.Within.{lengthsOf, Called}
+use Rattle.list_work.specs.Works.{inputFor}
 use Rattle.list_work.specs.declared.ListAnswer.{ListAnswer}
+use Rattle.list_work.specs.declared.Settings as call
 use Rattle.paths_text.specs.Listing.{Columns, Held, one-more, linesFrom, list-prints, list-most}
 use Rattle.paths_text.specs.Lines.{refused-most}
+use Rattle.paths_text.specs.Parts.{part}
 use Rattle.paths_text.specs.Rows.{Sized, held-listed}
 use Rattle.paths_text.specs.Sources.{Ready}
 use Rattle.paths_text.specs.Program.{prints-answer, answer-lent, input-is}
@@ -29,10 +32,13 @@ use Rattle.paths_text.specs.Written.{Wrote}
 use Rattle.paths_text.specs.declared.column.Column.{Column}
 use Rattle.paths_text.specs.declared.column.Column.the-variants as L
 use Rattle.paths_text.specs.declared.source.Source.{Source}
-use Rattle.paths.specs.declared.answer.Checked.{Checked}
-use Rattle.paths.specs.declared.answer.Checked.the-variants as C
-use Rattle.paths.specs.Printing.{Shown, shown-wrote, Answered, CheckSays, check-fine, entries-are, input-whole}
-use Rattle.paths.specs.Asking.{Parted, parted-of, inputHere, Lends, slices-long, k-few, asked-few}
+use Rattle.paths_input.specs.Columns.{columnRead}
+use Rattle.paths_input.specs.Asked.{settingsOf}
+use Rattle.paths_input.specs.Checking.{CheckSays, check-fine}
+use Rattle.paths_input.specs.declared.Checked.{Checked}
+use Rattle.paths_input.specs.declared.Checked.the-variants as C
+use Rattle.paths.specs.Printing.{Shown, shown-wrote, Answered}
+use Rattle.paths.specs.Asking.{Accepted, accepted, inputHere, Lends, slices-long, called-for}
 
 -- ---- the lines of an answer over its columns
 
@@ -174,45 +180,43 @@ module _ (T E : List ℕ) (s : Source) (c : List Float) (o o′ : Outputs) (w w�
               inside = omega arith;
             })
 
-  -- what is printed, for the text and the file
-  pub prints-list : (t : Text) (d : Ready T E s t) → 0 ≡ firstBroken (textRules t) → (input bytes : List ℕ) → textOf input ≡ some t → columnOf bytes ≡ some c
-      → linesOf (o′ .scores) (o′ .closings) (o′ .edges) (o′ .bases) k a ≡ printed input (some bytes)
-  unfolding graphMaxima searchMaxima
-  prints-list t d z input bytes e f =
-      let g : said ≡ answer i [] [] = answer-lent i (toldOf i) (lentOf (lengthsOf 8 o w)) (slices-long s T E c o w lent asked kMost) in
-      lines-are ∙ prints-answer input bytes t c e f z said (g ∙ ap (λ (x : Input). answer x [] []) (input-is t (d .handed) z c))
+  -- they are those of the answer, since the arrays are as long as told
+  pub lines-answer : linesOf (o′ .scores) (o′ .closings) (o′ .edges) (o′ .bases) k a ≡ printedOf (answer i [] [])
+  lines-answer = lines-are ∙ ap printedOf (answer-lent i (toldOf i) (lentOf (lengthsOf 8 o w)) (slices-long s T E c o w lent asked kMost))
+
+-- ---- the call over the arrays, with the settings made
+
+module _ (T E : List ℕ) (s : Source) (c : List Float) (g : call.Settings) (o o′ : Outputs) (w w′ : Tables) (a : ListAnswer) (e : g ≡ settingsOf (s .settings))
+    (h : Called (inputFor g (part (s .reference) (s .past) T) (take (s .ends) E) (part (s .bases) (s .qualities) T) (part (s .qualities) (s .end) T) c) 8 a o o′ w w′)
+    (lent : Lends o w) (x : Accepted T E s) where
+  called : Called (inputHere s T E c) 8 a o o′ w w′
+  called = called-for g s T E c a o o′ w w′ e h
+
+  pub columns-here : length (o′ .scores) ≡ length (o .scores) → length (o′ .closings) ≡ length (o .closings) → length (o′ .edges) ≡ length (o .edges)
+      → length (o′ .bases) ≡ length (o .bases) → a .refusal ≤ 0 → Columns (o′ .scores) (o′ .closings) (o′ .edges) (o′ .bases) (s .settings .k) (a .paths)
+  columns-here = columns-are T E s c o o′ w w′ a called lent (x .asked-few) (x .k-few)
+
+  pub shown-here : (new : List ℕ) (u : ℕ) → Shown new (linesOf (o′ .scores) (o′ .closings) (o′ .edges) (o′ .bases) (s .settings .k) a) u
+      → Shown new (printedOf (answer (inputHere s T E c) [] [])) u
+  shown-here new u y = record { fits = y .fits; is = y .is ∙ lines-answer T E s c o o′ w w′ a called lent (x .asked-few) (x .k-few) }
 
 -- ---- all of it
 
-module _ (T : List ℕ) (n beyond : ℕ) (entries : Column) (column : List Float) (m : ℕ) (e : entries ≡ L.Entries m) (b : beyond ≤ 0)
-    (T₁ T' E : List ℕ) (r : Checked) (q : CheckSays (textOf (take n T)) T₁ E r) (s : Source) (f : r ≡ C.Fine s) (same : T₁ ≡ T')
-    (o o′ : Outputs) (w w′ : Tables) (a : ListAnswer) (h : Called (inputHere s T' E (take m column)) 8 a o o′ w w′) (lent : Lends o w) where
-  fine : (t : Text) × (textOf (take n T) ≡ some t) × (0 ≡ firstBroken (textRules t)) × Ready T' E s t
-  fine = let x = check-fine T₁ E r (textOf (take n T)) s q f in (x .0, x .1, x .2, subst (λ (y : List ℕ). Ready y E s (x .0)) same (x .3))
+module _ (input : Option (List ℕ)) (T E : List ℕ) (r : Checked) (q : CheckSays (with input textOf) T E r) (s : Source) (f : r ≡ C.Fine s) where
+  fine : (t : Text) × (with input textOf ≡ some t) × (0 ≡ firstBroken (textRules t)) × Ready T E s t
+  fine = check-fine T E r (with input textOf) s q f
 
-  few : s .settings .asked ≤ 8
-  few = asked-few (fine .0) (fine .3) (fine .2)
+  pub fine-accepted : Accepted T E s
+  fine-accepted = accepted (fine .0) (fine .3) (fine .2)
 
-  short : s .settings .k ≤ 128
-  short = k-few (fine .0) (fine .3) (fine .2)
-
-  pub answer-columns : length (o′ .scores) ≡ length (o .scores) → length (o′ .closings) ≡ length (o .closings) → length (o′ .edges) ≡ length (o .edges)
-      → length (o′ .bases) ≡ length (o .bases) → a .refusal ≤ 0 → Columns (o′ .scores) (o′ .closings) (o′ .edges) (o′ .bases) (s .settings .k) (a .paths)
-  answer-columns = columns-are T' E s (take m column) o o′ w w′ a h lent few short
-
-  pub answer-shown : (new : List ℕ) (u : ℕ) → Shown new (linesOf (o′ .scores) (o′ .closings) (o′ .edges) (o′ .bases) (s .settings .k) a) u
-      → Answered T n beyond entries column new u
-  answer-shown new u x =
+  pub answer-shown : (entries : Column) (c : List Float) (m : ℕ) → entries ≡ L.Entries m → (new : List ℕ) (u : ℕ)
+      → Shown new (printedOf (answer (inputHere s T E (take m c)) [] [])) u → Answered input (columnRead entries c) new u
+  unfolding graphMaxima searchMaxima
+  answer-shown entries c m e new u x =
       record {
         fits = x .fits;
-        prints = λ input file t i. (let y = entries-are entries m file column i e in
-            x .is
-            ∙ prints-list T' E s (take m column) o o′ w w′ a h lent few short (fine .0) (fine .3) (fine .2) input (y .0)
-            (ap textOf (input-whole T n beyond input b t) ∙ fine .1)
-            (y .2)
-            ∙ ap (printed input) (sym (y .1)));
+        prints = λ file g. x .is
+            ∙ prints-answer input file (fine .0) (take m c) (fine .1) (g ∙ ap (λ (y : Column). columnRead y c) e) (fine .2)
+            (answer (inputHere s T E (take m c)) [] [])
+            (ap (λ (y : Input). answer y [] []) (input-is (fine .0) (fine .3 .handed) (fine .2) (take m c)));
       }
-
--- before the call
-pub ready-parts : (T₁ T' E : List ℕ) (o : Option Text) (r : Checked) → CheckSays o T₁ E r → (s : Source) → r ≡ C.Fine s → T₁ ≡ T' → Parted T' E s
-ready-parts T₁ T' E o r q s f same = let x = check-fine T₁ E r o s q f in subst (λ (y : List ℕ). Parted y E s) same (parted-of (x .3))

@@ -25,39 +25,14 @@ use Rattle.paths_text.specs.Sources.{Ready}
 use Rattle.paths_text.specs.Program.{asked-most}
 use Rattle.paths_text.specs.declared.header.Settings as text
 use Rattle.paths_text.specs.declared.source.Source.{Source}
+use Rattle.paths_input.specs.Checking.{Parted, parted-of}
+use Rattle.paths_input.specs.Asked.{settingsOf}
 
--- the settings of the text, with the program's maxima
-abbrev pub settingsOf : text.Settings → call.Settings
-settingsOf s =
-    record {
-      k = s .k;
-      quality = s .quality;
-      asked = s .asked;
-      threshold = s .threshold;
-      recovery = s .recovery;
-      graph = record { vertices = 128; edges = 256; nodes = 256 };
-      search = record { «path_edges» = 128; active = 8; pushes = 128 };
-    }
-
--- the parts lie within the text and the ends
-pub record Parted (T E : List ℕ) (s : Source) : Type 0 where
-  pub reference-rises : s .reference ≤ s .past
-  pub bases-behind : s .past ≤ s .bases
-  pub bases-rise : s .bases ≤ s .qualities
-  pub qualities-rise : s .qualities ≤ s .end
-  pub inside : s .end ≤ length T
-  pub ends-inside : s .ends ≤ length E
-
-pub parted-of : {T E : List ℕ} {s : Source} {t : Text} → Ready T E s t → Parted T E s
-parted-of d =
-    record {
-      reference-rises = d .reference-rises;
-      bases-behind = d .bases-behind;
-      bases-rise = d .bases-rise;
-      qualities-rise = d .qualities-rise;
-      inside = d .inside;
-      ends-inside = d .ends-inside;
-    }
+-- what was read and not refused: its parts, and k and the paths asked
+pub record Accepted (T E : List ℕ) (s : Source) : Type 0 where
+  pub parted : Parted T E s
+  pub k-few : s .settings .k ≤ 128
+  pub asked-few : s .settings .asked ≤ 8
 
 -- the input of the call for the list
 abbrev pub inputHere : Source → List ℕ → List ℕ → List Float → Input
@@ -85,6 +60,51 @@ pub record Lends (o : Outputs) (w : Tables) : Type 0 where
   pub w-order : 256 ≤ length (w .order)
   pub w-marks : 256 ≤ length (w .marks)
   pub w-walks : 1024 ≤ length (w .walks)
+
+-- the arrays have these lengths
+pub lends-arrays : (o : Outputs) (w : Tables)
+    → length (o .scores) ≡ 8
+    → length (o .closings) ≡ 8
+    → length (o .edges) ≡ 8
+    → length (o .bases) ≡ 2048
+    → length (o .sequences) ≡ 1024
+    → length (o .places) ≡ 1024
+    → length (w .vertices) ≡ 1536
+    → length (w .edges) ≡ 1536
+    → length (w .index) ≡ 256
+    → length (w .nodes) ≡ 1285
+    → length (w .targets) ≡ 256
+    → length (w .paths) ≡ 1296
+    → length (w .scores) ≡ 144
+    → length (w .active) ≡ 1152
+    → length (w .queue) ≡ 128
+    → length (w .closed) ≡ 8
+    → length (w .order) ≡ 256
+    → length (w .marks) ≡ 256
+    → length (w .walks) ≡ 1024
+    → Lends o w
+lends-arrays o w e1 e2 e3 e4 e5 e6 e7 e8 e9 e10 e11 e12 e13 e14 e15 e16 e17 e18 e19 =
+    record {
+      scores = omega (arith, e1);
+      closings = omega (arith, e2);
+      edges = omega (arith, e3);
+      bases = omega (arith, e4);
+      sequences = omega (arith, e5);
+      places = omega (arith, e6);
+      w-vertices = omega (arith, e7);
+      w-edges = omega (arith, e8);
+      w-index = omega (arith, e9);
+      w-nodes = omega (arith, e10);
+      w-targets = omega (arith, e11);
+      w-paths = omega (arith, e12);
+      w-scores = omega (arith, e13);
+      w-active = omega (arith, e14);
+      w-queue = omega (arith, e15);
+      w-closed = omega (arith, e16);
+      w-order = omega (arith, e17);
+      w-marks = omega (arith, e18);
+      w-walks = omega (arith, e19);
+    }
 
 max-le : (a b c : ℕ) → a ≤ c → b ≤ c → max a b ≤ c
 max-le a b c h k = omega arith
@@ -125,18 +145,18 @@ module _ (s : Source) (T E : List ℕ) (c : List Float) (o : Outputs) (w : Table
       ∙ no-short (n * (s .settings .k + 128)) (length (o .bases)) _ _ (omega (arith, l .bases))
       ∙ no-short n 8 _ _ asked-few)
 
--- k and the paths asked of an accepted text
+-- a text that no rule refuses
 module _ {T E : List ℕ} {s : Source} (t : Text) (d : Ready T E s t) (z : 0 ≡ firstBroken (textRules t)) where
-  pub k-few : s .settings .k ≤ 128
+  k-most-here : s .settings .k ≤ 128
   unfolding textRules
-  k-few =
+  k-most-here =
       let p = none-broken (textRules t) (omega arith, (omega arith, (omega arith, (omega arith, (omega arith, tt))))) (sym z) in
       let e : s .settings .k ≡ sizeOf (t .header .k) = ap (λ (x : text.Settings). x .k) (d .handed .settings) in
       let m = k-most (sizeOf (t .header .k)) (sym (k-within (t .header .k)) ∙ p .0) in
       omega arith
 
-  pub asked-few : s .settings .asked ≤ 8
-  asked-few = asked-most t (d .handed) z
+  pub accepted : Accepted T E s
+  accepted = record { parted = parted-of d; k-few = k-most-here; asked-few = asked-most t (d .handed) z }
 
 -- the call with the settings made is the call for the source
 pub called-for : (a : call.Settings) (s : Source) (T E : List ℕ) (c : List Float) (r : ListAnswer) (o o′ : Outputs) (w w′ : Tables) → a ≡ settingsOf (s .settings)

@@ -1,46 +1,28 @@
--- What was read, as the code holds it, and what stands in the buffer at the end.
+-- What stands in the buffer at the end.
 use mathlib.Core.Path.{_≡_, refl, sym, ap, _∙_}
 use mathlib.Core.Logic.{_⊎_, inl, inr}
+use mathlib.Core.Bool.{Bool, true, false, _&&_}
 use mathlib.Core.List.{List, _++_}
 use mathlib.Core.Option.{Option, none, some}
-use Prim.Native.Nat.{ℕ, zero, suc, _+_, _<_, _≤_}
+use Prim.Native.Nat.{ℕ, _+_, _%_, _<_, _≤_}
 use native.Mathlib.Omega.{arith}
-use lib.ListN.{length, take, drop, length-append, length-drop}
-use lib.Seq.{take-append-seam, length-take-le}
+use lib.ListN.{length, take, drop}
+use lib.Seq.{take-append-seam}
 use lib.Ieee.{Float}
+use lib.Dec.{eqb}
 use borrow.Author.Tests.{lt-leb}
 use Rattle.definition.specs.Refusal.{firstBroken}
 use Rattle.definition.specs.Calls.{writtenAt}
 use Rattle.definition.specs.Text.{Text, textOf, columnOf, with, textRules, refusedLine, printed}
 use Rattle.paths_text.specs.Written.{Wrote}
-use Rattle.paths_text.specs.Entries.{Decoded}
 use Rattle.paths_text.specs.Lines.{refused-most}
-use Rattle.paths_text.specs.Sources.{Ready, TextSays}
-use Rattle.paths_text.specs.Program.{prints-no-text, prints-no-file, prints-no-column, prints-refused}
+use Rattle.paths_text.specs.Program.{prints-no-text, prints-no-column, prints-refused}
 use Rattle.paths_text.specs.declared.column.Column.{Column}
 use Rattle.paths_text.specs.declared.column.Column.the-variants as L
-use Rattle.paths_text.specs.declared.source.Source.{Source}
-use Rattle.paths_text.specs.declared.source.Read.{Read}
-use Rattle.paths_text.specs.declared.source.Read.the-variants as R
-use Rattle.paths.specs.declared.answer.Checked.{Checked}
-use Rattle.paths.specs.declared.answer.Checked.the-variants as C
-
--- ---- standard input and the file
-
--- the first n bytes are all of the input; or more bytes were seen behind 8,192
-abbrev pub Taken : List ℕ → ℕ → ℕ → List ℕ → Type 0
-Taken T n zero input = input ≡ take n T
-Taken T n (suc b) input = 8192 < length input
-
--- the first m entries are those of the file; or it is missing, ragged or too long
-abbrev pub InFile : Option (List ℕ) → Column → List Float → Type 0
-InFile file (L.Entries m) c = (bytes : List ℕ) × (file ≡ some bytes) × (columnOf bytes ≡ some (take m c))
-InFile file L.Malformed c = with file columnOf ≡ none
-
--- as many entries as there are places for
-abbrev pub EntriesFit : Column → ℕ → Type 0
-EntriesFit (L.Entries m) size = m ≤ size
-EntriesFit L.Malformed size = Unit {0}
+use Rattle.paths_input.specs.Columns.{columnRead, EntriesFit}
+use Rattle.paths_input.specs.Checking.{CheckSays, refusalOf, check-number}
+use Rattle.paths_input.specs.declared.Checked.{Checked}
+use Rattle.paths_input.specs.declared.Checked.the-variants as C
 
 -- ---- the buffer
 
@@ -68,153 +50,66 @@ shown-refused old new n r h w = shown-wrote old new (refusedLine n) r (let m = r
 pub shown-as : {new : List ℕ} {n m r : ℕ} → n ≡ m → Shown new (refusedLine n) r → Shown new (refusedLine m) r
 shown-as {new} {n} {m} {r} e h = record { fits = h .fits; is = h .is ∙ ap refusedLine e }
 
--- all that is promised of what is printed
-pub record Answered (T : List ℕ) (n beyond : ℕ) (entries : Column) (c : List Float) (new : List ℕ) (r : ℕ) : Type 0 where
+-- what `answer` leaves: what the definition prints for the input, and for every file of that column
+pub record Answered (input : Option (List ℕ)) (column : Option (List Float)) (new : List ℕ) (r : ℕ) : Type 0 where
   pub fits : r ≤ 2491
-  pub prints : (input : List ℕ) (file : Option (List ℕ)) → Taken T n beyond input → InFile file entries c → take r new ≡ printed input file
+  pub prints : (file : Option (List ℕ)) → with file columnOf ≡ column → take r new ≡ printed input file
+
+-- what the program hands on to be written: what the definition prints for some input and file, since no contract says what C reads
+pub record Printed (new : List ℕ) (r : ℕ) : Type 0 where
+  pub fits : r ≤ 2491
+  pub input : Option (List ℕ)
+  pub file : Option (List ℕ)
+  pub is : take r new ≡ printed input file
+
+pub answered-prints : (input file : Option (List ℕ)) (column : Option (List Float)) (new : List ℕ) (r : ℕ) → Answered input column new r → with file columnOf ≡ column
+    → Printed new r
+answered-prints input file column new r a e = record { fits = a .fits; input = input; file = file; is = a .prints file e }
 
 -- ---- 14, and what is refused by the text alone
 
-long-text : (input : List ℕ) → 8192 < length input → textOf input ≡ none
-unfolding textOf
-long-text input h = rw (lt-leb (length input) 8192 h, textOf)
-
-module _ {T : List ℕ} {n beyond : ℕ} {entries : Column} {c : List Float} {new : List ℕ} {r : ℕ} where
-  pub no-column : entries ≡ L.Malformed → Shown new (refusedLine 14) r → Answered T n beyond entries c new r
+module _ (input : Option (List ℕ)) (entries : Column) (c : List Float) (new : List ℕ) (r : ℕ) where
+  pub no-column : entries ≡ L.Malformed → Shown new (refusedLine 14) r → Answered input (columnRead entries c) new r
   no-column e h =
+      record { fits = h .fits; prints = λ file f. h .is ∙ prints-no-column input file (f ∙ ap (λ (x : Column). columnRead x c) e) }
+
+  pub check-refused : (m k : ℕ) (T E : List ℕ) (x : Checked) → entries ≡ L.Entries m → CheckSays (with input textOf) T E x → x ≡ C.Refused k
+      → Shown new (refusedLine (refusalOf x)) r → Answered input (columnRead entries c) new r
+  check-refused m k T E x e q f h =
       record {
         fits = h .fits;
-        prints = λ input file t f. h .is ∙ go input file ((rw e at f));
+        prints = λ file g. line ∙ go file (g ∙ ap (λ (y : Column). columnRead y c) e) (check-number T E x (with input textOf) k q f);
       }
     where
-      go : (input : List ℕ) (file : Option (List ℕ)) → with file columnOf ≡ none → refusedLine 14 ≡ printed input file
-      go input none e = prints-no-file input
-      go input (some bytes) e = prints-no-column input bytes e
+      line : take r new ≡ refusedLine k
+      line = h .is ∙ ap (λ (y : Checked). refusedLine (refusalOf y)) f
 
-  pub goes-on : 0 < beyond → Shown new (refusedLine 14) r → Answered T n beyond entries c new r
-  goes-on l h =
-      record {
-        fits = h .fits;
-        prints = λ input file t f. h .is ∙ prints-no-text input file (long-text input (go beyond l input t));
-      }
-    where
-      go : (b : ℕ) → 0 < b → (input : List ℕ) → Taken T n b input → 8192 < length input
-      go zero l input t = absurd (omega arith)
-      go (suc b) l input t = t
-
--- what `check_input` answers
-abbrev pub CheckSays : Option Text → List ℕ → List ℕ → Checked → Type 0
-CheckSays none T E r = r ≡ C.Refused 14
-CheckSays (some t) T E r =
-    ((n : ℕ) × (r ≡ C.Refused n) × (n ≡ firstBroken (textRules t)) × (0 < n))
-    ⊎ ((s : Source) × (r ≡ C.Fine s) × (0 ≡ firstBroken (textRules t)) × Ready T E s t)
-
-abbrev pub refusalOf : Checked → ℕ
-refusalOf (C.Fine s) = 0
-refusalOf (C.Refused n) = n
-
--- ---- the part of the buffer that was read
-
-module _ (T₁ T : List ℕ) (n : ℕ) (h : n ≤ length T) (k : length T₁ ≡ length (take n T)) where
-  whole : length T₁ ≡ n
-  whole = k ∙ length-take-le n T h
-
-  pub text-long : length (T₁ ++ drop n T) ≡ length T
-  text-long = let e = whole in let a = length-append T₁ (drop n T) in let d = length-drop n T in omega arith
-
-  pub text-same : T₁ ≡ take n (T₁ ++ drop n T)
-  text-same = sym (ap (λ (i : ℕ). take i (T₁ ++ drop n T)) (sym whole) ∙ take-append-seam T₁ (drop n T))
-
--- a column that was read has a place for each entry
-pub decoded-fits : (o : Option (List Float)) (old now : List Float) (r : Column) → Decoded o old now r → length now ≡ length old → length old ≡ 512 → EntriesFit r 512
-unfolding writtenAt
-decoded-fits none old now r q k l = let e = q .0 in rw e tt
-decoded-fits (some es) old now r q k l =
-    let e = q .0 in
-    let a = length-append es (drop (0 + length es) old) in
-    let f : length now ≡ length (es ++ drop (0 + length es) old) = ap length (q .1) in
-    let m : length es ≤ 512 = omega arith in
-    rw e m
-
--- ---- the text read
-
-module _ (T T' E E' : List ℕ) (r : Read) where
-  pub input-none : (o : Option Text) → TextSays o T T' E E' r → r ≡ R.Malformed → CheckSays o T' E' (C.Refused 14)
-  input-none none q e = refl
-  input-none (some t) q e =
-      let f : R.Source (q .0) ≡ R.Malformed = sym (q .1) ∙ e in
-      let z : _≡_ {A = ℕ} 0 1 = cc in
-      absurd (omega arith)
-
-  module _ (s : Source) (e : r ≡ R.Source s) where
-    pub input-some : (o : Option Text) → TextSays o T T' E E' r → (t : Text) × (o ≡ some t) × Ready T' E' s t
-    input-some none q = let f : R.Source s ≡ R.Malformed = sym e ∙ q .0 in let z : _≡_ {A = ℕ} 0 1 = cc in absurd (omega arith)
-    input-some (some t) q =
-        let f : R.Source s ≡ R.Source (q .0) = sym e ∙ q .1 in
-        let g : s ≡ q .0 = cc in
-        (t, refl, rw g (q .2))
-
-    pub input-refused : (o : Option Text) (n : ℕ) → TextSays o T T' E E' r → ((t : Text) → Ready T' E' s t → n ≡ firstBroken (textRules t)) → 0 < n
-        → CheckSays o T' E' (C.Refused n)
-    input-refused o n q f h = let x = input-some o q in let g = x .1 in rw g (inl (n, refl, f (x .0) (x .2), h))
-
-    pub input-fine : (o : Option Text) (n : ℕ) → TextSays o T T' E E' r → ((t : Text) → Ready T' E' s t → n ≡ firstBroken (textRules t)) → n ≤ 0
-        → CheckSays o T' E' (C.Fine s)
-    input-fine o n q f h =
-        let x = input-some o q in
-        let g = x .1 in
-        let z : 0 ≡ firstBroken (textRules (x .0)) = (let y = f (x .0) (x .2) in omega arith) in
-        rw g (inr (s, refl, z, x .2))
-
--- ---- the text checked
-
-pub entries-fit : (e : Column) (m size : ℕ) → EntriesFit e size → e ≡ L.Entries m → m ≤ size
-entries-fit e m size h f = rw f at h
-
--- the entries are those of the file
-pub entries-are : (e : Column) (m : ℕ) (file : Option (List ℕ)) (c : List Float) → InFile file e c → e ≡ L.Entries m
-    → (bytes : List ℕ) × (file ≡ some bytes) × (columnOf bytes ≡ some (take m c))
-entries-are e m file c h f = rw f at h
-
--- the input is what was read
-pub input-whole : (T : List ℕ) (n b : ℕ) (input : List ℕ) → b ≤ 0 → Taken T n b input → input ≡ take n T
-input-whole T n zero input h t = t
-input-whole T n (suc b) input h t = absurd (omega arith)
-
-module _ (T' E' : List ℕ) (r : Checked) where
-  -- what was refused
-  check-number : (o : Option Text) (n : ℕ) → CheckSays o T' E' r → r ≡ C.Refused n
-      → ((o ≡ none) × (n ≡ 14)) ⊎ ((t : Text) × (o ≡ some t) × (n ≡ firstBroken (textRules t)) × (0 < n))
-  check-number none n q e = let f : C.Refused n ≡ C.Refused 14 = sym e ∙ q in let g : n ≡ 14 = cc in inl (refl, g)
-  check-number (some t) n (inl q) e =
-      let f : C.Refused n ≡ C.Refused (q .0) = sym e ∙ q .1 in
-      let g : n ≡ q .0 = cc in
-      inr (t, refl, g ∙ q .2, (let h = q .3 in omega arith))
-  check-number (some t) n (inr q) e = let f : C.Refused n ≡ C.Fine (q .0) = sym e ∙ q .1 in let z : _≡_ {A = ℕ} 0 1 = cc in absurd (omega arith)
-
-  -- what was not
-  pub check-fine : (o : Option Text) (s : Source) → CheckSays o T' E' r → r ≡ C.Fine s → (t : Text) × (o ≡ some t) × (0 ≡ firstBroken (textRules t)) × Ready T' E' s t
-  check-fine none s q e = let f : C.Fine s ≡ C.Refused 14 = sym e ∙ q in let z : _≡_ {A = ℕ} 0 1 = cc in absurd (omega arith)
-  check-fine (some t) s (inl q) e = let f : C.Fine s ≡ C.Refused (q .0) = sym e ∙ q .1 in let z : _≡_ {A = ℕ} 0 1 = cc in absurd (omega arith)
-  check-fine (some t) s (inr q) e =
-      let f : C.Fine s ≡ C.Fine (q .0) = sym e ∙ q .1 in
-      let g : s ≡ q .0 = cc in
-      (t, refl, q .2, rw g (q .3))
-
-  pub check-refused : (T : List ℕ) (n beyond : ℕ) (entries : Column) (c : List Float) (new : List ℕ) (u m k : ℕ) → entries ≡ L.Entries m → beyond ≤ 0
-      → CheckSays (textOf (take n T)) T' E' r → r ≡ C.Refused k → Shown new (refusedLine (refusalOf r)) u → Answered T n beyond entries c new u
-  check-refused T n beyond entries c new u m k e b q f h =
-      record {
-        fits = h .fits;
-        prints = λ input file t i. line ∙ go input file (input-whole T n beyond input b t) (entries-are entries m file c i e) (check-number (textOf (take n T)) k q f);
-      }
-    where
-      line : take u new ≡ refusedLine k
-      line = h .is ∙ ap (λ (x : Checked). refusedLine (refusalOf x)) f
-
-      go : (input : List ℕ) (file : Option (List ℕ)) → input ≡ take n T → (bytes : List ℕ) × (file ≡ some bytes) × (columnOf bytes ≡ some (take m c))
-          → ((textOf (take n T) ≡ none) × (k ≡ 14)) ⊎ ((t : Text) × (textOf (take n T) ≡ some t) × (k ≡ firstBroken (textRules t)) × (0 < k))
+      go : (file : Option (List ℕ)) → with file columnOf ≡ some (take m c)
+          → ((with input textOf ≡ none) × (k ≡ 14)) ⊎ ((t : Text) × (with input textOf ≡ some t) × (k ≡ firstBroken (textRules t)) × (0 < k))
           → refusedLine k ≡ printed input file
-      go input file w i (inl x) = ap refusedLine (x .1) ∙ prints-no-text input file (ap textOf w ∙ x .0)
-      go input file w i (inr x) =
-          prints-refused input (i .0) (x .0) (take m c) (ap textOf w ∙ x .1) (i .2) k (x .2) (x .3) ∙ ap (printed input) (sym (i .1))
+      go file g (inl y) = ap refusedLine (y .1) ∙ prints-no-text input file (y .0)
+      go file g (inr y) = prints-refused input file (y .0) (take m c) (y .1) g k (y .2) (y .3)
+
+-- there is a place for each entry
+pub entries-within : (e : Column) (m size : ℕ) → EntriesFit e 512 → e ≡ L.Entries m → 512 ≤ size → m ≤ size
+entries-within e m size h f l = let k : m ≤ 512 = (rw f at h) in omega arith
+
+-- ---- an input or a file longer than the buffer prints what one prints that could not be read whole, so that one answer may stand for both
+
+long-text : (bytes : List ℕ) → 8192 < length bytes → textOf bytes ≡ none
+unfolding textOf
+long-text bytes h = rw (lt-leb (length bytes) 8192 h, textOf)
+
+pub longer-text : (bytes : List ℕ) (file : Option (List ℕ)) → 8192 < length bytes → printed (some bytes) file ≡ printed none file
+longer-text bytes file h = sym (prints-no-text (some bytes) file (long-text bytes h)) ∙ prints-no-text none file refl
+
+and-false : (b : Bool) → (b && false) ≡ false
+and-false true = refl
+and-false false = refl
+
+long-column : (bytes : List ℕ) → 8192 < length bytes → columnOf bytes ≡ none
+unfolding columnOf
+long-column bytes h = rw (lt-leb (length bytes) 4096 (omega arith), and-false (eqb (length bytes % 8) 0), columnOf)
+
+pub longer-file : (input : Option (List ℕ)) (bytes : List ℕ) → 8192 < length bytes → printed input (some bytes) ≡ printed input none
+longer-file input bytes h = sym (prints-no-column input (some bytes) (long-column bytes h)) ∙ prints-no-column input none refl

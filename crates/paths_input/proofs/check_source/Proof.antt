@@ -2,8 +2,8 @@
 use mathlib.Core.Path.{sym}
 use lib.Seq.{length-take-le}
 use borrow.Author.Needs.{needs}
-use Rattle.paths.proofs.answer.check_source.Statement.{statement}
-use Rattle.paths.proofs.answer.check_source.Tie as tie
+use Rattle.paths_input.proofs.check_source.Statement.{statement}
+use Rattle.paths_input.proofs.check_source.Tie as tie
 
 sub-check-text : tie.Need-sub-check-text
 sub-check-text c = search needs

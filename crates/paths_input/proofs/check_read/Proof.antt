@@ -1,10 +1,10 @@
--- `check_input` meets its contract. Assumes nothing.
+-- `check_read` meets its contract. Assumes nothing.
 use Rattle.definition.specs.Text.{textOf}
-use Rattle.paths.specs.Printing.{input-none, input-some, input-refused, input-fine}
-use Rattle.paths.specs.Asking.{parted-of}
+use Rattle.paths_input.specs.Checking.{input-none, input-some, input-refused, input-fine}
+use Rattle.paths_input.specs.Checking.{parted-of}
 use borrow.Author.Needs.{needs}
-use Rattle.paths.proofs.answer.check_input.Statement.{statement}
-use Rattle.paths.proofs.answer.check_input.Tie as tie
+use Rattle.paths_input.proofs.check_read.Statement.{statement}
+use Rattle.paths_input.proofs.check_read.Tie as tie
 
 read-text-requires : tie.Need-read-text-requires
 read-text-requires c κs = search needs
@@ -45,8 +45,8 @@ same-length-6 c = search needs
 returns-3 : tie.Need-returns-3
 returns-3 c = input-fine (c .before .before .before .before .before .before .before .before .before .before .before .before .before .before .before .before .args .text .now) (c .before .before .before .before .before .before .before .before .before .before .before .read-text .last .0) (c .before .before .before .before .before .before .before .before .before .before .before .before .before .before .before .before .args .ends .now) (c .before .before .before .before .before .before .before .before .before .before .before .read-text .last .1 .0) (c .before .before .before .before .before .before .before .before .before .before .before .read-text .result) _ (c .before .before .before .before .before .read .given .1) (textOf (c .before .before .before .before .before .before .before .before .before .before .before .before .before .before .before .before .args .text .now)) _ (c .before .before .before .before .before .before .before .before .before .before .before .read-text .ensures) (c .before .check-source .ensures) (c .if1 .left)
 
-pub check-input-spec : {M : Type 1} → statement M
-check-input-spec =
+pub check-read-spec : {M : Type 1} → statement M
+check-read-spec =
     tie.close
     (tie.spec
     read-text-requires
