@@ -1,4 +1,2 @@
-pub mod Agree
 pub mod Lengths
 pub mod Places
-pub mod Scores

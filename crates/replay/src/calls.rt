@@ -1,12 +1,12 @@
 // The calls, each made as told and compared with the answer told.
-use crate::agree::LENT;
-use crate::agree::left;
-use crate::agree::same_bytes;
-use crate::agree::written;
 use crate::numbers::behind;
 use crate::numbers::field;
 use crate::numbers::least;
 use crate::numbers::wide;
+use agreement::agree::LENT;
+use agreement::agree::left;
+use agreement::agree::same_bytes;
+use agreement::agree::written;
 use graph_call::GraphAnswer;
 use limits::GraphMaxima;
 use limits::LengthsTold;

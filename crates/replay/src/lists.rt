@@ -1,9 +1,4 @@
 // The calls for the list, each made as told and compared with the answer told.
-use crate::agree::LENT;
-use crate::agree::LENT_BYTE;
-use crate::agree::LENT_SLOT;
-use crate::agree::left;
-use crate::agree::slots_left;
 use crate::calls::graph_maxima;
 use crate::calls::lent;
 use crate::calls::value_left;
@@ -17,8 +12,13 @@ use crate::numbers::wide;
 use crate::rows::bases_agree;
 use crate::rows::columns_agree;
 use crate::rows::origins_agree;
-use crate::scores::LENT_BITS;
-use crate::scores::scores_left;
+use agreement::agree::LENT;
+use agreement::agree::LENT_BYTE;
+use agreement::agree::LENT_SLOT;
+use agreement::agree::left;
+use agreement::agree::slots_left;
+use agreement::scores::LENT_BITS;
+use agreement::scores::scores_left;
 use limits::SearchMaxima;
 use list_call::Lent;
 use list_call::list_columns;

@@ -1,12 +1,10 @@
 // Replays answers of the oracle through the proved calls; vectors/README.md tells the form of the data.
-mod agree;
 mod calls;
 mod cases;
 mod column;
 mod lists;
 mod numbers;
 mod rows;
-mod scores;
 
 fn print_part(name: &[u8], n: u64) {
     io::write_all(1, name);

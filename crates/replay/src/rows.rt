@@ -1,16 +1,16 @@
 // Whether the rows of a list are as told. A row told is a list: the halves of its score, closing number, edges, flag, then two lists, its bases and its origins.
-use crate::agree::all_are;
-use crate::agree::bytes_untouched;
-use crate::agree::bytes_written;
-use crate::agree::untouched;
 use crate::numbers::Part;
 use crate::numbers::field;
 use crate::numbers::list_at;
 use crate::numbers::wide;
-use crate::scores::joined;
-use crate::scores::score_at;
-use crate::scores::score_is;
-use crate::scores::scores_untouched;
+use agreement::agree::all_are;
+use agreement::agree::bytes_untouched;
+use agreement::agree::bytes_written;
+use agreement::agree::untouched;
+use agreement::scores::joined;
+use agreement::scores::score_at;
+use agreement::scores::score_is;
+use agreement::scores::scores_untouched;
 ghost use mathlib.Core.Path.{_≡_};
 ghost use mathlib.Core.Bool.{true};
 ghost use Prim.Native.Nat.{ℕ, _+_, _<_, _≤_};
