@@ -11,7 +11,8 @@ use Rattle.definition.specs.Score.{columnScoring}
 use Rattle.definition.specs.Building.{built}
 use Rattle.definition.specs.Listing.{Row, Answer, refusal, listed, afterBuild}
 use Rattle.definition.specs.Calls.{writtenAt, writtenRows, ListAnswer}
-use Rattle.list_work.specs.declared.ListAnswer as declared
+use Rattle.list_interface.specs.declared.ListAnswer as declared
+use Rattle.list_interface.specs.Answers.{refusedAnswer}
 
 -- ---- the output
 
@@ -64,9 +65,6 @@ pub record Listed (i : Input) (o : Answer Float) (r : declared.ListAnswer) (old 
   pub outputs : new ≡ outputsAfter i o old
 
 -- a refused answer
-abbrev pub refusedAnswer : ℕ → declared.ListAnswer
-refusedAnswer n = record { refusal = n; paths = 0; pushes = 0; mark = 0 }
-
 pub listed-refused : (i : Input) (o : Answer Float) (n : ℕ) (r : declared.ListAnswer) (old : Outputs) → o ≡ refusal n → r ≡ refusedAnswer n → Listed i o r old old
 unfolding summary outputsAfter
 listed-refused i o n r old e f =

@@ -41,25 +41,16 @@ use Rattle.path_list.specs.List as list
 use Rattle.path_list.specs.Ended.{ended-listable, ended-shows}
 use Rattle.graph_work.specs.declared.Raise.{Raise}
 use Rattle.graph_work.specs.Raise.{RaisedAt, raised-built}
-use Rattle.list_work.specs.declared.ListAnswer.{ListAnswer}
-use Rattle.list_work.specs.declared.Settings.{Settings}
-use Rattle.list_work.specs.Outcome.{Outputs, outputsOf, Tables, writtenList, Listed, found, refusedAnswer, listed-refused, listed-done, listed-none}
+use Rattle.list_interface.specs.declared.ListAnswer.{ListAnswer}
+use Rattle.list_interface.specs.declared.Settings.{Settings}
+use Rattle.list_interface.specs.Answers.{refusedAnswer, foundAnswer, Told32}
+use Rattle.list_work.specs.Outcome.{Outputs, outputsOf, Tables, writtenList, Listed, found, listed-refused, listed-done, listed-none}
 use Rattle.list_work.specs.Works.{inputFor, Outs, checked-rules, active-some}
-use Rattle.list_work.specs.Chains.{Chains, Chained, Small}
+use Rattle.search_setup.specs.Chains.{Chains, Chained, Small}
 
 abbrev pub searchRefusal : Search → ℕ
 searchRefusal (Paths p) = 0
 searchRefusal (Refused n) = n
-
--- the answer of a search that has ended
-abbrev pub foundAnswer : Progress → ListAnswer
-foundAnswer p = record { refusal = 0; paths = p .closed; pushes = p .pushes; mark = p .mark }
-
--- its numbers fit the fields of the answer
-pub record Told32 (p : Progress) : Type 0 where
-  pub closed : p .closed < 2 ^ 32
-  pub pushes : p .pushes < 2 ^ 32
-  pub mark : p .mark < 2 ^ 32
 
 -- ---- what is asked: a raised graph in tables that end behind the symbolic edge, and a path asked
 

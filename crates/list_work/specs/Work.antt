@@ -18,8 +18,9 @@ use Rattle.graph_work.specs.declared.Raise.{Raise}
 use Rattle.graph_work.specs.declared.Raised.{Raised}
 use Rattle.graph_work.specs.declared.Raised.the-variants.{Graph, Refused}
 use Rattle.graph_work.specs.Raise.{raiseRefusal, Raises, RaisedAt, RaisedOf, raised-built}
-use Rattle.list_work.specs.declared.ListAnswer.{ListAnswer}
-use Rattle.list_work.specs.Outcome.{Outputs, Tables, tablesOf, Listed, found, refusedAnswer, listed-refused}
+use Rattle.list_interface.specs.declared.ListAnswer.{ListAnswer}
+use Rattle.list_interface.specs.Answers.{refusedAnswer}
+use Rattle.list_work.specs.Outcome.{Outputs, Tables, tablesOf, Listed, found, listed-refused}
 use Rattle.list_work.specs.Works.{Works, checked-rules, checked-maxima}
 use Rattle.list_work.specs.Search.{Searches, none-asked}
 

@@ -14,7 +14,7 @@ use Rattle.definition.specs.Limits.{Input, graphMaximaFit, searchMaximaFit, set
 use Rattle.definition.proofs.Checks.{Checked}
 use Rattle.limits.specs.Handed.{graphMaximaOf, searchMaximaOf, sampleOf, inputOf}
 use Rattle.limits.specs.Workspaces.{vertexTable, edgeTable, kmerIndex, nodeTable, targetTable, pathTable, pathScores, activeNodes, waitingQueue, closedPaths, pivotalOrder, pivotalMarks, pathWalks}
-use Rattle.list_work.specs.declared.Settings.{Settings}
+use Rattle.list_interface.specs.declared.Settings.{Settings}
 use Rattle.list_work.specs.Outcome.{Outputs, Tables}
 
 -- what the call is handed, as the definition has it

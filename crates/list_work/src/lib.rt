@@ -1,56 +1,21 @@
 // The work of the call for the list: the graph, its trees, the search and the list in columns, over tables of just the lengths told.
-use assembly::link_symbolic_edge;
-use fork_offers::least_total;
 use graph_work::Raise;
 use graph_work::Raised;
 use graph_work::raise_graph;
 use graph_work::raise_refusal;
 use junction_kbest::Search;
 use junction_kbest::find_junction_best_haplotypes;
-use limits::GraphMaxima;
-use limits::SearchMaxima;
+use list_interface::ListAnswer;
+use list_interface::Settings;
+use list_interface::found_answer;
+use list_interface::refused;
 use path_list::write_list;
-use search_ground::chain_tables;
-use search_state::Progress;
-use search_state::Setting;
+use search_setup::lay_chains;
+use search_setup::search_setting;
 ghost use mathlib.Core.Path.{_≡_};
-ghost use Rattle.list_work.specs.Outcome.{refusedAnswer, found, Listed, outputsOf, tablesOf};
+ghost use Rattle.list_work.specs.Outcome.{found, Listed, outputsOf, tablesOf};
 ghost use Rattle.list_work.specs.Works.{inputFor, Works};
-ghost use Rattle.list_work.specs.Chains.{Chains, Chained, Small, SettingFor};
-ghost use Rattle.list_work.specs.Search.{searchRefusal, foundAnswer, Told32, Seeks, Sought};
-
-// What a run is asked for: k, the minimum quality, the number of paths, the threshold, recovery, and the maxima.
-#[repr(C)]
-pub struct Settings {
-    pub k: u32,
-    pub quality: u8,
-    pub asked: u32,
-    pub threshold: i32,
-    pub recovery: bool,
-    pub graph: GraphMaxima,
-    pub search: SearchMaxima,
-}
-
-// The answer of the call for the list: a refusal, or how many paths are listed, the pushes made, and the waiting mark.
-#[repr(C)]
-pub struct ListAnswer {
-    pub refusal: u32,
-    pub paths: u32,
-    pub pushes: u32,
-    pub mark: u32,
-}
-
-// A refused answer holds 0 in every other field.
-pub fn refused(number: u32) -> ListAnswer
-    ensures { λ r. ⌜ r ≡ refusedAnswer number ⌝ }
-{
-    ListAnswer {
-        refusal: number,
-        paths: 0,
-        pushes: 0,
-        mark: 0,
-    }
-}
+ghost use Rattle.list_work.specs.Search.{searchRefusal, Seeks, Sought};
 
 fn search_refusal(r: Search) -> u32
     ensures { λ n. ⌜ n ≡ searchRefusal r ⌝ }
@@ -61,53 +26,7 @@ fn search_refusal(r: Search) -> u32
     }
 }
 
-// The answer of a search that has ended.
-fn found_answer(p: Progress) -> ListAnswer
-    requires { ⌜ Told32 p ⌝ }
-    ensures { λ r. ⌜ r ≡ foundAnswer p ⌝ }
-{
-    ListAnswer {
-        refusal: 0,
-        paths: p.closed as u32,
-        pushes: p.pushes as u32,
-        mark: p.mark as u32,
-    }
-}
-
 // ---- the search and the list
-
-// What the search goes by: the sizes of the raised graph, and the caller's numbers.
-fn search_setting(a: Settings, b: Raise) -> Setting
-    requires { ⌜ Small b ⌝ }
-    ensures { λ r. ⌜ SettingFor a b r ⌝ }
-{
-    let graph = a.graph;
-    let most = a.search;
-    let least = least_total(a.threshold);
-    Setting {
-        edges: b.edges + 1,
-        nodes: b.nodes,
-        cap: graph.nodes as usize,
-        sink: b.sink as u32,
-        symbolic: b.vertices as u32,
-        least: least,
-        most: most.path_edges,
-        active: most.active as usize,
-        pushes: most.pushes as usize,
-        asked: a.asked as usize,
-    }
-}
-
-// The symbolic edge joins the out-edges, and the tables of the chains are filled.
-fn lay_chains(b: Raise, vertices: &mut [u32], edges: &[u32], only: &mut [u32], to: &mut [u32])
-    requires { ⌜ Chains (now vertices) (now edges) (now only) (now to) b ⌝ }
-    ensures { λ _. ⌜ Chained (now (vertices .entry)) (now (edges .entry)) b (now (vertices .exit)) (now (only .exit)) (now (to .exit)) ⌝ }
-{
-    let sink = b.sink;
-    let real = b.edges;
-    link_symbolic_edge(vertices, sink, real);
-    chain_tables(vertices, edges, real + 1, sink, only, to);
-}
 
 // The search over a raised graph, whose edge table ends behind the symbolic edge, and the list of the paths found; or a refusal, and no output is
 // touched.

@@ -5,42 +5,33 @@ use mir.Syntax.{w32}
 use mir.ValLaws.{toZ-ofZ}
 use Rattle.fork_offers.specs.Actives.{Least}
 use borrow.Author.Needs.{needs}
-use Rattle.list_work.proofs.search_setting.Statement.{statement}
-use Rattle.list_work.proofs.search_setting.Tie as tie
+use Rattle.search_setup.proofs.search_setting.Statement.{statement}
+use Rattle.search_setup.proofs.search_setting.Tie as tie
 
--- src/lib.rt:198:9
 least-total-requires : tie.Need-least-total-requires
 least-total-requires c κs = search needs
 
--- src/lib.rt:200:16
 add-t6 : tie.Need-add-t6
 add-t6 c = search needs
 
--- src/lib.rt:202:14
 cast-t7 : tie.Need-cast-t7
 cast-t7 c = search needs
 
--- src/lib.rt:203:15
 cast-t8 : tie.Need-cast-t8
 cast-t8 c = search needs
 
--- src/lib.rt:204:19
 cast-t9 : tie.Need-cast-t9
 cast-t9 c = search needs
 
--- src/lib.rt:207:17
 cast-t10 : tie.Need-cast-t10
 cast-t10 c = search needs
 
--- src/lib.rt:208:17
 cast-t11 : tie.Need-cast-t11
 cast-t11 c = search needs
 
--- src/lib.rt:209:16
 cast-t12 : tie.Need-cast-t12
 cast-t12 c = search needs
 
--- src/lib.rt:192:1
 returns : tie.Need-returns
 returns c = record { is = refl; least = subst (λ (t : ℤ). Least t (c .before .before .before .before .before .before .before .least-total .result)) (toZ-ofZ w32 (c .before .before .before .before .before .before .before .before .before .before .before .args .a .threshold) (record { sfits = (c .before .before .before .before .before .before .before .before .struct-told .given .1 .1 .1 .0 .1) })) (c .before .before .before .before .before .before .before .least-total .ensures) }
 

@@ -8,7 +8,7 @@ use Rattle.fork_offers.specs.Actives.{Least}
 use Rattle.search_state.specs.declared.Setting.{Setting}
 use Rattle.search_ground.specs.Tables.{Tables, Tabled}
 use Rattle.graph_work.specs.declared.Raise.{Raise}
-use Rattle.list_work.specs.declared.Settings.{Settings}
+use Rattle.list_interface.specs.declared.Settings.{Settings}
 
 pub record Chains (vs es only to : List ℕ) (b : Raise) : Type 0 where
   pub sink-in : b .sink * 12 + 12 ≤ length vs
