@@ -28,7 +28,7 @@ use Rattle.definition.proofs.Checks.{accepted, some-pushes}
 use Rattle.limits.specs.Rules.{none-broken, low-broken}
 use Rattle.limits.specs.Workspaces.{rowColumns}
 use Rattle.threading_tree.specs.Front.{front, written-front}
-use Rattle.list_work.specs.declared.ListAnswer.{ListAnswer}
+use Rattle.list_interface.specs.declared.ListAnswer.{ListAnswer}
 use Rattle.list_work.specs.Outcome.{Outputs, outputsOf, Tables, summary, writtenList, outputsAfter, Listed}
 use Rattle.list_call.specs.Outcome.{tablesAfter, floatZero}
 use Rattle.list_call.specs.Lent.{toldOf, lentOf, Long, long-of}

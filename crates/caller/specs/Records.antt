@@ -12,7 +12,7 @@ use Rattle.laws.specs.Numbers.{within}
 use Rattle.definition.specs.Limits.{Input}
 use Rattle.definition.specs.Calls.{writtenAt, workspaceAfter, ListSlices, ListOutcome, listCall}
 use Rattle.limits.specs.Workspaces.{rowColumns}
-use Rattle.list_work.specs.declared.ListAnswer.{ListAnswer}
+use Rattle.list_interface.specs.declared.ListAnswer.{ListAnswer}
 use Rattle.list_work.specs.Outcome.{Outputs, Tables}
 use Rattle.list_call.specs.Outcome.{tablesAfter, floatZero}
 use Rattle.limits.specs.Lengths.{listWorkspaceTold}

@@ -13,9 +13,10 @@ use Rattle.definition.specs.Limits.{Input, longEnough, sampleRules, listRules}
 use Rattle.definition.specs.Listing.{Answer, refusal, listed, answer, afterChecks}
 use Rattle.definition.proofs.Checks.{checked}
 use Rattle.limits.specs.Rules.{none-broken, low-broken}
-use Rattle.list_work.specs.declared.ListAnswer.{ListAnswer}
+use Rattle.list_interface.specs.declared.ListAnswer.{ListAnswer}
 use Rattle.list_call.specs.Lent.{toldOf, lentOf, long-of}
-use Rattle.list_work.specs.Outcome.{Outputs, Tables, Listed, found, summary, refusedAnswer, listed-refused}
+use Rattle.list_interface.specs.Answers.{refusedAnswer}
+use Rattle.list_work.specs.Outcome.{Outputs, Tables, Listed, found, summary, listed-refused}
 use Rattle.list_call.specs.Outcome.{after-work, after-checks}
 use Rattle.list_call.specs.Within.{lengthsOf, Within, Done, Called}
 use Rattle.definition.proofs.Late.{LateAnswer, found-late}

@@ -6,7 +6,7 @@ use Rattle.definition.specs.Limits.{Input}
 use Rattle.definition.specs.Listing.{refusal, answer}
 use Rattle.definition.proofs.Checks.{Checked}
 use Rattle.limits.specs.Workspaces.{vertexTable, edgeTable, kmerIndex, nodeTable, targetTable, pathTable, pathScores, activeNodes, waitingQueue, closedPaths, pivotalOrder, pivotalMarks, pathWalks}
-use Rattle.list_work.specs.declared.ListAnswer.{ListAnswer}
+use Rattle.list_interface.specs.declared.ListAnswer.{ListAnswer}
 use Rattle.list_work.specs.Works.{Outs}
 use Rattle.list_call.specs.declared.Lent as lent
 use Rattle.list_call.specs.Lent.{toldOf, lentOf}

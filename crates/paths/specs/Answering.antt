@@ -20,8 +20,8 @@ use Rattle.list_call.specs.Lent.{toldOf, lentOf}
 use Rattle.list_work.specs.Outcome.{Outputs, Tables, outputsAfter, writtenList, summary}
 use Rattle.list_call.specs.Within.{lengthsOf, Called}
 use Rattle.list_work.specs.Works.{inputFor}
-use Rattle.list_work.specs.declared.ListAnswer.{ListAnswer}
-use Rattle.list_work.specs.declared.Settings as call
+use Rattle.list_interface.specs.declared.ListAnswer.{ListAnswer}
+use Rattle.list_interface.specs.declared.Settings as call
 use Rattle.paths_text.specs.Listing.{Columns, Held, one-more, linesFrom, list-prints, list-most}
 use Rattle.paths_text.specs.Lines.{refused-most}
 use Rattle.paths_text.specs.Parts.{part}

@@ -17,8 +17,8 @@ use Rattle.limits.specs.Long.{no-short, none-short}
 use Rattle.list_call.specs.Lent.{toldOf, lentOf}
 use Rattle.list_work.specs.Outcome.{Outputs, Tables}
 use Rattle.list_call.specs.Within.{lengthsOf, Called}
-use Rattle.list_work.specs.declared.ListAnswer.{ListAnswer}
-use Rattle.list_work.specs.declared.Settings as call
+use Rattle.list_interface.specs.declared.ListAnswer.{ListAnswer}
+use Rattle.list_interface.specs.declared.Settings as call
 use Rattle.paths_text.specs.Numbers.{k-within}
 use Rattle.paths_text.specs.Parts.{part}
 use Rattle.paths_text.specs.Sources.{Ready}

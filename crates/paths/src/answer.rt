@@ -1,6 +1,6 @@
 // From what was read to what is printed: 14 before all others, then 1 to 5, then the call for the list, then the lines.
 use list_call::list_columns;
-use list_work::ListAnswer;
+use list_interface::ListAnswer;
 use paths_input::Checked;
 use paths_input::MALFORMED;
 use paths_input::check_input;

@@ -1,5 +1,5 @@
 -- The settings of the call for the list.
-use Rattle.list_work.specs.declared.Settings as call
+use Rattle.list_interface.specs.declared.Settings as call
 use Rattle.paths_text.specs.declared.header.Settings as text
 
 -- the settings of the text, with the program's maxima

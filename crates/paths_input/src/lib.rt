@@ -1,7 +1,7 @@
 // What the program `paths` makes of its two inputs: the column, the text with 14 and 1 to 5, and what the call for the list is asked.
 use limits::GraphMaxima;
 use limits::SearchMaxima;
-use list_work::Settings;
+use list_interface::Settings;
 use paths_text::check::check_text;
 use paths_text::column::Column;
 use paths_text::column::read_column;

@@ -17,7 +17,7 @@ use Rattle.definition.specs.Promises.{Spelled, AllElseEqual}
 use Rattle.limits.specs.Lengths.{listWorkspaceTold}
 use Rattle.origins.specs.declared.OriginAnswer.{OriginAnswer}
 use Rattle.origins.specs.Parts.{lentBy, Names}
-use Rattle.list_work.specs.declared.ListAnswer.{ListAnswer}
+use Rattle.list_interface.specs.declared.ListAnswer.{ListAnswer}
 use Rattle.list_work.specs.Outcome.{Outputs, Tables}
 use Rattle.list_call.specs.Lent.{workspaceLent, toldOf, lentOf}
 use Rattle.list_call.specs.Within.{lengthsOf}

@@ -14,7 +14,7 @@ use Rattle.limits.specs.declared.LengthsTold.{LengthsTold}
 use Rattle.limits.specs.Lengths.{listSlices, graphSlices, listWorkspaceTold, graphWorkspaceTold, acceptedLengths, Told, accepted-is}
 use Rattle.graph_call.specs.declared.GraphAnswer.{GraphAnswer}
 use Rattle.graph_call.specs.Outcome.{Graphed}
-use Rattle.list_work.specs.declared.ListAnswer.{ListAnswer}
+use Rattle.list_interface.specs.declared.ListAnswer.{ListAnswer}
 use Rattle.list_work.specs.Outcome.{Outputs, Tables}
 use Rattle.list_call.specs.Lent.{workspaceLent, toldOf, lentOf, slices-told}
 use Rattle.list_call.specs.Within.{lengthsOf}

@@ -46,12 +46,12 @@ use denote.Exit.{yes}
 use Rattle.caller.proofs.Again.{LentAgain, lends-again, comes-back}
 use Rattle.caller.proofs.Sharing.{shares-on}
 use Rattle.caller.proofs.Leaving.{resumes, frees-all}
-use Rattle.list_work.specs.declared.Settings.{Settings}
-use Rattle.list_work.proofs.Settings as S
-use Rattle.list_work.proofs.Settings.Laws as S′
-use Rattle.list_work.specs.declared.ListAnswer.{ListAnswer}
-use Rattle.list_work.proofs.ListAnswer as O
-use Rattle.list_work.proofs.ListAnswer.Laws as O′
+use Rattle.list_interface.specs.declared.Settings.{Settings}
+use Rattle.list_interface.proofs.Settings as S
+use Rattle.list_interface.proofs.Settings.Laws as S′
+use Rattle.list_interface.specs.declared.ListAnswer.{ListAnswer}
+use Rattle.list_interface.proofs.ListAnswer as O
+use Rattle.list_interface.proofs.ListAnswer.Laws as O′
 use Rattle.path_rows.specs.declared.PathRow.{PathRow}
 use Rattle.path_rows.proofs.PathRow as T
 use Rattle.path_rows.proofs.PathRow.Laws as T′
