@@ -5,7 +5,7 @@ use mathlib.Core.List.{List, [], _∷_}
 use Prim.Native.Nat.{ℕ}
 use native.Mathlib.Omega.{arith}
 use borrow.Author.Tests.{eq-eqb, ne-eqb}
-use lib.Dec.{eqb, ltb}
+use lib.Dec.{eqb}
 use lib.ListN.{length, length-map, take}
 use lib.Seq.{length-take-le}
 use lib.Ieee.{Float}
@@ -45,10 +45,3 @@ module _ {f : SearchInput} {g : Setting} {es x only to : List ℕ} {bs : ℕ →
       go : (l : List (Path Float)) → length l ≡ 0 → l ≡ []
       go [] e = refl
       go (x ∷ l) e = absurd (omega arith)
-
--- the two limits, by the test that the code makes
-pub some-limit : (n w : ℕ) → n ≡ 0 → ltb 1000 w ≡ ltb (cond (eqb n 0) 1000 10000) w
-some-limit n w h = sym (rw (eq-eqb n 0 h))
-
-pub other-limit : (n w : ℕ) → (n ≡ 0 → ⊥) → ltb 10000 w ≡ ltb (cond (eqb n 0) 1000 10000) w
-other-limit n w h = sym (rw (ne-eqb n 0 h))

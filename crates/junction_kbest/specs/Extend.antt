@@ -33,6 +33,7 @@ use Rattle.path_closing.specs.Shuts.{withClosed}
 use Rattle.path_extensions.specs.Made.{MadeTo, kept-but, made-idle}
 use Rattle.path_extensions.specs.One.{Run}
 use Rattle.path_extensions.specs.Vertex.{Taking, Extends, extensionsAt}
+use Rattle.turn_rules.specs.Rules.{firstNew}
 use Rattle.junction_kbest.specs.Turn.{join-fails, close-fails, extend-fails, extend-makes}
 
 -- ---- what the contract says
@@ -56,10 +57,6 @@ pub record Extending (f : SearchInput) (g : Setting) (vs es x only to : List ℕ
   pub following : Following only to t (taken .path) taken
   pub guided : sinceOf t (taken .path) ≤ 5
   pub roomy : Roomy g t sc ac shut p
-
--- the first record that is still to be pushed: a path that has closed is not
-abbrev pub firstNew : Progress → Progress → ℕ
-firstNew p p′ = p .records + (p′ .closed - p .closed)
 
 -- progress but for records and closings
 pub record Further (p p′ : Progress) : Type 0 where

@@ -22,10 +22,11 @@ use Rattle.path_queue.specs.Push.{Ready, Pushes, pushesFrom, Filled, Pushed-all
 use Rattle.path_queue.specs.Take.{Takes, First}
 use Rattle.path_queue.specs.Take as first
 use Rattle.junction_kbest.specs.declared.Turned.the-variants as turned
-use Rattle.junction_kbest.specs.Answers.{stepRefusal}
+use Rattle.turn_rules.specs.Rules.{firstNew}
+use Rattle.turn_rules.specs.Answers.{stepRefusal}
 use Rattle.junction_kbest.specs.Turn.{withWaiting, fails, fills, turn-over, turn-takes, push-made, push-broken}
 use Rattle.junction_kbest.specs.Counts.{waiting-many, most-waiting}
-use Rattle.junction_kbest.specs.Extend.{firstNew, Makes, MakesBy}
+use Rattle.junction_kbest.specs.Extend.{Makes, MakesBy}
 use Rattle.junction_kbest.specs.Take.{Going, TakesPath, PathTaken}
 use Rattle.junction_kbest.specs.Between.{At, turnOf, NextTurn, TurnMade, closed-unmet, roomy, good-on, room-kept}
 

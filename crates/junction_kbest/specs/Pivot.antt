@@ -21,7 +21,7 @@ use Rattle.path_queue.specs.Push.{Ready, Pushes, pushesFrom, AllPushed}
 use Rattle.path_queue.specs.Enqueue.{Around, Resting, TriesNext, Remade, Tried}
 use Rattle.junction_kbest.specs.declared.Turned.{Turned}
 use Rattle.junction_kbest.specs.declared.Turned.the-variants as turned
-use Rattle.junction_kbest.specs.Answers.{stepRefusal}
+use Rattle.turn_rules.specs.Answers.{stepRefusal}
 use Rattle.junction_kbest.specs.Turn.{withPivotal, fails, fills, turn-ended, turn-recovers, push-made, push-broken}
 use Rattle.junction_kbest.specs.Counts.{none-wait}
 use Rattle.junction_kbest.specs.Extend.{Roomy}

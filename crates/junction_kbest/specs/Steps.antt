@@ -23,7 +23,7 @@ use Rattle.path_extensions.specs.Vertex.{Extends, Extensions, extensionsAt}
 use Rattle.definition.specs.Refusal.{refused}
 use Rattle.search_state.specs.State.{pathOf}
 use Rattle.path_store.specs.Grow.{pathRefusal}
-use Rattle.junction_kbest.specs.Answers.{extendRefusal}
+use Rattle.turn_rules.specs.Answers.{extendRefusal}
 use Rattle.junction_kbest.specs.Extend.{Extending, MakesBy, ExtendsTaken, extendedAt, TakenExtended, joins, join-refused, closes, close-refused, takes, extends, extend-refused, all-made}
 
 module _ (g : Setting) (vs es x only to : List ℕ) (column : List Float) (t : List ℕ) (sc : List Float) (ac shut marks out : List ℕ) (p : Progress) (taken : Taken) where

@@ -26,8 +26,9 @@ use Rattle.search_state.specs.declared.Step.the-variants.{On}
 use Rattle.search_state.specs.Ground.{Ground, nameOf}
 use Rattle.search_state.specs.State.{pathOf, Idle, Holds, Apart, upFrom}
 use Rattle.path_closing.specs.Closes.{chainAfter}
+use Rattle.turn_rules.specs.Rules.{firstNew}
 use Rattle.junction_kbest.specs.Turn.{take-drops, take-extends}
-use Rattle.junction_kbest.specs.Extend.{Roomy, Extending, firstNew, MakesBy, ExtendsTaken, extendedAt, TakenExtended}
+use Rattle.junction_kbest.specs.Extend.{Roomy, Extending, MakesBy, ExtendsTaken, extendedAt, TakenExtended}
 
 -- ---- what the contract says
 

@@ -16,13 +16,15 @@ use path_store::records::path_at;
 use search_state::Progress;
 use search_state::Setting;
 use search_state::Step;
+use turn_rules::all_closed;
+use turn_rules::extend_refusal;
+use turn_rules::first_new;
+use turn_rules::step_refusal;
+use turn_rules::too_many;
+use turn_rules::too_undecided;
 ghost use mathlib.Core.Path.{_≡_};
-ghost use mathlib.Core.Bool.{cond};
-ghost use Prim.Native.Nat.{_≤_};
-ghost use lib.Dec.{eqb, ltb};
-ghost use Rattle.junction_kbest.specs.Extend.{ExtendsTaken, TakenExtended, firstNew};
+ghost use Rattle.junction_kbest.specs.Extend.{ExtendsTaken, TakenExtended};
 ghost use Rattle.junction_kbest.specs.Take.{TakesPath, PathTaken};
-ghost use Rattle.junction_kbest.specs.Answers.{extendRefusal, stepRefusal};
 ghost use Rattle.path_queue.specs.Push.{Pushes};
 ghost use Rattle.junction_kbest.specs.Between.{NextTurn, TurnMade, TurnAsks};
 ghost use Rattle.junction_kbest.specs.Pivot.{PushedTurn, RecoveredAsks, RecoveredTurn, PivotTurn, PivotMade, TurnMadeIn};
@@ -40,15 +42,6 @@ pub enum Turned {
     More(Progress),
     Ended,
     Refused(u32),
-}
-
-fn extend_refusal(a: Extended) -> u32
-    ensures { λ n. ⌜ n ≡ extendRefusal a ⌝ }
-{
-    match a {
-        Extended::Made(_) => 0,
-        Extended::Refused(n) => n,
-    }
 }
 
 // The taken path is extended: the tree at the end of its chain joins, then it may close, then all its extensions are made. (process_vertex)
@@ -143,7 +136,7 @@ fn take_path(
     ensures { λ r. ⌜ PathTaken g (now (vertices .entry)) (now (edges .entry)) (now (nodes .entry)) (now (only .entry)) (now (to .entry)) (now (column .entry)) (now (paths .entry)) (now (scores .entry)) (now (active .entry)) (now (shut .entry)) (now (marks .entry)) p path r (now (paths .exit)) (now (scores .exit)) (now (active .exit)) (now (shut .exit)) (now (marks .exit)) ⌝ }
 {
     let row = path_at(paths, scores, path);
-    if row.since > 5 {
+    if too_undecided(row.since) {
         return Step::On(p);
     }
     let taken = follow_chain(paths, scores, only, to, path);
@@ -164,34 +157,6 @@ fn take_path(
         taken,
         p,
     )
-}
-
-// Whether more paths wait than may: 1,000 while nothing has closed, then 10,000.
-fn too_many(p: Progress) -> bool
-    ensures { λ r. ⌜ r ≡ ltb (cond (eqb (p .closed) 0) 1000 10000) (p .waiting) ⌝ }
-{
-    if p.closed == 0 {
-        return p.waiting > 1000;
-    }
-    p.waiting > 10000
-}
-
-fn step_refusal(a: Step) -> u32
-    ensures { λ n. ⌜ n ≡ stepRefusal a ⌝ }
-{
-    match a {
-        Step::On(_) => 0,
-        Step::Refused(n) => n,
-    }
-}
-
-// The first record that is still to be pushed: a path that has closed is not.
-fn first_new(p: Progress, q: Progress) -> u32
-    requires { ⌜ (p .closed ≤ q .closed) × (firstNew p q ≤ q .records) ⌝ }
-    ensures { λ r. ⌜ r ≡ firstNew p q ⌝ }
-{
-    let closed = q.closed - p.closed;
-    p.records + closed as u32
 }
 
 // A turn where paths wait: the first is taken, and what is made of it is pushed.
@@ -408,7 +373,7 @@ pub fn find_junction_best_haplotypes(
         g,
         recovery,
     );
-    while p.closed < g.asked {
+    while !all_closed(p.closed, g.asked) {
         let r = turn(
             vertices,
             edges,

@@ -3,14 +3,10 @@ use mathlib.Core.Path.{refl, ap, _∙_}
 use denote.Enum.Declared.{tagOf}
 use Rattle.junction_kbest.proofs.Turned.{the-type}
 use Rattle.junction_kbest.specs.Loop.{Looping, turnsLeft, find-begins, find-started, find-met, find-turn, find-on, find-less, find-stopped, not-on}
+use Rattle.turn_rules.specs.Rules.{are-met, are-unmet}
 use borrow.Author.Needs.{needs}
 use Rattle.junction_kbest.proofs.find_junction_best_haplotypes.Statement.{statement}
 use Rattle.junction_kbest.proofs.find_junction_best_haplotypes.Tie as tie
-use Rattle.junction_kbest.proofs.find_junction_best_haplotypes.Reads as reads
-use Rattle.junction_kbest.proofs.find_junction_best_haplotypes.Lts as lts
-use Rattle.junction_kbest.proofs.found.Reads as found-reads
-use Rattle.junction_kbest.proofs.turn.Reads as turn-reads
-use Rattle.path_queue.proofs.begin.Reads as begin-reads
 
 abbrev Inv-loop : tie.InvT-loop
 Inv-loop vertices edges nodes only to column paths₀ scores₀ active₀ queue₀ shut₀ order marks₀ walk₀ g recovery p₀ paths scores active queue shut marks walk p =
@@ -20,105 +16,83 @@ abbrev μ-loop : tie.MeasureT-loop
 μ-loop vertices edges nodes only to column paths₀ scores₀ active₀ queue₀ shut₀ order marks₀ walk₀ g recovery p₀ paths scores active queue shut marks walk p =
     turnsLeft g order marks p
 
--- src/lib.rt:373:9
 begin-requires : tie.Need-begin-requires Inv-loop μ-loop
 begin-requires c κs = find-begins _ _ _ _ _ _ _ (c .before .before .before .before .before .before .before .before .before .before .before .before .before .before .before .before .before .before .before .before .args .recovery) _ _ _ _ _ _ _ _ (c .before .before .before .before .before .before .before .before .before .before .before .before .before .before .before .before .before .before .before .before .pre)
 
--- src/lib.rt:376:5
 loop-holds : tie.Need-loop-holds Inv-loop μ-loop
 loop-holds c = record { running = find-started _ _ _ _ _ _ _ _ _ _ _ _ _ _ _ _ (c .before .before .before .before .before .before .before .before .before .before .before .before .before .before .before .before .before .before .before .before .before .before .before .before .before .before .before .before .before .before .before .before .before .pre) _ _ _ _ _ _ _ (c .before .before .before .before .before .before .before .before .before .before .before .before .begin .ensures) (c .before .before .before .before .before .before .before .before .before .before .before .before .begin .kept .1 .1 .0) (c .before .before .before .before .before .before .before .before .before .before .before .before .begin .kept .1 .1 .1 .0) (c .before .before .before .before .before .before .before .before .before .before .before .before .begin .kept .1 .1 .1 .1 .0) (c .before .before .before .before .before .before .before .before .before .before .before .before .begin .kept .1 .1 .1 .1 .1 .0); paths = refl; scores = refl; actives = refl; waiting = refl; closed = refl; marked = refl; walked = refl }
 
--- src/lib.rt:377:13
-turn-requires : tie.Need-turn-requires Inv-loop μ-loop
-turn-requires c κs = find-turn _ _ _ _ _ _ _ _ _ _ _ _ _ _ _ _ _ (c .before .before .before .before .before .before .before .before .before .before .before .loop .inv .running) (c .before .before .before .before .before .before .before .before .if1 .taken)
+all-closed-requires : tie.Need-all-closed-requires Inv-loop μ-loop
+all-closed-requires c κs = tt
 
--- src/lib.rt:381:26
+turn-requires : tie.Need-turn-requires Inv-loop μ-loop
+turn-requires c κs = find-turn _ _ _ _ _ _ _ _ _ _ _ _ _ _ _ _ _ (c .before .before .before .before .before .before .before .before .before .before .loop .inv .running) (are-unmet (c .before .before .before .before .before .before .before .before .before .all-closed .ensures) (c .before .before .before .before .before .before .before .before .if1 .taken))
+
 enum-known-r : tie.Need-enum-known-r Inv-loop μ-loop
 enum-known-r c = search needs
 
--- src/lib.rt:382:13
 found-requires : tie.Need-found-requires Inv-loop μ-loop
 found-requires c κs = search needs
 
--- src/lib.rt:382:13
 same-length : tie.Need-same-length Inv-loop μ-loop
-same-length c = c .before .before .before .before .before .before .before .before .before .before .before .before .before .before .before .before .turn .kept .1 .1 .1 .1 .1 .1 .0 ∙ c .before .before .before .before .before .before .before .before .before .before .before .before .before .before .before .before .before .before .before .before .before .before .before .before .before .before .before .before .loop .inv .paths ∙ c .before .before .before .before .before .before .before .before .before .before .before .before .before .before .before .before .before .before .before .before .before .before .before .before .before .before .before .before .before .before .before .before .before .before .before .before .before .before .before .before .before .begin .kept .1 .1 .0
+same-length c = c .before .before .before .before .before .before .before .before .before .before .before .before .before .before .before .before .turn .kept .1 .1 .1 .1 .1 .1 .0 ∙ c .before .before .before .before .before .before .before .before .before .before .before .before .before .before .before .before .before .before .before .before .before .before .before .before .before .before .before .loop .inv .paths ∙ c .before .before .before .before .before .before .before .before .before .before .before .before .before .before .before .before .before .before .before .before .before .before .before .before .before .before .before .before .before .before .before .before .before .before .before .before .before .before .before .before .begin .kept .1 .1 .0
 
--- src/lib.rt:382:13
 same-length-2 : tie.Need-same-length-2 Inv-loop μ-loop
-same-length-2 c = c .before .before .before .before .before .before .before .before .before .before .before .before .before .before .before .before .turn .kept .1 .1 .1 .1 .1 .1 .1 .0 ∙ c .before .before .before .before .before .before .before .before .before .before .before .before .before .before .before .before .before .before .before .before .before .before .before .before .before .before .before .before .loop .inv .scores ∙ c .before .before .before .before .before .before .before .before .before .before .before .before .before .before .before .before .before .before .before .before .before .before .before .before .before .before .before .before .before .before .before .before .before .before .before .before .before .before .before .before .before .begin .kept .1 .1 .1 .0
+same-length-2 c = c .before .before .before .before .before .before .before .before .before .before .before .before .before .before .before .before .turn .kept .1 .1 .1 .1 .1 .1 .1 .0 ∙ c .before .before .before .before .before .before .before .before .before .before .before .before .before .before .before .before .before .before .before .before .before .before .before .before .before .before .before .loop .inv .scores ∙ c .before .before .before .before .before .before .before .before .before .before .before .before .before .before .before .before .before .before .before .before .before .before .before .before .before .before .before .before .before .before .before .before .before .before .before .before .before .before .before .before .begin .kept .1 .1 .1 .0
 
--- src/lib.rt:382:13
 same-length-3 : tie.Need-same-length-3 Inv-loop μ-loop
-same-length-3 c = c .before .before .before .before .before .before .before .before .before .before .before .before .before .before .before .before .turn .kept .1 .1 .1 .1 .1 .1 .1 .1 .0 ∙ c .before .before .before .before .before .before .before .before .before .before .before .before .before .before .before .before .before .before .before .before .before .before .before .before .before .before .before .before .loop .inv .actives
+same-length-3 c = c .before .before .before .before .before .before .before .before .before .before .before .before .before .before .before .before .turn .kept .1 .1 .1 .1 .1 .1 .1 .1 .0 ∙ c .before .before .before .before .before .before .before .before .before .before .before .before .before .before .before .before .before .before .before .before .before .before .before .before .before .before .before .loop .inv .actives
 
--- src/lib.rt:382:13
 same-length-4 : tie.Need-same-length-4 Inv-loop μ-loop
-same-length-4 c = c .before .before .before .before .before .before .before .before .before .before .before .before .before .before .before .before .turn .kept .1 .1 .1 .1 .1 .1 .1 .1 .1 .0 ∙ c .before .before .before .before .before .before .before .before .before .before .before .before .before .before .before .before .before .before .before .before .before .before .before .before .before .before .before .before .loop .inv .waiting ∙ c .before .before .before .before .before .before .before .before .before .before .before .before .before .before .before .before .before .before .before .before .before .before .before .before .before .before .before .before .before .before .before .before .before .before .before .before .before .before .before .before .before .begin .kept .1 .1 .1 .1 .0
+same-length-4 c = c .before .before .before .before .before .before .before .before .before .before .before .before .before .before .before .before .turn .kept .1 .1 .1 .1 .1 .1 .1 .1 .1 .0 ∙ c .before .before .before .before .before .before .before .before .before .before .before .before .before .before .before .before .before .before .before .before .before .before .before .before .before .before .before .loop .inv .waiting ∙ c .before .before .before .before .before .before .before .before .before .before .before .before .before .before .before .before .before .before .before .before .before .before .before .before .before .before .before .before .before .before .before .before .before .before .before .before .before .before .before .before .begin .kept .1 .1 .1 .1 .0
 
--- src/lib.rt:382:13
 same-length-5 : tie.Need-same-length-5 Inv-loop μ-loop
-same-length-5 c = c .before .before .before .before .before .before .before .before .before .before .before .before .before .before .before .before .turn .kept .1 .1 .1 .1 .1 .1 .1 .1 .1 .1 .0 ∙ c .before .before .before .before .before .before .before .before .before .before .before .before .before .before .before .before .before .before .before .before .before .before .before .before .before .before .before .before .loop .inv .closed
+same-length-5 c = c .before .before .before .before .before .before .before .before .before .before .before .before .before .before .before .before .turn .kept .1 .1 .1 .1 .1 .1 .1 .1 .1 .1 .0 ∙ c .before .before .before .before .before .before .before .before .before .before .before .before .before .before .before .before .before .before .before .before .before .before .before .before .before .before .before .loop .inv .closed
 
--- src/lib.rt:382:13
 same-length-6 : tie.Need-same-length-6 Inv-loop μ-loop
-same-length-6 c = c .before .before .before .before .before .before .before .before .before .before .before .before .before .before .before .before .before .before .before .before .before .before .before .before .before .before .before .before .before .before .before .before .before .before .before .before .before .before .before .before .before .begin .kept .1 .1 .1 .1 .1 .1 .0
+same-length-6 c = c .before .before .before .before .before .before .before .before .before .before .before .before .before .before .before .before .before .before .before .before .before .before .before .before .before .before .before .before .before .before .before .before .before .before .before .before .before .before .before .before .begin .kept .1 .1 .1 .1 .1 .1 .0
 
--- src/lib.rt:382:13
 same-length-7 : tie.Need-same-length-7 Inv-loop μ-loop
-same-length-7 c = c .before .before .before .before .before .before .before .before .before .before .before .before .before .before .before .before .turn .kept .1 .1 .1 .1 .1 .1 .1 .1 .1 .1 .1 .1 .0 ∙ c .before .before .before .before .before .before .before .before .before .before .before .before .before .before .before .before .before .before .before .before .before .before .before .before .before .before .before .before .loop .inv .marked ∙ c .before .before .before .before .before .before .before .before .before .before .before .before .before .before .before .before .before .before .before .before .before .before .before .before .before .before .before .before .before .before .before .before .before .before .before .before .before .before .before .before .before .begin .kept .1 .1 .1 .1 .1 .1 .1 .0
+same-length-7 c = c .before .before .before .before .before .before .before .before .before .before .before .before .before .before .before .before .turn .kept .1 .1 .1 .1 .1 .1 .1 .1 .1 .1 .1 .1 .0 ∙ c .before .before .before .before .before .before .before .before .before .before .before .before .before .before .before .before .before .before .before .before .before .before .before .before .before .before .before .loop .inv .marked ∙ c .before .before .before .before .before .before .before .before .before .before .before .before .before .before .before .before .before .before .before .before .before .before .before .before .before .before .before .before .before .before .before .before .before .before .before .before .before .before .before .before .begin .kept .1 .1 .1 .1 .1 .1 .1 .0
 
--- src/lib.rt:382:13
 same-length-8 : tie.Need-same-length-8 Inv-loop μ-loop
-same-length-8 c = c .before .before .before .before .before .before .before .before .before .before .before .before .before .before .before .before .turn .kept .1 .1 .1 .1 .1 .1 .1 .1 .1 .1 .1 .1 .1 .0 ∙ c .before .before .before .before .before .before .before .before .before .before .before .before .before .before .before .before .before .before .before .before .before .before .before .before .before .before .before .before .loop .inv .walked ∙ c .before .before .before .before .before .before .before .before .before .before .before .before .before .before .before .before .before .before .before .before .before .before .before .before .before .before .before .before .before .before .before .before .before .before .before .before .before .before .before .before .before .begin .kept .1 .1 .1 .1 .1 .0
+same-length-8 c = c .before .before .before .before .before .before .before .before .before .before .before .before .before .before .before .before .turn .kept .1 .1 .1 .1 .1 .1 .1 .1 .1 .1 .1 .1 .1 .0 ∙ c .before .before .before .before .before .before .before .before .before .before .before .before .before .before .before .before .before .before .before .before .before .before .before .before .before .before .before .loop .inv .walked ∙ c .before .before .before .before .before .before .before .before .before .before .before .before .before .before .before .before .before .before .before .before .before .before .before .before .before .before .before .before .before .before .before .before .before .before .before .before .before .before .before .before .begin .kept .1 .1 .1 .1 .1 .0
 
--- src/lib.rt:382:13
 returns : tie.Need-returns Inv-loop μ-loop
-returns c = find-stopped _ _ _ _ _ _ _ _ _ _ _ _ _ _ _ _ _ (c .before .before .before .before .before .before .before .before .before .before .before .before .before .before .before .before .before .before .before .before .before .before .before .before .before .before .before .before .loop .inv .running) (c .before .before .before .before .before .before .before .before .before .before .before .before .before .before .before .before .before .before .before .before .before .before .before .before .before .if1 .taken) _ _ _ _ _ _ _ (c .before .before .before .before .before .before .before .before .before .before .before .before .before .before .before .before .turn .ensures) (λ q e. not-on _ (c .before .match .keys2) (ap (tagOf the-type) e)) _ (c .found .ensures)
+returns c = find-stopped _ _ _ _ _ _ _ _ _ _ _ _ _ _ _ _ _ (c .before .before .before .before .before .before .before .before .before .before .before .before .before .before .before .before .before .before .before .before .before .before .before .before .before .before .before .loop .inv .running) (are-unmet (c .before .before .before .before .before .before .before .before .before .before .before .before .before .before .before .before .before .before .before .before .before .before .before .before .before .before .all-closed .ensures) (c .before .before .before .before .before .before .before .before .before .before .before .before .before .before .before .before .before .before .before .before .before .before .before .before .before .if1 .taken)) _ _ _ _ _ _ _ (c .before .before .before .before .before .before .before .before .before .before .before .before .before .before .before .before .turn .ensures) (λ q e. not-on _ (c .before .match .keys2) (ap (tagOf the-type) e)) _ (c .found .ensures)
 
--- src/lib.rt:376:5
 loop-less : tie.Need-loop-less Inv-loop μ-loop
-loop-less c = find-less _ _ _ _ _ _ _ _ _ _ _ _ _ _ _ _ _ (c .before .before .before .before .before .before .before .before .before .before .before .before .before .before .before .before .before .before .before .before .before .before .before .before .before .before .before .before .before .loop .inv .running) (c .before .before .before .before .before .before .before .before .before .before .before .before .before .before .before .before .before .before .before .before .before .before .before .before .before .before .if1 .taken) _ _ _ _ _ _ _ (c .before .before .before .before .before .before .before .before .before .before .before .before .before .before .before .before .before .turn .ensures) _ (c .before .r .given .1)
+loop-less c = find-less _ _ _ _ _ _ _ _ _ _ _ _ _ _ _ _ _ (c .before .before .before .before .before .before .before .before .before .before .before .before .before .before .before .before .before .before .before .before .before .before .before .before .before .before .before .before .loop .inv .running) (are-unmet (c .before .before .before .before .before .before .before .before .before .before .before .before .before .before .before .before .before .before .before .before .before .before .before .before .before .before .before .all-closed .ensures) (c .before .before .before .before .before .before .before .before .before .before .before .before .before .before .before .before .before .before .before .before .before .before .before .before .before .before .if1 .taken)) _ _ _ _ _ _ _ (c .before .before .before .before .before .before .before .before .before .before .before .before .before .before .before .before .before .turn .ensures) _ (c .before .r .given .1)
 
--- src/lib.rt:376:5
 loop-again : tie.Need-loop-again Inv-loop μ-loop
-loop-again c = record { running = find-on _ _ _ _ _ _ _ _ _ _ _ _ _ _ _ _ _ (c .before .before .before .before .before .before .before .before .before .before .before .before .before .before .before .before .before .before .before .before .before .before .before .before .before .before .before .before .before .loop .inv .running) (c .before .before .before .before .before .before .before .before .before .before .before .before .before .before .before .before .before .before .before .before .before .before .before .before .before .before .if1 .taken) _ _ _ _ _ _ _ (c .before .before .before .before .before .before .before .before .before .before .before .before .before .before .before .before .before .turn .ensures) _ (c .before .r .given .1) _ (c .before .before .before .before .before .before .before .before .before .before .before .before .before .before .before .before .before .turn .kept .1 .1 .1 .1 .1 .1 .1 .1 .1 .1 .1 .1 .1 .0); paths = c .before .before .before .before .before .before .before .before .before .before .before .before .before .before .before .before .before .turn .kept .1 .1 .1 .1 .1 .1 .0 ∙ c .before .before .before .before .before .before .before .before .before .before .before .before .before .before .before .before .before .before .before .before .before .before .before .before .before .before .before .before .before .loop .inv .paths; scores = c .before .before .before .before .before .before .before .before .before .before .before .before .before .before .before .before .before .turn .kept .1 .1 .1 .1 .1 .1 .1 .0 ∙ c .before .before .before .before .before .before .before .before .before .before .before .before .before .before .before .before .before .before .before .before .before .before .before .before .before .before .before .before .before .loop .inv .scores; actives = c .before .before .before .before .before .before .before .before .before .before .before .before .before .before .before .before .before .turn .kept .1 .1 .1 .1 .1 .1 .1 .1 .0 ∙ c .before .before .before .before .before .before .before .before .before .before .before .before .before .before .before .before .before .before .before .before .before .before .before .before .before .before .before .before .before .loop .inv .actives; waiting = c .before .before .before .before .before .before .before .before .before .before .before .before .before .before .before .before .before .turn .kept .1 .1 .1 .1 .1 .1 .1 .1 .1 .0 ∙ c .before .before .before .before .before .before .before .before .before .before .before .before .before .before .before .before .before .before .before .before .before .before .before .before .before .before .before .before .before .loop .inv .waiting; closed = c .before .before .before .before .before .before .before .before .before .before .before .before .before .before .before .before .before .turn .kept .1 .1 .1 .1 .1 .1 .1 .1 .1 .1 .0 ∙ c .before .before .before .before .before .before .before .before .before .before .before .before .before .before .before .before .before .before .before .before .before .before .before .before .before .before .before .before .before .loop .inv .closed; marked = c .before .before .before .before .before .before .before .before .before .before .before .before .before .before .before .before .before .turn .kept .1 .1 .1 .1 .1 .1 .1 .1 .1 .1 .1 .1 .0 ∙ c .before .before .before .before .before .before .before .before .before .before .before .before .before .before .before .before .before .before .before .before .before .before .before .before .before .before .before .before .before .loop .inv .marked; walked = c .before .before .before .before .before .before .before .before .before .before .before .before .before .before .before .before .before .turn .kept .1 .1 .1 .1 .1 .1 .1 .1 .1 .1 .1 .1 .1 .0 ∙ c .before .before .before .before .before .before .before .before .before .before .before .before .before .before .before .before .before .before .before .before .before .before .before .before .before .before .before .before .before .loop .inv .walked }
+loop-again c = record { running = find-on _ _ _ _ _ _ _ _ _ _ _ _ _ _ _ _ _ (c .before .before .before .before .before .before .before .before .before .before .before .before .before .before .before .before .before .before .before .before .before .before .before .before .before .before .before .before .loop .inv .running) (are-unmet (c .before .before .before .before .before .before .before .before .before .before .before .before .before .before .before .before .before .before .before .before .before .before .before .before .before .before .before .all-closed .ensures) (c .before .before .before .before .before .before .before .before .before .before .before .before .before .before .before .before .before .before .before .before .before .before .before .before .before .before .if1 .taken)) _ _ _ _ _ _ _ (c .before .before .before .before .before .before .before .before .before .before .before .before .before .before .before .before .before .turn .ensures) _ (c .before .r .given .1) _ (c .before .before .before .before .before .before .before .before .before .before .before .before .before .before .before .before .before .turn .kept .1 .1 .1 .1 .1 .1 .1 .1 .1 .1 .1 .1 .1 .0); paths = c .before .before .before .before .before .before .before .before .before .before .before .before .before .before .before .before .before .turn .kept .1 .1 .1 .1 .1 .1 .0 ∙ c .before .before .before .before .before .before .before .before .before .before .before .before .before .before .before .before .before .before .before .before .before .before .before .before .before .before .before .before .loop .inv .paths; scores = c .before .before .before .before .before .before .before .before .before .before .before .before .before .before .before .before .before .turn .kept .1 .1 .1 .1 .1 .1 .1 .0 ∙ c .before .before .before .before .before .before .before .before .before .before .before .before .before .before .before .before .before .before .before .before .before .before .before .before .before .before .before .before .loop .inv .scores; actives = c .before .before .before .before .before .before .before .before .before .before .before .before .before .before .before .before .before .turn .kept .1 .1 .1 .1 .1 .1 .1 .1 .0 ∙ c .before .before .before .before .before .before .before .before .before .before .before .before .before .before .before .before .before .before .before .before .before .before .before .before .before .before .before .before .loop .inv .actives; waiting = c .before .before .before .before .before .before .before .before .before .before .before .before .before .before .before .before .before .turn .kept .1 .1 .1 .1 .1 .1 .1 .1 .1 .0 ∙ c .before .before .before .before .before .before .before .before .before .before .before .before .before .before .before .before .before .before .before .before .before .before .before .before .before .before .before .before .loop .inv .waiting; closed = c .before .before .before .before .before .before .before .before .before .before .before .before .before .before .before .before .before .turn .kept .1 .1 .1 .1 .1 .1 .1 .1 .1 .1 .0 ∙ c .before .before .before .before .before .before .before .before .before .before .before .before .before .before .before .before .before .before .before .before .before .before .before .before .before .before .before .before .loop .inv .closed; marked = c .before .before .before .before .before .before .before .before .before .before .before .before .before .before .before .before .before .turn .kept .1 .1 .1 .1 .1 .1 .1 .1 .1 .1 .1 .1 .0 ∙ c .before .before .before .before .before .before .before .before .before .before .before .before .before .before .before .before .before .before .before .before .before .before .before .before .before .before .before .before .loop .inv .marked; walked = c .before .before .before .before .before .before .before .before .before .before .before .before .before .before .before .before .before .turn .kept .1 .1 .1 .1 .1 .1 .1 .1 .1 .1 .1 .1 .1 .0 ∙ c .before .before .before .before .before .before .before .before .before .before .before .before .before .before .before .before .before .before .before .before .before .before .before .before .before .before .before .before .loop .inv .walked }
 
--- src/lib.rt:352:1
 same-length-9 : tie.Need-same-length-9 Inv-loop μ-loop
-same-length-9 c = c .before .before .before .loop .inv .paths ∙ c .before .before .before .before .before .before .before .before .before .before .before .before .before .before .before .before .begin .kept .1 .1 .0
+same-length-9 c = c .before .before .loop .inv .paths ∙ c .before .before .before .before .before .before .before .before .before .before .before .before .before .before .before .begin .kept .1 .1 .0
 
--- src/lib.rt:352:1
 same-length-10 : tie.Need-same-length-10 Inv-loop μ-loop
-same-length-10 c = c .before .before .before .loop .inv .scores ∙ c .before .before .before .before .before .before .before .before .before .before .before .before .before .before .before .before .begin .kept .1 .1 .1 .0
+same-length-10 c = c .before .before .loop .inv .scores ∙ c .before .before .before .before .before .before .before .before .before .before .before .before .before .before .before .begin .kept .1 .1 .1 .0
 
--- src/lib.rt:352:1
 same-length-11 : tie.Need-same-length-11 Inv-loop μ-loop
-same-length-11 c = c .before .before .before .loop .inv .actives
+same-length-11 c = c .before .before .loop .inv .actives
 
--- src/lib.rt:352:1
 same-length-12 : tie.Need-same-length-12 Inv-loop μ-loop
-same-length-12 c = c .before .before .before .loop .inv .waiting ∙ c .before .before .before .before .before .before .before .before .before .before .before .before .before .before .before .before .begin .kept .1 .1 .1 .1 .0
+same-length-12 c = c .before .before .loop .inv .waiting ∙ c .before .before .before .before .before .before .before .before .before .before .before .before .before .before .before .begin .kept .1 .1 .1 .1 .0
 
--- src/lib.rt:352:1
 same-length-13 : tie.Need-same-length-13 Inv-loop μ-loop
-same-length-13 c = c .before .before .before .loop .inv .closed
+same-length-13 c = c .before .before .loop .inv .closed
 
--- src/lib.rt:352:1
 same-length-14 : tie.Need-same-length-14 Inv-loop μ-loop
-same-length-14 c = c .before .before .before .before .before .before .before .before .before .before .before .before .before .before .before .before .begin .kept .1 .1 .1 .1 .1 .1 .0
+same-length-14 c = c .before .before .before .before .before .before .before .before .before .before .before .before .before .before .before .begin .kept .1 .1 .1 .1 .1 .1 .0
 
--- src/lib.rt:352:1
 same-length-15 : tie.Need-same-length-15 Inv-loop μ-loop
-same-length-15 c = c .before .before .before .loop .inv .marked ∙ c .before .before .before .before .before .before .before .before .before .before .before .before .before .before .before .before .begin .kept .1 .1 .1 .1 .1 .1 .1 .0
+same-length-15 c = c .before .before .loop .inv .marked ∙ c .before .before .before .before .before .before .before .before .before .before .before .before .before .before .before .begin .kept .1 .1 .1 .1 .1 .1 .1 .0
 
--- src/lib.rt:352:1
 same-length-16 : tie.Need-same-length-16 Inv-loop μ-loop
-same-length-16 c = c .before .before .before .loop .inv .walked ∙ c .before .before .before .before .before .before .before .before .before .before .before .before .before .before .before .before .begin .kept .1 .1 .1 .1 .1 .0
+same-length-16 c = c .before .before .loop .inv .walked ∙ c .before .before .before .before .before .before .before .before .before .before .before .before .before .before .before .begin .kept .1 .1 .1 .1 .1 .0
 
--- src/lib.rt:352:1
 returns-2 : tie.Need-returns-2 Inv-loop μ-loop
-returns-2 c = find-met _ _ _ _ _ _ _ _ _ _ _ _ _ _ _ _ _ (c .before .before .before .loop .inv .running) (c .if1 .left)
+returns-2 c = find-met _ _ _ _ _ _ _ _ _ _ _ _ _ _ _ _ _ (c .before .before .loop .inv .running) (are-met (c .before .all-closed .ensures) (c .if1 .left))
 
 pub find-junction-best-haplotypes-spec : {M : Type 1} → statement M
 find-junction-best-haplotypes-spec =
@@ -128,6 +102,7 @@ find-junction-best-haplotypes-spec =
     μ-loop
     begin-requires
     loop-holds
+    all-closed-requires
     turn-requires
     enum-known-r
     found-requires

@@ -3,40 +3,28 @@ use Rattle.junction_kbest.specs.Pivot.{pushed-full, pushed-more}
 use borrow.Author.Needs.{needs}
 use Rattle.junction_kbest.proofs.push_turn.Statement.{statement}
 use Rattle.junction_kbest.proofs.push_turn.Tie as tie
-use Rattle.junction_kbest.proofs.push_turn.Reads as reads
-use Rattle.junction_kbest.proofs.push_turn.Lts as lts
-use Rattle.junction_kbest.proofs.step_refusal.Reads as step-refusal-reads
-use Rattle.path_queue.proofs.push_paths.Reads as push-paths-reads
 
--- src/lib.rt:260:9
 push-paths-requires : tie.Need-push-paths-requires
 push-paths-requires c κs = search needs
 
--- src/lib.rt:261:18
 enum-known-d : tie.Need-enum-known-d
 enum-known-d c = search needs
 
--- src/lib.rt:262:32
 enum-told : tie.Need-enum-told
 enum-told c = search needs
 
--- src/lib.rt:262:32
 step-refusal-requires : tie.Need-step-refusal-requires
 step-refusal-requires c κs = search needs
 
--- src/lib.rt:262:9
 same-length : tie.Need-same-length
 same-length c = search needs
 
--- src/lib.rt:262:9
 returns : tie.Need-returns
 returns c = pushed-full _ _ _ _ _ _ _ (c .before .before .before .before .before .push-paths .ensures) _ (c .before .enum-told .given .1) _ (c .step-refusal .ensures)
 
--- src/lib.rt:256:1
 same-length-2 : tie.Need-same-length-2
 same-length-2 c = search needs
 
--- src/lib.rt:256:1
 returns-2 : tie.Need-returns-2
 returns-2 c = pushed-more _ _ _ _ _ _ _ (c .before .before .before .before .before .push-paths .ensures) _ (c .before .d .given .1)
 
