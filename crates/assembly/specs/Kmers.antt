@@ -15,7 +15,7 @@ use Rattle.laws.specs.Lists.{lastOr, position}
 use Rattle.laws.specs.Numbers.{eqList, eqList-true}
 use Rattle.definition.specs.Limits.{isBase}
 use Rattle.definition.specs.Threading.{Edge, Ends, lastBase, numberOf, withKmer}
-use Rattle.laws.specs.Rows.{rows, rows-more, length-rows, getD-rows}
+use Rattle.laws.specs.Rows.{rows, rows-more, length-rows, getD-rows, rows-none, rows-suc}
 use Rattle.laws.specs.Records.{field, putField, field-same, field-other, row-other}
 use Rattle.assembly.specs.Table.{count, count-0, count-more}
 use Rattle.assembly.specs.Store.{edgeAt, kmersOf, kmerAt, lastOf, code, code-lt, Good}
@@ -65,16 +65,6 @@ eqList-no a b j h = go (eqList a b) refl
     go false e = refl
 
 -- ---- the first place
-no-rows : {A : Type 0} (l : List A) → length l ≡ 0 → l ≡ []
-no-rows [] h = refl
-no-rows (x ∷ l) h = absurd (omega arith)
-
-pub rows-0 : {A : Type 0} (f : ℕ → A) → rows f 0 ≡ []
-rows-0 f = no-rows (rows f 0) (length-rows f 0)
-
-rows-suc : {A : Type 0} (f : ℕ → A) (n : ℕ) → rows f (suc n) ≡ rows f n ++ (f n ∷ [])
-rows-suc f n = rows-more f f n (f n) refl (λ j h. refl)
-
 module _ {A : Type 0} (p : A → Bool) where
   position-hit : (l : List A) (x : A) → position p l < length l → position p (l ++ (x ∷ [])) ≡ position p l
   position-hit [] x h = absurd (omega arith)
@@ -99,7 +89,7 @@ module _ {A : Type 0} (p : A → Bool) where
       go false e ih false q = rw (e, position, q) (ap suc (ih (let z : position p (y ∷ l) ≡ suc (position p l) = rw (e, position) in omega arith) ∙ rw q))
 
   pub position-none : (f : ℕ → A) (n : ℕ) → ((j : ℕ) → j < n → p (f j) ≡ false) → position p (rows f n) ≡ n
-  position-none f zero h = rw (rows-0 f)
+  position-none f zero h = rw (rows-none f)
   position-none f (suc n) h =
       rw (rows-suc f n)
       (position-miss (rows f n) (f n) (position-none f n (λ j k. h j (omega arith)) ∙ sym (length-rows f n)) ∙ rw (h n (omega arith), length-rows f n))

@@ -1,7 +1,7 @@
 -- What the code does to the tables, as lists, and what that is to the graph. Assumes nothing.
 use mathlib.Core.Path.{_≡_, refl, sym, _∙_}
 use mathlib.Core.Logic.{_≢_, _⊎_, inl, inr}
-use mathlib.Core.Bool.{Bool, true, false, not, _||_, cond}
+use mathlib.Core.Bool.{Bool, true, false, not, _||_, cond, or-true, or-false}
 use mathlib.Core.List.{List, [], _∷_}
 use Prim.Native.Nat.{ℕ, _+_, _-_, _*_, _<_, _≤_}
 use native.Mathlib.Omega.{arith}
@@ -58,14 +58,6 @@ module _ (es : List ℕ) (i a : ℕ) (h : i * 6 + 6 ≤ length es) where
       go true e = rw e (field-same es 6 i 2 (field es 6 i 2 + 1) (omega arith))
       go false e = rw e (field-other (putField es 6 i 2 (field es 6 i 2 + 1)) 6 i 3 a i 2 (omega arith) (omega arith) (omega arith) ∙ field-same es 6 i 2 (field es 6 i 2 + 1) (omega arith))
 
-  or-false : (b : Bool) → b ≡ (b || false)
-  or-false true = refl
-  or-false false = refl
-
-  or-true : (b : Bool) → true ≡ (b || true)
-  or-true true = refl
-  or-true false = refl
-
   gained-3 : not (eqb (field (gained es i a) 6 i 3) 0) ≡ (not (eqb (field es 6 i 3) 0) || not (eqb a 0))
   unfolding gained
   gained-3 = go (eqb a 0) refl
@@ -74,8 +66,8 @@ module _ (es : List ℕ) (i a : ℕ) (h : i * 6 + 6 ≤ length es) where
       t = putField es 6 i 2 (field es 6 i 2 + 1)
 
       go : (b : Bool) → eqb a 0 ≡ b → not (eqb (field (gained es i a) 6 i 3) 0) ≡ (not (eqb (field es 6 i 3) 0) || not (eqb a 0))
-      go true e = rw (e, field-other es 6 i 2 (field es 6 i 2 + 1) i 3 (omega arith) (omega arith) (omega arith)) (or-false (not (eqb (field es 6 i 3) 0)))
-      go false e = rw (e, field-same t 6 i 3 a (rw (length-set es (i * 6 + 2) (field es 6 i 2 + 1)) (omega arith)), e) (or-true (not (eqb (field es 6 i 3) 0)))
+      go true e = rw (e, field-other es 6 i 2 (field es 6 i 2 + 1) i 3 (omega arith) (omega arith) (omega arith)) (sym (or-false (not (eqb (field es 6 i 3) 0))))
+      go false e = rw (e, field-same t 6 i 3 a (rw (length-set es (i * 6 + 2) (field es 6 i 2 + 1)) (omega arith)), e) (sym (or-true (not (eqb (field es 6 i 3) 0))))
 
   gained-is : (o : Origin) → edgeAt (gained es i a) i ≡ merge (edgeAt es i) (oneStep (not (eqb a 0)) o (edgeAt es i .ends))
   unfolding merge oneStep

@@ -14,6 +14,7 @@ use borrow.Author.Tests.{eqb-true, eq-eqb, le-leb, leb-true, lt-ltb, le-ltb, ltb
 use Rattle.laws.specs.Lists.{keep}
 use Rattle.definition.specs.Threading.{Ends, Edge, compareEnds}
 use Rattle.laws.specs.Records.{field}
+use Rattle.laws.specs.ListLaws.{length-nil}
 use Rattle.assembly.specs.Ends.{Below, is-below, is-above}
 use Rattle.assembly.specs.Table.{table, Distinct, length-table}
 use Rattle.assembly.specs.Store.{edgeAt, edgesOf}
@@ -163,10 +164,6 @@ pub record Passing (es out out' : List ℕ) (m v t p : ℕ) : Type 0 where
   pub fits : p + length (rest v t (edgesOf es m)) ≡ m
   pub is : map (edgeAt es) (take p out') ++ rest v t (edgesOf es m) ≡ edgesOf es m
   pub beyond : drop m out' ≡ drop m out
-
-length-nil : (l : List Edge) → length l ≡ 0 → l ≡ []
-length-nil [] h = refl
-length-nil (x ∷ l) h = absurd (omega arith)
 
 module _ {vs es out : List ℕ} {m : ℕ} (x : Orders vs es out m) where
   length-all : length (edgesOf es m) ≡ m

@@ -1,7 +1,7 @@
 -- The out-edges of a fork in the stores, and whether a node's edge is one of them.
 use mathlib.Core.Path.{_≡_, refl, sym, ap, _∙_}
 use Prim.Native.Nat.{ℕ, _+_, _-_, _*_, _^_, _<_, _≤_}
-use mathlib.Core.Bool.{Bool, true, false, not, _&&_}
+use mathlib.Core.Bool.{Bool, true, false, not, _&&_, and-true, and-false}
 use mathlib.Core.List.{List, [], _∷_, map}
 use native.Mathlib.Omega.{arith}
 use lib.Dec.{leb, eqb}
@@ -161,14 +161,6 @@ isReal outs symbolic e = among e outs && not (eqEnds e symbolic)
 pub record RealEdge (es : List ℕ) (m v : ℕ) (x : List ℕ) (s : ℕ) (e : Ends) (r : ℕ) : Type 0 where
   pub there : (r ≡ 0 → ⊥) → (r ≤ m) × (edgeAt es (r - 1) .ends ≡ nodeEdge x s)
   pub is : isReal (outsOf es m v) e (nodeEdge x s) ≡ not (eqb r 0)
-
-and-false : (a : Bool) → (a && false) ≡ false
-and-false true = refl
-and-false false = refl
-
-and-true : (a : Bool) → (a && true) ≡ a
-and-true true = refl
-and-true false = refl
 
 module _ (es : List ℕ) (m v : ℕ) (x : List ℕ) (s : ℕ) (e : Ends) (from to : ℕ) (hf : from ≡ cols x .from s) (ht : to ≡ cols x .to s) where
   pub real-elsewhere : (from ≡ v → ⊥) → RealEdge es m v x s e 0

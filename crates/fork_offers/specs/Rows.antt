@@ -10,7 +10,7 @@ use native.Mathlib.Decide.{ℕ-discrete}
 use lib.Dec.{eqb}
 use lib.ListN.{length, getD, length-append}
 use Rattle.laws.specs.Records.{field, putFrom, length-putFrom, putFrom-row, putFrom-at}
-use Rattle.laws.specs.Rows.{rows, length-rows, rows-same, rows-more}
+use Rattle.laws.specs.Rows.{rows, length-rows, rows-same, rows-more, rows-none, rows-suc}
 use Rattle.definition.specs.Threading.{Ends, eqEnds}
 use Rattle.definition.specs.Search.{Offer, among, unseen}
 use Rattle.assembly.specs.Store.{edgeAt}
@@ -31,16 +31,6 @@ seenOf es out k = rows (λ i. edgeAt es (field out 4 i 0) .ends) k
 -- the rows name edges
 abbrev pub Few : ℕ → List ℕ → ℕ → Type 0
 Few m out k = (j : ℕ) → j < k → field out 4 j 0 < m
-
-rows-none : {A : Type 0} (f : ℕ → A) → rows f 0 ≡ []
-rows-none f = go (rows f 0) (length-rows f 0)
-  where
-    go : {A : Type 0} (xs : List A) → length xs ≡ 0 → xs ≡ []
-    go [] h = refl
-    go (x ∷ xs) h = absurd (omega arith)
-
-rows-suc : {A : Type 0} (f : ℕ → A) (n : ℕ) → rows f (suc n) ≡ rows f n ++ (f n ∷ [])
-rows-suc f n = rows-more f f n (f n) refl (λ j h. refl)
 
 pub map-append : {A B : Type 0} (f : A → B) (xs ys : List A) → map f (xs ++ ys) ≡ map f xs ++ map f ys
 map-append {B = B} f [] ys = refl

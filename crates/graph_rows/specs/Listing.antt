@@ -7,6 +7,7 @@ use native.Mathlib.Omega.{arith}
 use native.Mathlib.Decide.{decLt}
 use lib.ListN.{length, length-append}
 use Rattle.laws.specs.Records.{field, putFrom, length-putFrom}
+use Rattle.laws.specs.ListLaws.{length-nil}
 use Rattle.definition.specs.Threading.{Edge}
 use Rattle.definition.specs.Calls.{writtenAt, flat, edgeRow}
 use Rattle.assembly.specs.Table.{length-table}
@@ -26,10 +27,6 @@ pub record Listing (es out out' : List ℕ) (m v t p : ℕ) : Type 0 where
 edge-long : (e : Edge) → length (edgeRow e) ≡ 6
 unfolding edgeRow
 edge-long e = refl
-
-length-nil : (l : List Edge) → length l ≡ 0 → l ≡ []
-length-nil [] h = refl
-length-nil (x ∷ l) h = absurd (omega arith)
 
 pub list-start : (es out : List ℕ) (m : ℕ) → Listing es out out m 0 0 0
 unfolding flat

@@ -14,6 +14,7 @@ use Rattle.laws.specs.Lists.{all, lastOr}
 use Rattle.laws.specs.ListLaws.{and-left, and-right, clash}
 use Rattle.laws.specs.Numbers.{within}
 use Rattle.laws.specs.Records.{field}
+use Rattle.laws.specs.Rows.{rows-none}
 use Rattle.definition.specs.Refusal.{Rule, firstBroken}
 use Rattle.definition.specs.Limits.{Sample, kFits, referenceFits, isBase, referenceBases, rising, endsFit, readsFit, sampleRules}
 use Rattle.definition.specs.Stretch.{kmers, stretches}
@@ -21,7 +22,7 @@ use Rattle.definition.specs.Threading.{Graph, put, numberOf, thread, threadAll,
 use Rattle.assembly.specs.Table.{table-0, length-table}
 use Rattle.assembly.specs.Store.{edgeAt, edgesOf, kmersOf, graphOf, Good, good-distinct}
 use Rattle.assembly.specs.Moves.{addedE, addedE-row}
-use Rattle.assembly.specs.Kmers.{part, rows-0, length-of}
+use Rattle.assembly.specs.Kmers.{part, length-of}
 use Rattle.assembly.specs.Symbolic.{symbolic, symbolic-put, symbolic-front, symbolic-from, symbolic-to, symbolic-good}
 use Rattle.junction_tree_graph.specs.declared.Most.{Most}
 use Rattle.junction_tree_graph.specs.declared.At.{At}
@@ -148,7 +149,7 @@ module _ {s : Sample} {vs es : List ℕ} {most : Most} (x : Begins s vs es most)
   -- nothing is a graph without vertices
   nothing : graphOf (s .k) (textOf s) vs 0 es 0 ≡ record { kmers = []; edges = [] }
   unfolding graphOf kmersOf edgesOf
-  nothing = rw (rows-0, table-0)
+  nothing = rw (rows-none, table-0)
 
   the-stretch : stretchAt (textOf s) 0 (length (s .reference)) 0 0 ≡ record { sequence = 0; place = 0; bytes = s .reference }
   the-stretch = rw (take-append-seam (s .reference) (s .bases))

@@ -1,7 +1,7 @@
 -- What the eight slots of a vertex say of its out-edges: how many there are, and whether a target has two or more in-edges. Assumes nothing.
 use mathlib.Core.Path.{_≡_, refl, sym, ap, _∙_}
 use mathlib.Core.Logic.{_≢_}
-use mathlib.Core.Bool.{Bool, true, false, _&&_, _||_, cond}
+use mathlib.Core.Bool.{Bool, true, false, _&&_, cond, or-false}
 use mathlib.Core.Option.{none, some}
 use mathlib.Core.List.{List, [], _∷_}
 use Prim.Native.Nat.{ℕ, zero, suc, _+_, _-_, _/_, _%_, _<_, _≤_}
@@ -196,13 +196,9 @@ pub warrants-many : (vs : List ℕ) (outs to : ℕ) → 1 < outs → Warrants vs
 unfolding opens
 warrants-many vs outs to h = record { is = λ {k} {text} {n} {es} {m} g v i l e f o. rw (lt-ltb 1 (length (leaving (edgesOf es m) v)) (omega arith)) }
 
-or-false : (b : Bool) → b ≡ (b || false)
-or-false true = refl
-or-false false = refl
-
 few-is : (es : List Edge) (v : ℕ) (x : Edge) → leaving es v ≡ x ∷ [] → (ins : ℕ) → ins ≡ length (entering es (x .ends .to)) → ltb 1 ins ≡ opens es v
 unfolding opens
-few-is es v x h ins e = rw (h, e) (or-false (ltb 1 (length (entering es (x .ends .to)))))
+few-is es v x h ins e = rw (h, e) (sym (or-false (ltb 1 (length (entering es (x .ends .to))))))
 
 pub warrants-few : (vs : List ℕ) (outs to ins : ℕ) → outs ≤ 1 → ins ≡ field vs 12 to 9 → Warrants vs outs to (ltb 1 ins)
 warrants-few vs outs to ins h e = record { is = go }

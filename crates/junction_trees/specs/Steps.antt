@@ -19,8 +19,8 @@ use Rattle.threading_tree.specs.Good.{slot-live}
 use Rattle.threading_tree.specs.All.{grownRefusal, Walking as Asks, TookAll}
 use Rattle.threading_tree.specs.Join.{joinedRefusal}
 use Rattle.threading_tree.specs.Held.{HeldWalk, held-under, held-few, held-walking, held-takes, held-full}
-use Rattle.threading_tree.specs.Grows.{many, open-many, take-many, bound-step}
-use Rattle.threading_tree.specs.Pass.{openWhere, takeUnless, pass-is, Stepping, Steps, passing}
+use Rattle.threading_tree.specs.Grows.{many, take-many, bound-step}
+use Rattle.threading_tree.specs.Pass.{openWhere, takeUnless, pass-is, Stepping, Steps, passing, where-many}
 use Rattle.threading_tree.specs.declared.ThreadingState.{ThreadingState}
 use Rattle.threading_tree.specs.declared.Grown.{Grown}
 use Rattle.threading_tree.specs.declared.Grown.the-variants.{Nodes as Many, Refused as Stopped}
@@ -118,11 +118,6 @@ unless-many : (q : Bool) (e : Ends) (w : Walk) → length (takeUnless q e w .ope
 unfolding takeUnless
 unless-many true e w = refl
 unless-many false e w = take-many e w
-
-where-many : (o : Bool) (v : ℕ) (w : Walk) → length (openWhere o v w .opened) ≤ length (w .opened) + 1
-unfolding openWhere
-where-many true v w = let a = open-many v w in omega arith
-where-many false v w = omega arith
 
 module _ {d : Ground} {s : Way} {i : ℕ} {vs es x op : List ℕ} (q : Passing d s i vs es x op) where
   here-in : s .here < d .vertices

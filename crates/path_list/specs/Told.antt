@@ -12,7 +12,7 @@ use borrow.Author.Tests.{eq-eqb}
 use Rattle.laws.specs.Lists.{find}
 use Rattle.laws.specs.ListLaws.{All, nil, cons, all-mono}
 use Rattle.laws.specs.Records.{field}
-use Rattle.laws.specs.Rows.{rows, rows-more, rows-same}
+use Rattle.laws.specs.Rows.{rows, rows-more, rows-same, rows-none}
 use Rattle.laws.specs.Insertion.{insert, sorted, all-sorted}
 use Rattle.laws.specs.Sorting.{insert-map}
 use Rattle.definition.specs.Score.{columnScoring}
@@ -24,7 +24,6 @@ use Rattle.definition.specs.Calls.{pathRow, writtenAt, writtenRows}
 use Rattle.definition.proofs.Walks.{Numbered, eqEnds-true}
 use Rattle.assembly.specs.Table.{table, Distinct, find-table-some}
 use Rattle.assembly.specs.Store.{edgeAt, edgesOf, kmerAt, graphOf}
-use Rattle.assembly.specs.Kmers.{rows-0}
 use Rattle.assembly.specs.Paths.{basesOf, bases-is}
 use Rattle.path_rows.specs.Rows.{finished}
 use Rattle.search_state.specs.Ground.{nameOf}
@@ -73,7 +72,7 @@ take-from l a (suc n) h =
     ∙ ap (λ (m : List ℕ). getD l a 0 ∷ m) (take-from l (suc a) n (omega arith))
 
 rows-map : {A : Type 0} (f : ℕ → A) (rank : List ℕ) (n : ℕ) → n ≤ length rank → rows (λ r. f (getD rank r 0)) n ≡ map f (take n rank)
-rows-map f rank zero h = rows-0 (λ r. f (getD rank r 0))
+rows-map f rank zero h = rows-none (λ r. f (getD rank r 0))
 rows-map {A} f rank (suc n) h =
     rows-more (λ r. f (getD rank r 0)) (λ r. f (getD rank r 0)) n (f (getD rank n 0)) refl (λ j m. refl)
     ∙ ap (λ (l : List A). l ++ f (getD rank n 0) ∷ []) (rows-map f rank n (omega arith))

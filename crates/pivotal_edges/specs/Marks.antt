@@ -1,7 +1,7 @@
 -- Marking the out-edges of a vertex: those that were not visited join the visited ones. Assumes nothing.
 use mathlib.Core.Path.{_≡_, refl, sym, ap, _∙_}
 use mathlib.Core.Logic.{_⊎_, inl, inr}
-use mathlib.Core.Bool.{Bool, true, false, not, _&&_, _||_}
+use mathlib.Core.Bool.{Bool, true, false, not, _&&_, _||_, and-false, or-true, or-false}
 use mathlib.Core.List.{List, [], _∷_, _++_}
 use Prim.Native.Nat.{ℕ, _+_, _-_, _<_, _≤_}
 use native.Mathlib.Omega.{arith}
@@ -93,18 +93,6 @@ pub record Marker (es : List ℕ) (m v : ℕ) (marks₀ marks : List ℕ) (t r :
   pub beyond : drop m marks ≡ drop m marks₀
   pub each : (i : ℕ) → i < m → ltb 0 (getD marks i 0) ≡ (ltb 0 (getD marks₀ i 0) || (eqb (field es 6 i 0) v && ltb (field es 6 i 1) t))
 
-and-no : (b : Bool) → (b && false) ≡ false
-and-no true = refl
-and-no false = refl
-
-or-no : (b : Bool) → (b || false) ≡ b
-or-no true = refl
-or-no false = refl
-
-or-on : (b : Bool) → (b || true) ≡ true
-or-on true = refl
-or-on false = refl
-
 module _ {vs es : List ℕ} {m v : ℕ} {marks₀ : List ℕ} (p : Marks vs es m v marks₀) where
   pub marker-start : {r : ℕ} → ((k : ℕ) → Slots vs es k v → Nexts es k v 0 r) → Marker es m v marks₀ marks₀ 0 r
   marker-start all =
@@ -112,7 +100,7 @@ module _ {vs es : List ℕ} {m v : ℕ} {marks₀ : List ℕ} (p : Marks vs es m
         next = next-is (p .here) all;
         size = refl;
         beyond = refl;
-        each = λ i h. sym (rw (le-ltb (field es 6 i 1) 0 (omega arith), and-no (eqb (field es 6 i 0) v)) (or-no (ltb 0 (getD marks₀ i 0))));
+        each = λ i h. sym (rw (le-ltb (field es 6 i 1) 0 (omega arith), and-false (eqb (field es 6 i 0) v)) (or-false (ltb 0 (getD marks₀ i 0))));
       }
 
   module _ {marks : List ℕ} {t r : ℕ} (b : Marker es m v marks₀ marks t r) where
@@ -176,7 +164,7 @@ module _ {vs es : List ℕ} {m v : ℕ} {marks₀ : List ℕ} (p : Marks vs es m
           go : (i : ℕ) → i < m → Dec (i ≡ r - 1) → ltb 0 (getD (set marks (r - 1) 1) i 0) ≡ (ltb 0 (getD marks₀ i 0) || (eqb (field es 6 i 0) v && ltb (field es 6 i 1) (w + 1)))
           go i l (yes z) =
               rw (z, getD-set-same marks (r - 1) 1 0 marker-in, eq-eqb (field es 6 (r - 1) 0) v from, lt-ltb (field es 6 (r - 1) 1) (w + 1) (omega arith))
-              (sym (or-on (ltb 0 (getD marks₀ (r - 1) 0))))
+              (sym (or-true (ltb 0 (getD marks₀ (r - 1) 0))))
           go i l (no z) =
               ap (λ (x : ℕ). ltb 0 x) (getD-set-other marks (r - 1) i 1 0 z)
               ∙ b .each i l

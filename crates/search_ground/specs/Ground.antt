@@ -14,7 +14,8 @@ use Rattle.laws.specs.Lists.{sole, isSome}
 use Rattle.laws.specs.ListLaws.{clash, or-none, and-left, and-right, All, nil, cons}
 use Rattle.laws.specs.Numbers.{within}
 use Rattle.laws.specs.Records.{field, field-other}
-use Rattle.definition.specs.Refusal.{Rule, firstBroken}
+use Rattle.definition.proofs.Checks.{holds-first}
+use Rattle.definition.specs.Refusal.{firstBroken}
 use Rattle.definition.specs.Limits.{Sample, Input, referenceFits, referenceBases, readsFit, graphMaximaFit, searchMaximaFit, settingsFit, sampleRules}
 use Rattle.definition.specs.Threading.{Graph, eqEnds, leaving, threaded, sinkOf, symbolicOf, withSymbolic}
 use Rattle.definition.specs.Evidence.{Branches, Tree, treeAt, evidence}
@@ -50,11 +51,6 @@ record Ruled (s : Sample) : Type 0 where
   reference-fits : referenceFits (s .k) (s .reference) ≡ true
   reference-bases : referenceBases (s .reference) ≡ true
   reads-fit : readsFit s ≡ true
-
-holds-first : (n : ℕ) (b : Bool) (rs : List Rule) → firstBroken (record { number = suc n; holds = b } ∷ rs) ≡ 0 → (b ≡ true) × (firstBroken rs ≡ 0)
-unfolding firstBroken
-holds-first n true rs e = (refl, e)
-holds-first n false rs e = absurd (omega arith)
 
 ruled : (s : Sample) → firstBroken (sampleRules s) ≡ 0 → Ruled s
 unfolding sampleRules
