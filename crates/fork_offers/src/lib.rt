@@ -15,6 +15,7 @@ ghost use mathlib.Core.Path.{_≡_};
 ghost use Prim.Native.Nat.{_+_, _-_, _*_, _^_, _<_, _≤_};
 ghost use lib.ListN.{length, getD};
 ghost use Rattle.definition.specs.Threading.{eqEnds, leaving};
+ghost use Rattle.assembly.specs.Fields.{HasEdge};
 ghost use Rattle.threading_tree.specs.Ends.{ends};
 ghost use Rattle.threading_tree.specs.Slots.{Slot};
 ghost use Rattle.threading_tree.specs.Read.{Readable};
@@ -401,7 +402,7 @@ fn offer_edge(
 
 // The out-edge of v after that of number r - 1, in vertex order: its number plus 1, or 0.
 fn out_after(vertices: &[u32], edges: &[u32], m: usize, v: usize, r: usize) -> usize
-    requires { ⌜ Fork (now vertices) (now edges) m v × ((r - 1) * 6 + 6 ≤ length (now edges)) × (r ≡ 0 → ⊥) ⌝ }
+    requires { ⌜ Fork (now vertices) (now edges) m v × (HasEdge (now edges) (r - 1)) × (r ≡ 0 → ⊥) ⌝ }
     ensures { λ s. ⌜ After (now (vertices .entry)) (now (edges .entry)) v r s ⌝ }
 {
     next_out(vertices, edges, v, assembly::edge_to(edges, r - 1) + 1)

@@ -9,9 +9,10 @@ use native.Mathlib.Decide.{ℕ-discrete}
 use lib.Dec.{eqb}
 use lib.ListN.{length}
 use borrow.Author.Tests.{eq-eqb, ne-eqb}
-use Rattle.laws.specs.Records.{field, putField}
+use Rattle.laws.specs.Records.{putField}
 use Rattle.definition.specs.Threading.{Ends, Graph, leaving}
 use Rattle.definition.specs.Evidence.{Walk, takeEdge, pass, walkBases, nodes}
+use Rattle.assembly.specs.Fields.{HasVertex, treeRoot, HasEdge, edgeFrom, edgeTo}
 use Rattle.assembly.specs.Store.{edgeAt, edgesOf, Good}
 use Rattle.threading_tree.specs.Ends.{ends}
 use Rattle.threading_tree.specs.Slots.{cols, told, Beyond}
@@ -37,7 +38,7 @@ use Rattle.junction_trees.specs.Roots.{rootOf, Kept, kept-self, kept-on,
 pub record Sound (d : Ground) (text vs es : List ℕ) : Type 0 where
   pub good : Good (d .k) text vs (d .vertices) es (d .edges)
   pub some : 0 < d .k
-  pub room-v : d .vertices * 12 + 12 ≤ length vs
+  pub room-v : HasVertex vs (d .vertices)
   pub room-e : d .edges * 6 ≤ length es
   pub few : d .vertices < 2 ^ 16
   pub sink : d .sink < d .vertices
@@ -92,7 +93,7 @@ pub record Passing (d : Ground) (s : Way) (i : ℕ) (vs es x op : List ℕ) : Ty
   pub state : State d walk steps (s .nodes) (s .groups) vs x op
   pub low : steps ≤ 33792
   pub edge : i < d .edges
-  pub from : field es 6 i 0 ≡ s .here
+  pub from : edgeFrom es i ≡ s .here
 
 abbrev pub walkedRefusal : Walked → ℕ
 walkedRefusal (Next t) = 0
@@ -106,7 +107,7 @@ PassedTo d i w p vs es x op (Next t) = State d (passOf d es i w) (suc p) (t .nod
 PassedTo d i w p vs es x op (Refused r) = (r ≡ 9) × (d .most < many (passOf d es i w))
 
 abbrev pub Arrives : List ℕ → ℕ → Walked → Type 0
-Arrives es i (Next t) = t .here ≡ field es 6 i 1
+Arrives es i (Next t) = t .here ≡ edgeTo es i
 Arrives es i (Refused r) = Unit {0}
 
 pub record Passed (d : Ground) (s : Way) (i : ℕ) (vs vs' es x x' op op' : List ℕ) (r : Walked) : Type 0 where
@@ -123,20 +124,20 @@ module _ {d : Ground} {s : Way} {i : ℕ} {vs es x op : List ℕ} (q : Passing d
   here-in : s .here < d .vertices
   here-in = rw (← q .from) (q .sound .good .from-in i (q .edge))
 
-  pub pass-row : s .here * 12 + 12 ≤ length vs
+  pub pass-row : HasVertex vs (s .here)
   pass-row = let a = here-in in let b = q .sound .room-v in omega arith
 
-  pub pass-edge-in : i * 6 + 6 ≤ length es
+  pub pass-edge-in : HasEdge es i
   pass-edge-in = let a = q .edge in let b = q .sound .room-e in omega arith
 
   pub pass-here-fits : s .here < 2 ^ 32
   pass-here-fits = let a = here-in in let b = q .sound .few in omega arith
 
-  module _ (to : ℕ) (ht : to ≡ field es 6 i 1) where
+  module _ (to : ℕ) (ht : to ≡ edgeTo es i) where
     to-in : to < d .vertices
     to-in = rw ht (q .sound .good .to-in i (q .edge))
 
-    pub pass-to-row : to * 12 + 12 ≤ length vs
+    pub pass-to-row : HasVertex vs to
     pass-to-row = let a = to-in in let b = q .sound .room-v in omega arith
 
     pub pass-to-fits : to < 2 ^ 32
@@ -145,7 +146,7 @@ module _ {d : Ground} {s : Way} {i : ℕ} {vs es x op : List ℕ} (q : Passing d
     ends-are : edgeAt es i .ends ≡ ends (s .here) to
     ends-are = rw (ht, q .from)
 
-    module _ (root : ℕ) (hr : root ≡ field vs 12 (s .here) 11) where
+    module _ (root : ℕ) (hr : root ≡ treeRoot vs (s .here)) where
       abbrev told-of : ThreadingState
       told-of = record { nodes = s .nodes; groups = s .groups; root = root }
 

@@ -22,6 +22,7 @@ ghost use mathlib.Core.List.{_++_};
 ghost use Prim.Native.Nat.{ℕ, _+_, _*_, _^_, _<_, _≤_};
 ghost use lib.ListN.{length, getD};
 ghost use Rattle.laws.specs.Records.{field, putField};
+ghost use Rattle.assembly.specs.Fields.{HasVertex, outEdge, treeRoot};
 ghost use Rattle.assembly.specs.Store.{code};
 ghost use Rattle.junction_tree_graph.specs.Reads.{readOf, readsOf};
 ghost use Rattle.junction_tree_graph.specs.Built.{sampleOf};
@@ -40,14 +41,14 @@ const ROOT: usize = 11;
 // ---- the slot of a vertex's root, 0 where it has no tree
 
 pub fn root_slot(vertices: &[u32], v: usize) -> usize
-    requires { ⌜ v * 12 + 12 ≤ length (now vertices) ⌝ }
-    ensures { λ r. ⌜ r ≡ field (now (vertices .entry)) 12 v 11 ⌝ }
+    requires { ⌜ HasVertex (now vertices) v ⌝ }
+    ensures { λ r. ⌜ r ≡ treeRoot (now (vertices .entry)) v ⌝ }
 {
     wide(vertices[v * VERTEX + ROOT])
 }
 
 fn keep_root(vertices: &mut [u32], v: usize, slot: usize)
-    requires { ⌜ (v * 12 + 12 ≤ length (now vertices)) × (slot < 2 ^ 32) ⌝ }
+    requires { ⌜ (HasVertex (now vertices) v) × (slot < 2 ^ 32) ⌝ }
     ensures { λ _. ⌜ now (vertices .exit) ≡ putField (now (vertices .entry)) 12 v 11 slot ⌝ }
 {
     vertices[v * VERTEX + ROOT] = slot as u32;
@@ -69,7 +70,7 @@ fn clear_roots(vertices: &mut [u32], n: usize)
 
 // How many edges leave v: its slots that name one.
 fn out_degree(vertices: &[u32], v: usize) -> usize
-    requires { ⌜ v * 12 + 12 ≤ length (now vertices) ⌝ }
+    requires { ⌜ HasVertex (now vertices) v ⌝ }
     ensures { λ r. ⌜ OutDegree (now (vertices .entry)) v r ⌝ }
 {
     let mut n: usize = 0;
@@ -86,7 +87,7 @@ fn out_degree(vertices: &[u32], v: usize) -> usize
 // Whether leaving a vertex by an edge to `to` opens the vertex's tree: it has two or more out-edges, or a target has two or more in-edges. Where it has
 // just one out-edge `to` is the only target.
 fn vertex_warrants_junction_tree(vertices: &[u32], outs: usize, to: usize) -> bool
-    requires { ⌜ to * 12 + 12 ≤ length (now vertices) ⌝ }
+    requires { ⌜ HasVertex (now vertices) to ⌝ }
     ensures { λ r. ⌜ Warrants (now (vertices .entry)) outs to r ⌝ }
 {
     if outs > 1 {
@@ -136,8 +137,8 @@ pub enum Evidence {
 
 // The out-edge of v whose target ends in the base at place q of the text: its number plus 1, or 0.
 fn next_edge(reference: &[u8], bases: &[u8], vertices: &[u32], v: usize, q: usize) -> usize
-    requires { ⌜ (q < length (now reference) + length (now bases)) × (v * 12 + 12 ≤ length (now vertices)) ⌝ }
-    ensures { λ r. ⌜ r ≡ field (now (vertices .entry)) 12 v (code (getD (now (reference .entry) ++ now (bases .entry)) q 0)) ⌝ }
+    requires { ⌜ (q < length (now reference) + length (now bases)) × (HasVertex (now vertices) v) ⌝ }
+    ensures { λ r. ⌜ r ≡ outEdge (now (vertices .entry)) v (code (getD (now (reference .entry) ++ now (bases .entry)) q 0)) ⌝ }
 {
     let b = wide_byte(byte_at(reference, bases, q));
     out_edge(vertices, v, b / 2 % 8)

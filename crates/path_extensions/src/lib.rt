@@ -21,6 +21,7 @@ ghost use mathlib.Core.List.{List};
 ghost use Prim.Native.Nat.{ℕ, _+_, _*_, _<_, _≤_};
 ghost use lib.ListN.{length};
 ghost use Rattle.laws.specs.Records.{field};
+ghost use Rattle.assembly.specs.Fields.{HasEdge};
 ghost use Rattle.kbest_haplotype.specs.Penalties.{penaltyOf, priced};
 ghost use Rattle.path_store.specs.Cells.{scoreOf};
 ghost use Rattle.path_store.specs.Path.{Table};
@@ -47,7 +48,7 @@ struct Way {
 
 // The number at place j of the edge i: 0 for its source, 1 for its target.
 fn edge_end(edges: &[u32], i: usize, j: usize) -> u32
-    requires { ⌜ (i * 6 + 6 ≤ length (now edges)) × (j < 6) ⌝ }
+    requires { ⌜ (HasEdge (now edges) i) × (j < 6) ⌝ }
     ensures { λ r. ⌜ r ≡ field (now (edges .entry)) 6 i j ⌝ }
 {
     edges[i * 6 + j]

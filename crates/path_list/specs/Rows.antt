@@ -13,6 +13,7 @@ use Rattle.laws.specs.Records.{field}
 use Rattle.laws.specs.Rows.{rows, length-rows, getD-rows}
 use Rattle.laws.specs.Sorting.{same-or}
 use Rattle.definition.specs.Calls.{writtenAt}
+use Rattle.assembly.specs.Fields.{HasEdge}
 use Rattle.assembly.specs.Paths.{Spells, basesOf, bases-length}
 use Rattle.path_store.specs.Cells.{countOf, scoreOf, Inside}
 use Rattle.path_list.specs.Laid.{Laid, row-low, laid-next, laid-sets}
@@ -200,7 +201,7 @@ pub record Filed (es t : List ℕ) (sc : List Float) (shut walks : List ℕ) (mo
   pub records : Known t sc shut count
   pub short : (i : ℕ) → i < count → countOf t (recordAt shut i) ≤ most
   pub walks-room : count * most ≤ length walks
-  pub edge-room : (i x : ℕ) → i < count → x < countOf t (recordAt shut i) → getD (drop (i * most) walks) x 0 * 6 + 6 ≤ length es
+  pub edge-room : (i x : ℕ) → i < count → x < countOf t (recordAt shut i) → HasEdge es (getD (drop (i * most) walks) x 0)
 
 -- field j of the edges of row r
 abbrev pub fieldsAt : List ℕ → List ℕ → List ℕ → List ℕ → ℕ → ℕ → List ℕ → ℕ → List ℕ

@@ -11,7 +11,6 @@ use lib.Ieee.{Float}
 use borrow.Author.Tests.{eq-eqb}
 use Rattle.laws.specs.Lists.{find}
 use Rattle.laws.specs.ListLaws.{All, nil, cons, all-mono}
-use Rattle.laws.specs.Records.{field}
 use Rattle.laws.specs.Rows.{rows, rows-more, rows-same, rows-none}
 use Rattle.laws.specs.Insertion.{insert, sorted, all-sorted}
 use Rattle.laws.specs.Sorting.{insert-map}
@@ -22,6 +21,7 @@ use Rattle.definition.specs.Building.{Built}
 use Rattle.definition.specs.Listing.{Row, rowOf, pathBases, originAt, above, listOrder}
 use Rattle.definition.specs.Calls.{pathRow, writtenAt, writtenRows}
 use Rattle.definition.proofs.Walks.{Numbered, eqEnds-true}
+use Rattle.assembly.specs.Fields.{kmerPlace, edgeFrom, edgeTo}
 use Rattle.assembly.specs.Table.{table, Distinct, find-table-some}
 use Rattle.assembly.specs.Store.{edgeAt, edgesOf, kmerAt, graphOf}
 use Rattle.assembly.specs.Paths.{basesOf, bases-is}
@@ -35,8 +35,8 @@ use Rattle.path_list.specs.Ranks.{Lists, scoreAt, countAt, walkAt, tailA
 -- the closed paths are spelled by the graph of n vertices and m edges: none takes the symbolic edge
 pub record Drawn (text vs es only to t shut : List ℕ) (k count n m : ℕ) : Type 0 where
   pub vertex : 0 < n
-  pub fits : (v : ℕ) → v < n → field vs 12 v 8 + k ≤ length text
-  pub to-in : (e : ℕ) → e < m → field es 6 e 1 < n
+  pub fits : (v : ℕ) → v < n → kmerPlace vs v + k ≤ length text
+  pub to-in : (e : ℕ) → e < m → edgeTo es e < n
   pub real : (i : ℕ) → i < count → All (λ e. e < m) (walkOf only to t shut i)
 
 -- the tables show the graph, its edges with the symbolic one, and the closed paths
@@ -158,7 +158,7 @@ module _ (l : Lists) (only to : List ℕ) (count : ℕ) (b : Built) (closed : Li
   origin-is e h =
       let f : find (λ (d : Edge). eqEnds (nameOf (l .es) e) (d .ends)) (table (edgeAt (l .es)) (S .all)) ≡ some (edgeAt (l .es) e) =
       find-table-some (eqEnds (nameOf (l .es) e)) (edgeAt (l .es)) (S .all) e (let z = S .within in omega arith)
-      (rw (eq-eqb (field (l .es) 6 e 0) (field (l .es) 6 e 0) refl, eq-eqb (field (l .es) 6 e 1) (field (l .es) 6 e 1) refl))
+      (rw (eq-eqb (edgeFrom (l .es) e) (edgeFrom (l .es) e) refl, eq-eqb (edgeTo (l .es) e) (edgeTo (l .es) e) refl))
       (λ j k q. sym (S .distinct e j (let z = S .within in omega arith) k (eqEnds-true (nameOf (l .es) e) (nameOf (l .es) j) q)))
       in
       rw (← S .edges, f, originAt)

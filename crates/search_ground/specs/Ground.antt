@@ -13,7 +13,7 @@ use borrow.Author.Tests.{leb-true, eq-eqb, ne-eqb}
 use Rattle.laws.specs.Lists.{sole, isSome}
 use Rattle.laws.specs.ListLaws.{clash, or-none, and-left, and-right, All, nil, cons}
 use Rattle.laws.specs.Numbers.{within}
-use Rattle.laws.specs.Records.{field, field-other}
+use Rattle.laws.specs.Records.{field-other}
 use Rattle.definition.proofs.Checks.{holds-first}
 use Rattle.definition.specs.Refusal.{firstBroken}
 use Rattle.definition.specs.Limits.{Sample, Input, referenceFits, referenceBases, readsFit, graphMaximaFit, searchMaximaFit, settingsFit, sampleRules}
@@ -25,6 +25,7 @@ use Rattle.definition.specs.Listing.{searchInput}
 use Rattle.definition.proofs.Counts.{Small, SmallTree, counts-small}
 use Rattle.definition.proofs.Supports.{leaving-small}
 use Rattle.definition.proofs.Degrees.{six-leave}
+use Rattle.assembly.specs.Fields.{HasVertex, treeRoot, edgeFrom, edgeTo}
 use Rattle.assembly.specs.Table.{length-table}
 use Rattle.assembly.specs.Store.{edgeAt, edgesOf, graphOf}
 use Rattle.assembly.specs.Kmers.{length-of}
@@ -146,7 +147,7 @@ module _ (i : Input) {vs₂ es : List ℕ} {n m sink : ℕ} (rules : firstBroken
   same-length : length vs ≡ length vs₂
   same-length = rw link (length-linked vs₂ sink m)
 
-  room-n : n * 12 + 12 ≤ length vs₂
+  room-n : HasVertex vs₂ n
   room-n = let a = same-length in let b = lies .room in let c = lies .places in omega arith
 
   pub ground-linked : Linked vs es (m + 1)
@@ -156,7 +157,7 @@ module _ (i : Input) {vs₂ es : List ℕ} {n m sink : ℕ} (rules : firstBroken
   ground-tables to h = record { linked = ground-linked; size = h; room = lies .room }
 
   -- the roots are kept
-  same-root : (v : ℕ) → field vs 12 v 11 ≡ field vs₂ 12 v 11
+  same-root : (v : ℕ) → treeRoot vs v ≡ treeRoot vs₂ v
   unfolding linked
   same-root v = rw link (field-other vs₂ 12 sink 4 (m + 1) v 11 (omega arith) (omega arith) (omega arith))
 
@@ -171,8 +172,8 @@ module _ (i : Input) {vs₂ es : List ℕ} {n m sink : ℕ} (rules : firstBroken
       sym (leaving-from (edgesOf es (m + 1)) v)
       ∙ nexts-none es (m + 1) v 0 0 (record { there = λ z. absurd (omega arith); least = λ j l e k. absurd (from j l e (ℕ-discrete j m)) }) refl
     where
-      from : (j : ℕ) → j < m + 1 → field es 6 j 0 ≡ v → Dec (j ≡ m) → ⊥
-      from j l e (yes z) = let y : field es 6 j 0 ≡ sink = rw z (at .from) in let w = at .inside in omega arith
+      from : (j : ℕ) → j < m + 1 → edgeFrom es j ≡ v → Dec (j ≡ m) → ⊥
+      from j l e (yes z) = let y : edgeFrom es j ≡ sink = rw z (at .from) in let w = at .inside in omega arith
       from j l e (no z) = let y = at .good .from-in j (omega arith) in omega arith
 
   module _ {x op : List ℕ} {cap c : ℕ} (there : Evident (i .sample) vs₂ x op cap c) {to : List ℕ} (t : Tabled vs es (m + 1) sink only to) where
@@ -181,17 +182,17 @@ module _ (i : Input) {vs₂ es : List ℕ} {n m sink : ℕ} (rules : firstBroken
 
     -- ---- the trees
 
-    no-tree : (v : ℕ) → field vs 12 v 11 ≡ 0 → treeAt (evidence s (threaded s)) v ≡ none
+    no-tree : (v : ℕ) → treeRoot vs v ≡ 0 → treeAt (evidence s (threaded s)) v ≡ none
     no-tree v h = held-no-tree (begun (evidence s (threaded s))) cap c 0 (there .bound) (rootOf vs₂) x op (there .held) v (sym (same-root v) ∙ h)
 
-    a-tree : (v : ℕ) → field vs 12 v 11 ≢ 0 → TreeOf (begun (evidence s (threaded s))) c x (field vs 12 v 11) v
+    a-tree : (v : ℕ) → treeRoot vs v ≢ 0 → TreeOf (begun (evidence s (threaded s))) c x (treeRoot vs v) v
     a-tree v h =
         rw (same-root v) (held-tree (begun (evidence s (threaded s))) cap c 0 (there .bound) (rootOf vs₂) x op (there .held) v (λ z. h (same-root v ∙ z)))
 
-    bare-of : (v : ℕ) → isSome (treeAt (evidence s (threaded s)) v) ≡ false → field vs 12 v 11 ≡ 0
-    bare-of v h = go (ℕ-discrete (field vs 12 v 11) 0)
+    bare-of : (v : ℕ) → isSome (treeAt (evidence s (threaded s)) v) ≡ false → treeRoot vs v ≡ 0
+    bare-of v h = go (ℕ-discrete (treeRoot vs v) 0)
       where
-        go : Dec (field vs 12 v 11 ≡ 0) → field vs 12 v 11 ≡ 0
+        go : Dec (treeRoot vs v ≡ 0) → treeRoot vs v ≡ 0
         go (yes z) = z
         go (no z) = clash (sym (ap isSome (a-tree v z .is)) ∙ h)
 
@@ -204,7 +205,7 @@ module _ (i : Input) {vs₂ es : List ℕ} {n m sink : ℕ} (rules : firstBroken
     unfolding onward searchInput
     stops v z = go (isSome (treeAt (evidence s (threaded s)) v) || eqb v (sinkOf s (threaded s))) refl
       where
-        inside : (v ≡ sink → ⊥) → field vs 12 v 11 ≡ 0 → Dec (v < length only) → sole (leaving (withSymbolic s (threaded s)) v) ≡ none
+        inside : (v ≡ sink → ⊥) → treeRoot vs v ≡ 0 → Dec (v < length only) → sole (leaving (withSymbolic s (threaded s)) v) ≡ none
         inside a b (yes l) = rw edges-are (t .sole v l .none z b a)
         inside a b (no l) = rw edges-are (ap sole (none-leave v (let y = lies .places in omega arith)))
 
@@ -238,22 +239,22 @@ module _ (i : Input) {vs₂ es : List ℕ} {n m sink : ℕ} (rules : firstBroken
         go (yes l) = let a = t .sole v l .known in let b = t .size in omega arith
         go (no l) = let y : getD only v 0 ≡ 0 = List·getD-eq-default only 0 (omega arith) in omega arith
 
-    far : (e : ℕ) → e < m + 1 → field es 6 e 1 < length only
+    far : (e : ℕ) → e < m + 1 → edgeTo es e < length only
     far e h = go (ℕ-discrete e m)
       where
-        go : Dec (e ≡ m) → field es 6 e 1 < length only
-        go (yes z) = let y : field es 6 e 1 ≡ n = rw z (at .to) in let w = lies .places in omega arith
+        go : Dec (e ≡ m) → edgeTo es e < length only
+        go (yes z) = let y : edgeTo es e ≡ n = rw z (at .to) in let w = lies .places in omega arith
         go (no z) = let y = at .good .to-in e (omega arith) in let w = lies .places in omega arith
 
-    target : (e : ℕ) → field es 6 e 1 ≡ getD to e 0
+    target : (e : ℕ) → edgeTo es e ≡ getD to e 0
     target e = go (decLt e (m + 1))
       where
-        go : Dec (e < m + 1) → field es 6 e 1 ≡ getD to e 0
+        go : Dec (e < m + 1) → edgeTo es e ≡ getD to e 0
         go (yes h) = sym (t .target e h)
         go (no h) =
             let a = lies .rows in
             let b = t .size in
-            let p : field es 6 e 1 ≡ 0 = List·getD-eq-default es 0 (omega arith) in
+            let p : edgeTo es e ≡ 0 = List·getD-eq-default es 0 (omega arith) in
             let q : getD to e 0 ≡ 0 = List·getD-eq-default to 0 (omega arith) in
             p ∙ sym q
 
