@@ -42,9 +42,10 @@ const SUPPORT: usize = 2;
 
 const MARK: usize = 3;
 
-const SEQUENCE: usize = 4;
+// Where an edge's origin stands.
+pub const SEQUENCE: usize = 4;
 
-const PLACE: usize = 5;
+pub const PLACE: usize = 5;
 
 // ---- reading a vertex
 

@@ -13,6 +13,7 @@ use Rattle.definition.specs.Search.{Offer, among, unseen, bySupport}
 use Rattle.assembly.specs.Fields.{HasEdge, edgeTo, edgeSupport}
 use Rattle.assembly.specs.Store.{edgeAt, edgesOf}
 use Rattle.assembly.specs.Outs.{Slots, Nexts, outFrom, nexts-none, nexts-some}
+use Rattle.fork_offers.specs.Fields.{HasOffer}
 use Rattle.fork_offers.specs.Real.{Fork}
 use Rattle.fork_offers.specs.Rows.{Few, seenOf, Offered, Grown, rowPut, append-nil, grown-none, grown-one, grown-trans, grown-seen, grown-many, unseen-none, unseen-yes, unseen-no, unseen-split}
 
@@ -114,10 +115,10 @@ module _ (es : List ℕ) (m i t : ℕ) (vs : List ℕ) (v : ℕ) (out : List ℕ
         new : supportOffers seens t (edgeAt es i ∷ []) ≡ edgeOffer t (edgeAt es i) ∷ []
         new = one ∙ unseen-no seens (edgeOffer t (edgeAt es i)) (mine ∙ y)
 
-        pub edge-row : k * 4 + 4 ≤ length out
+        pub edge-row : HasOffer out k
         edge-row = rooms (length (supportOffers seens t (edgeAt es i ∷ []))) (p .room) (ap length new)
           where
-            rooms : (l : ℕ) → (k + l) * 4 ≤ length out → l ≡ 1 → k * 4 + 4 ≤ length out
+            rooms : (l : ℕ) → (k + l) * 4 ≤ length out → l ≡ 1 → HasOffer out k
             rooms l a b = omega arith
 
         pub edge-new : (out' : List ℕ) (k' : ℕ) → (out' ≡ rowPut out k i c t 0) × (k' ≡ k + 1) → Grown es m out out' k k' (supportOffers seens t (edgeAt es i ∷ []))

@@ -1,6 +1,11 @@
 // The paths that a taken path is extended to, all made before any is pushed. (Rust: process_vertex, junction_kbest.rs)
 use assembly::edge_to;
 use assembly::next_out;
+use fork_offers::OFFER;
+use fork_offers::OFFER_COUNT;
+use fork_offers::OFFER_EDGE;
+use fork_offers::OFFER_GUIDED;
+use fork_offers::OFFER_TOTAL;
 use fork_offers::applicable_next_edges;
 use fork_offers::walk_trees;
 use kbest_haplotype::Penalty;
@@ -22,6 +27,7 @@ ghost use Prim.Native.Nat.{ℕ, _+_, _*_, _<_, _≤_};
 ghost use lib.ListN.{length};
 ghost use Rattle.laws.specs.Records.{field};
 ghost use Rattle.assembly.specs.Fields.{HasEdge};
+ghost use Rattle.fork_offers.specs.Fields.{HasOffer};
 ghost use Rattle.kbest_haplotype.specs.Penalties.{penaltyOf, priced};
 ghost use Rattle.path_store.specs.Cells.{scoreOf};
 ghost use Rattle.path_store.specs.Path.{Table};
@@ -120,10 +126,14 @@ fn extend_with_edges(
 
 // The score of the path with the penalty of the offer in a row, if its counts have a place in the column.
 fn offer_score(column: &[f64], scores: &[f64], offers: &[u32], path: u32, row: usize) -> Penalty
-    requires { ⌜ (path < length (now scores)) × (row * 4 + 4 ≤ length (now offers)) ⌝ }
+    requires { ⌜ (path < length (now scores)) × (HasOffer (now offers) row) ⌝ }
     ensures { λ r. ⌜ penaltyOf r ≡ priced (offerScore (now (column .entry)) (now (offers .entry)) row (scoreOf (now (scores .entry)) path)) ⌝ }
 {
-    let p = log_penalty(column, offers[row * 4 + 1], offers[row * 4 + 2]);
+    let p = log_penalty(
+        column,
+        offers[row * OFFER + OFFER_COUNT],
+        offers[row * OFFER + OFFER_TOTAL],
+    );
     let Penalty::Of(penalty) = p else {
         return p;
     };
@@ -153,9 +163,9 @@ fn extend_by_offer(
         return Extended::Refused(penalty_refusal(p));
     };
     let way = Way {
-        edge: offers[row * 4 + 0],
+        edge: offers[row * OFFER + OFFER_EDGE],
         score: score,
-        guided: offers[row * 4 + 3] != 0,
+        guided: offers[row * OFFER + OFFER_GUIDED] != 0,
         free: false,
     };
     extend_with_edges(edges, nodes, to, paths, scores, active, g, taken, n, way)
