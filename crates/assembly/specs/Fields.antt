@@ -2,13 +2,20 @@
 use Prim.Native.Nat.{ℕ, _+_, _*_, _≤_}
 use mathlib.Core.List.{List}
 use lib.ListN.{length}
-use Rattle.laws.specs.Records.{field}
+use Rattle.laws.specs.Records.{field, putField}
 
 -- ---- vertices
 
 -- the table has the vertex v
 abbrev pub HasVertex : List ℕ → ℕ → Type 0
 HasVertex vs v = v * 12 + 12 ≤ length vs
+
+-- the table has the first n vertices, which take so many numbers
+abbrev pub HasVertices : List ℕ → ℕ → Type 0
+HasVertices vs n = n * 12 ≤ length vs
+
+abbrev pub vertexNumbers : ℕ → ℕ
+vertexNumbers n = n * 12
 
 abbrev pub vertexField : List ℕ → ℕ → ℕ → ℕ
 vertexField vs v c = field vs 12 v c
@@ -31,11 +38,24 @@ incomingEdge vs v = field vs 12 v 10
 abbrev pub treeRoot : List ℕ → ℕ → ℕ
 treeRoot vs v = field vs 12 v 11
 
+abbrev pub putTreeRoot : List ℕ → ℕ → ℕ → List ℕ
+putTreeRoot vs v x = putField vs 12 v 11 x
+
 -- ---- edges
 
 -- the table has the edge i
 abbrev pub HasEdge : List ℕ → ℕ → Type 0
 HasEdge es i = i * 6 + 6 ≤ length es
+
+-- the table has the first m edges, which take so many numbers
+abbrev pub HasEdges : List ℕ → ℕ → Type 0
+HasEdges es m = m * 6 ≤ length es
+
+abbrev pub edgeNumbers : ℕ → ℕ
+edgeNumbers m = m * 6
+
+abbrev pub edgeField : List ℕ → ℕ → ℕ → ℕ
+edgeField es i j = field es 6 i j
 
 abbrev pub edgeFrom : List ℕ → ℕ → ℕ
 edgeFrom es i = field es 6 i 0

@@ -12,7 +12,7 @@ use borrow.Author.Tests.{eq-eqb, ne-eqb}
 use Rattle.definition.specs.Threading.{Ends, Origin, Edge, merge, put, oneStep}
 use Rattle.laws.specs.Rows.{rows-same}
 use Rattle.laws.specs.Records.{field, putField, field-same, field-other, row-other, place-in, putFrom, length-putFrom, putFrom-row, putFrom-at}
-use Rattle.assembly.specs.Fields.{HasVertex, vertexField, outEdge, kmerPlace, incomingCount, incomingEdge, HasEdge, edgeFrom, edgeTo, edgeSupport, edgeMark}
+use Rattle.assembly.specs.Fields.{HasVertices, HasVertex, vertexField, outEdge, kmerPlace, incomingCount, incomingEdge, HasEdge, edgeFrom, edgeTo, edgeSupport, edgeMark}
 use Rattle.assembly.specs.Table.{Distinct, table-gain, table-more, count, count-same, count-more}
 use Rattle.assembly.specs.Store.{edgeAt, edgesOf, kmersOf, kmerAt, lastOf, code, code-lt, Good, good-distinct}
 
@@ -251,7 +251,7 @@ kmers-added k text vs v c w m n h = kmers-same k text vs (addedV vs v c w m) n (
 -- what holds of the tables holds with one edge more, from v to w, where v's slot for w's last base was empty
 module _ {k : ℕ} {text vs : List ℕ} {n : ℕ} {es : List ℕ} {m : ℕ} (g : Good k text vs n es m) (e : Edge) (a c : ℕ)
     (hv : e .ends .from < n) (hw : e .ends .to < n) (hc : c ≡ code (lastOf k text vs n (e .ends .to))) (hz : outEdge vs (e .ends .from) c ≡ 0)
-    (lv : n * 12 ≤ length vs) (le : HasEdge es m) where
+    (lv : HasVertices vs n) (le : HasEdge es m) where
   v' : ℕ
   v' = e .ends .from
 

@@ -3,15 +3,14 @@ use mathlib.Core.Path.{_≡_, refl, sym, ap, _∙_}
 use mathlib.Core.Logic.{_≢_, _⊎_, inl, inr}
 use mathlib.Core.Bool.{Bool, true, false, _&&_}
 use mathlib.Core.List.{List, [], _∷_}
-use Prim.Native.Nat.{ℕ, zero, suc, _+_, _-_, _*_, _<_, _≤_, Ordering, Ordering·lt, Ordering·eq, Ordering·gt}
+use Prim.Native.Nat.{ℕ, zero, suc, _+_, _-_, _<_, _≤_, Ordering, Ordering·lt, Ordering·eq, Ordering·gt}
 use native.Mathlib.Omega.{arith}
 use native.Mathlib.Decide.{ℕ-discrete}
 use lib.Dec.{eqb, leb}
-use lib.ListN.{length}
 use borrow.Author.Tests.{eqb-true, eq-eqb, le-leb, leb-true}
 use Rattle.laws.specs.Lists.{keep}
 use Rattle.definition.specs.Threading.{Ends, Edge, compareEnds, put, leaving}
-use Rattle.assembly.specs.Fields.{vertexField, outEdge, HasEdge, edgeFrom, edgeTo}
+use Rattle.assembly.specs.Fields.{vertexField, outEdge, HasEdges, HasEdge, edgeFrom, edgeTo}
 use Rattle.assembly.specs.Ends.{ends-eq, ends-flip, ends-flip', ends-trans, Below, is-below, is-above}
 use Rattle.assembly.specs.Puts.{put-nil, put-lt, put-eq, put-gt, merge-ends}
 use Rattle.assembly.specs.Table.{table, table-0, table-suc, Distinct}
@@ -245,7 +244,7 @@ slots-of {k = k} {text = text} {vs = vs} {n = n} {es = es} {v = v} g h =
       all = λ i l e. (code (lastOf k text vs n (edgeTo es i)), code-lt (lastOf k text vs n (edgeTo es i)), rw e at (g .slot i l));
     }
 
-pub slots-names : {vs es : List ℕ} {m v : ℕ} → Slots vs es m v → m * 6 ≤ length es → (c : ℕ) → c < 8 → Names es (outEdge vs v c)
+pub slots-names : {vs es : List ℕ} {m v : ℕ} → Slots vs es m v → HasEdges es m → (c : ℕ) → c < 8 → Names es (outEdge vs v c)
 slots-names s r c h z = let w = s .full c h z .0 in omega arith
 
 -- after c slots: what was found stands in one of them, and is the least of them from t on

@@ -14,7 +14,7 @@ use borrow.Author.Tests.{eqb-true, eq-eqb, le-leb, leb-true, lt-ltb, le-ltb, ltb
 use Rattle.laws.specs.Lists.{keep}
 use Rattle.definition.specs.Threading.{Ends, Edge, compareEnds}
 use Rattle.laws.specs.ListLaws.{length-nil}
-use Rattle.assembly.specs.Fields.{HasVertex, outEdge, HasEdge, edgeFrom, edgeTo}
+use Rattle.assembly.specs.Fields.{HasVertex, outEdge, HasEdges, HasEdge, edgeFrom, edgeTo}
 use Rattle.assembly.specs.Ends.{Below, is-below, is-above}
 use Rattle.assembly.specs.Table.{table, Distinct, length-table}
 use Rattle.assembly.specs.Store.{edgeAt, edgesOf}
@@ -150,7 +150,7 @@ pub record Orders (vs es out : List ℕ) (m : ℕ) : Type 0 where
   pub distinct : Distinct (edgeAt es) m
   pub from-in : (i : ℕ) → i < m → HasVertex vs (edgeFrom es i)
   pub slots : (v : ℕ) → HasVertex vs v → Slots vs es m v
-  pub room-e : m * 6 ≤ length es
+  pub room-e : HasEdges es m
   pub room-o : m ≤ length out
   pub few-e : m ≤ 8192
 

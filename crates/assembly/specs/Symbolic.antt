@@ -13,7 +13,7 @@ use borrow.Author.Tests.{eqb-true}
 use Rattle.laws.specs.Records.{putField, field-same, field-other, row-other}
 use Rattle.definition.specs.Limits.{isBase}
 use Rattle.definition.specs.Threading.{Ends, Edge, put}
-use Rattle.assembly.specs.Fields.{HasVertex, vertexField, outEdge, HasEdge, edgeFrom, edgeTo}
+use Rattle.assembly.specs.Fields.{HasVertices, HasVertex, vertexField, outEdge, HasEdges, HasEdge, edgeFrom, edgeTo}
 use Rattle.assembly.specs.Table.{table-same, Distinct}
 use Rattle.assembly.specs.Store.{edgeAt, edgesOf, lastOf, code, Good, good-distinct}
 use Rattle.assembly.specs.Moves.{addedE, addedE-row, addedE-at, addedE-old, added-put, good-front}
@@ -79,7 +79,7 @@ length-linked vs sink m = length-set vs (sink * 12 + 4) (m + 1)
 
 -- the slots hold the edges with the symbolic one, row m
 module _ {k : ℕ} {text vs : List ℕ} {n : ℕ} {es : List ℕ} {m : ℕ} (g : Good k text vs n es m) (sink : ℕ) (hs : sink < n) (hf : edgeFrom es m ≡ sink) (ht : edgeTo es m ≡ n)
-    (room : n * 12 ≤ length vs) where
+    (room : HasVertices vs n) where
   at : outEdge (linked vs sink m) sink 4 ≡ m + 1
   unfolding linked
   at = field-same vs 12 sink 4 (m + 1) (omega arith)
@@ -152,7 +152,7 @@ module _ {k : ℕ} {text vs : List ℕ} {n : ℕ} {es : List ℕ} {m : ℕ} (g :
       go (no l) = no-slots v (omega arith)
 
   -- so all edges, the symbolic one too, can be put in the definition's order
-  pub linked-orders : (out : List ℕ) → (m + 1) * 6 ≤ length es → m + 1 ≤ length out → m + 1 ≤ 8192 → Orders (linked vs sink m) es out (m + 1)
+  pub linked-orders : (out : List ℕ) → HasEdges es (m + 1) → m + 1 ≤ length out → m + 1 ≤ 8192 → Orders (linked vs sink m) es out (m + 1)
   linked-orders out re ro f =
       record {
         distinct = linked-distinct;

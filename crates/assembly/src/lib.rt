@@ -22,7 +22,10 @@ ghost use Rattle.assembly.specs.Degrees.{one, filled};
 ghost use Rattle.assembly.specs.Paths.{basesOf, Spells};
 ghost use Rattle.assembly.specs.Sorted.{Orders, Ordered};
 
-const VERTEX: usize = 12;
+// A vertex's record; the evidence walk writes the slot of its tree's root.
+pub const VERTEX: usize = 12;
+
+pub const ROOT: usize = 11;
 
 const SYMBOLIC: usize = 4;
 
@@ -32,11 +35,12 @@ const INS: usize = 9;
 
 const INTO: usize = 10;
 
-const EDGE: usize = 6;
+// An edge's record, and where its ends stand.
+pub const EDGE: usize = 6;
 
-const FROM: usize = 0;
+pub const FROM: usize = 0;
 
-const TO: usize = 1;
+pub const TO: usize = 1;
 
 const SUPPORT: usize = 2;
 

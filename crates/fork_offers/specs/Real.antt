@@ -1,17 +1,16 @@
 -- The out-edges of a fork in the stores, and whether a node's edge is one of them.
 use mathlib.Core.Path.{_≡_, refl, sym, ap, _∙_}
-use Prim.Native.Nat.{ℕ, _+_, _-_, _*_, _^_, _<_, _≤_}
+use Prim.Native.Nat.{ℕ, _+_, _-_, _^_, _<_, _≤_}
 use mathlib.Core.Bool.{Bool, true, false, not, _&&_, and-true, and-false}
 use mathlib.Core.List.{List, [], _∷_, map}
 use native.Mathlib.Omega.{arith}
 use lib.Dec.{leb, eqb}
-use lib.ListN.{length}
 use borrow.Author.Tests.{eq-eqb, ne-eqb, le-leb, lt-leb}
 use Rattle.laws.specs.Lists.{keep}
 use Rattle.laws.specs.ListLaws.{clash}
 use Rattle.definition.specs.Threading.{Ends, Edge, eqEnds, leaving}
 use Rattle.definition.specs.Search.{among}
-use Rattle.assembly.specs.Fields.{HasVertex, outEdge, HasEdge, edgeFrom, edgeTo}
+use Rattle.assembly.specs.Fields.{HasVertex, outEdge, HasEdges, HasEdge, edgeFrom, edgeTo}
 use Rattle.assembly.specs.Store.{edgeAt, edgesOf}
 use Rattle.assembly.specs.Table.{Distinct}
 use Rattle.assembly.specs.Outs.{Names, Slots, Nexts, outFrom, nexts-none, nexts-some, slots-names}
@@ -34,7 +33,7 @@ pub record Fork (vs es : List ℕ) (m v : ℕ) : Type 0 where
   pub slots : Slots vs es m v
   pub distinct : Distinct (edgeAt es) m
   pub room-v : HasVertex vs v
-  pub room-e : m * 6 ≤ length es
+  pub room-e : HasEdges es m
   pub few : m < 2 ^ 32
 
 pub fork-names : {vs es : List ℕ} {m v : ℕ} → Fork vs es m v → (c : ℕ) → c < 8 → Names es (outEdge vs v c)

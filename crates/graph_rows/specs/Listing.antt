@@ -10,7 +10,7 @@ use Rattle.laws.specs.Records.{putFrom, length-putFrom}
 use Rattle.laws.specs.ListLaws.{length-nil}
 use Rattle.definition.specs.Threading.{Edge}
 use Rattle.definition.specs.Calls.{writtenAt, flat, edgeRow}
-use Rattle.assembly.specs.Fields.{HasVertex, outEdge, HasEdge, edgeTo}
+use Rattle.assembly.specs.Fields.{HasVertex, outEdge, HasEdges, HasEdge, edgeTo}
 use Rattle.assembly.specs.Table.{length-table}
 use Rattle.assembly.specs.Store.{edgeAt, edgesOf}
 use Rattle.assembly.specs.Outs.{Nexts, Slots, Names}
@@ -33,7 +33,7 @@ pub list-start : (es out : List ℕ) (m : ℕ) → Listing es out out m 0 0 0
 unfolding flat
 list-start es out m = record { done = []; rows = refl; run = rest-start es m; so-far = refl; same = refl }
 
-module _ {vs es out : List ℕ} {m : ℕ} (x : Orders vs es out m × (m * 6 ≤ length out)) where
+module _ {vs es out : List ℕ} {m : ℕ} (x : Orders vs es out m × (HasEdges out m)) where
   length-all : length (edgesOf es m) ≡ m
   unfolding edgesOf
   length-all = length-table (edgeAt es) m (x .0 .distinct)

@@ -67,7 +67,7 @@ pub usable-base : (least b q : ℕ) → usable least b q ≡ true → isBase b �
 unfolding usable
 usable-base least b q h = and-left (isBase b) (leb least q) h
 
-module _ {least : ℕ} (reference : List ℕ) {bases quals : List ℕ} {p e q : ℕ} (r : RunEnd (usable least) bases quals p e q) where
+module _ (least : ℕ) (reference : List ℕ) {bases quals : List ℕ} {p e q : ℕ} (r : RunEnd (usable least) bases quals p e q) where
   pub run-inside : e ≤ length bases → length reference + p + (q - p) ≤ length (reference ++ bases)
   run-inside l = let z = length-append reference bases in let u = r .to in let v = r .from in omega arith
 

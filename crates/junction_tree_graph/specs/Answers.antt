@@ -13,7 +13,7 @@ use Rattle.definition.specs.Limits.{Sample, GraphMaxima, graphMaximaFit}
 use Rattle.definition.specs.Evidence.{evidence, nodes}
 use Rattle.definition.specs.Building.{built, builtOf}
 use Rattle.definition.specs.Threading.{threaded, numberOf, withSymbolic}
-use Rattle.assembly.specs.Fields.{kmerPlace, HasEdge}
+use Rattle.assembly.specs.Fields.{HasVertices, kmerPlace, HasEdge}
 use Rattle.assembly.specs.Store.{kmersOf}
 use Rattle.assembly.specs.Moves.{addedE}
 use Rattle.assembly.specs.Kmers.{part}
@@ -53,7 +53,7 @@ module _ {s : Sample} {v e : ℕ} {vs es : List ℕ} (x : Builds s v e vs es) (v
     came : CameG (s .k) (textOf s) vs' es' (mostOf v e) t (2 * length (textOf s)) (threaded s)
     came = rw d at h
 
-    pub answer-asks : (length (s .reference) - s .k + s .k ≤ length (textOf s)) × (t .vertices * 12 ≤ length vs') × ((u : ℕ) → u < t .vertices → kmerPlace vs' u + s .k ≤ length (textOf s))
+    pub answer-asks : (length (s .reference) - s .k + s .k ≤ length (textOf s)) × (HasVertices vs' (t .vertices)) × ((u : ℕ) → u < t .vertices → kmerPlace vs' u + s .k ≤ length (textOf s))
     answer-asks = sink-asks x came
 
     module _ (le : length es' ≡ length es) (sink : ℕ) (hs : sink ≡ numberOf (kmersOf (s .k) (textOf s) vs' (t .vertices)) (part (s .k) (textOf s) (length (s .reference) - s .k))) where

@@ -18,7 +18,7 @@ use Rattle.definition.specs.Refusal.{Rule, firstBroken}
 use Rattle.definition.specs.Limits.{Sample, kFits, referenceFits, isBase, referenceBases, rising, endsFit, readsFit, sampleRules}
 use Rattle.definition.specs.Stretch.{kmers, stretches}
 use Rattle.definition.specs.Threading.{Graph, put, numberOf, thread, threadAll, threaded, lastPlace, sinkOf, symbolicOf, withSymbolic}
-use Rattle.assembly.specs.Fields.{kmerPlace, HasEdge, edgeFrom, edgeTo, edgeSupport}
+use Rattle.assembly.specs.Fields.{HasVertices, vertexNumbers, kmerPlace, HasEdges, HasEdge, edgeNumbers, edgeFrom, edgeTo, edgeSupport}
 use Rattle.assembly.specs.Table.{table-0, length-table}
 use Rattle.assembly.specs.Store.{edgeAt, edgesOf, kmersOf, graphOf, Good, good-distinct}
 use Rattle.assembly.specs.Moves.{addedE, addedE-row}
@@ -92,8 +92,8 @@ fits-of s h =
 pub record Begins (s : Sample) (vs es : List ℕ) (most : Most) : Type 0 where
   pub fits : Fits s
   pub zero-v : (i : ℕ) → getD vs i 0 ≡ 0
-  pub room-v : most .vertices * 12 ≤ length vs
-  pub room-e : most .edges * 6 ≤ length es
+  pub room-v : HasVertices vs (most .vertices)
+  pub room-e : HasEdges es (most .edges)
   pub few-v : most .vertices ≤ 4096
   pub few-e : most .edges ≤ 8192
 
@@ -193,8 +193,8 @@ pub record Builds (s : Sample) (v e : ℕ) (vs es : List ℕ) : Type 0 where
   pub rules : firstBroken (sampleRules s) ≡ 0
   pub vertices-in : within 2 4096 v ≡ true
   pub edges-in : within 1 8192 e ≡ true
-  pub length-v : length vs ≡ v * 12
-  pub length-e : length es ≡ e * 6
+  pub length-v : length vs ≡ vertexNumbers v
+  pub length-e : length es ≡ edgeNumbers e
   pub zero-v : (i : ℕ) → getD vs i 0 ≡ 0
 
 -- the test of the definition's `builtOf`
@@ -292,7 +292,7 @@ module _ {s : Sample} {v e : ℕ} {vs es : List ℕ} (x : Builds s v e vs es) wh
         (thread-has (s .k) true (textOf s) 0 (length (s .reference)) 0 0 (record { kmers = []; edges = [] }) (let a = fits-s .k-low in omega arith) (fits-s .low)
         (let y = length-append (s .reference) (s .bases) in omega arith) (spelled-empty (s .k)))))
 
-    pub sink-asks : (length (s .reference) - s .k + s .k ≤ length (textOf s)) × (t .vertices * 12 ≤ length vs') × ((u : ℕ) → u < t .vertices → kmerPlace vs' u + s .k ≤ length (textOf s))
+    pub sink-asks : (length (s .reference) - s .k + s .k ≤ length (textOf s)) × (HasVertices vs' (t .vertices)) × ((u : ℕ) → u < t .vertices → kmerPlace vs' u + s .k ≤ length (textOf s))
     sink-asks = (place-in, (let a = g .fine .room-v in let b = g .fine .vertices in omega arith), g .fine .good .fits)
 
     module _ (le : length es' ≡ length es) (sink : ℕ) (hs : sink ≡ numberOf (kmersOf (s .k) (textOf s) vs' (t .vertices)) (part (s .k) (textOf s) (length (s .reference) - s .k))) where

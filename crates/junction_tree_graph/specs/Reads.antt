@@ -218,11 +218,11 @@ module _ {k : ℕ} {reference bases quals vs₁ es₁ : List ℕ} {most : Most} 
           record {
             fine = b .fine;
             some = x .some;
-            inside = run-inside reference r (x .in-b);
+            inside = run-inside least reference r (x .in-b);
             small = x .small;
-            bases = run-base reference r;
+            bases = run-base least reference r;
             place = omega arith;
-            steps = (let z = b .counted in let y = run-inside reference r (x .in-b) in omega arith);
+            steps = (let z = b .counted in let y = run-inside least reference r (x .in-b) in omega arith);
           }
 
       -- the run as the text has it is the run as the read has it

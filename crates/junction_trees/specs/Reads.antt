@@ -148,7 +148,7 @@ module _ {d : Ground} {reference bases quals vs₁ es x₁ op₁ : List ℕ} {st
 
     module _ (l : p < e) {q : ℕ} (r : RunEnd (usable least) bases quals p e q) where
       inside : length reference + p + (q - p) ≤ length (reference ++ bases)
-      inside = run-inside reference r (y .in-b)
+      inside = run-inside least reference r (y .in-b)
 
       pub read-fits : length reference + p < 2 ^ 64
       read-fits = let z = inside in let u = y .sound .small in omega arith
@@ -163,7 +163,7 @@ module _ {d : Ground} {reference bases quals vs₁ es x₁ op₁ : List ℕ} {st
             trees = b 0 .walked (y .trees);
             state = state-more (length reference + p) (b 0 .low) (b 0 .is (y .trees) (y .state));
             inside = inside;
-            bases = run-base reference r;
+            bases = run-base least reference r;
           }
 
       graph-now : groundOf d (reference ++ bases) vs es ≡ groundOf d (reference ++ bases) vs₁ es

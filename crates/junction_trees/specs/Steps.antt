@@ -9,10 +9,9 @@ use native.Mathlib.Decide.{ℕ-discrete}
 use lib.Dec.{eqb}
 use lib.ListN.{length}
 use borrow.Author.Tests.{eq-eqb, ne-eqb}
-use Rattle.laws.specs.Records.{putField}
 use Rattle.definition.specs.Threading.{Ends, Graph, leaving}
 use Rattle.definition.specs.Evidence.{Walk, takeEdge, pass, walkBases, nodes}
-use Rattle.assembly.specs.Fields.{HasVertex, treeRoot, HasEdge, edgeFrom, edgeTo}
+use Rattle.assembly.specs.Fields.{HasVertex, treeRoot, putTreeRoot, HasEdges, HasEdge, edgeFrom, edgeTo}
 use Rattle.assembly.specs.Store.{edgeAt, edgesOf, Good}
 use Rattle.threading_tree.specs.Ends.{ends}
 use Rattle.threading_tree.specs.Slots.{cols, told, Beyond}
@@ -39,7 +38,7 @@ pub record Sound (d : Ground) (text vs es : List ℕ) : Type 0 where
   pub good : Good (d .k) text vs (d .vertices) es (d .edges)
   pub some : 0 < d .k
   pub room-v : HasVertex vs (d .vertices)
-  pub room-e : d .edges * 6 ≤ length es
+  pub room-e : HasEdges es (d .edges)
   pub few : d .vertices < 2 ^ 16
   pub sink : d .sink < d .vertices
   pub small : length text ≤ 33792
@@ -181,10 +180,10 @@ module _ {d : Ground} {s : Way} {i : ℕ} {vs es x op : List ℕ} (q : Passing d
 
         -- the walk has gone on, whatever is kept as the root
         module _ (h : ThreadingState) (e : r ≡ Holds h) where
-          went : (w : Walk) (p : ℕ) → State d w p (s .nodes) (s .groups) vs x op → State d (passOf d es i w) (suc p) (h .nodes) (h .groups) (putField vs 12 (s .here) 11 (h .root)) x' op'
+          went : (w : Walk) (p : ℕ) → State d w p (s .nodes) (s .groups) vs x op → State d (passOf d es i w) (suc p) (h .nodes) (h .groups) (putTreeRoot vs (s .here) (h .root)) x' op'
           went w p st =
               let k' : Steps (λ u. takeUnless (eqb outs 1) (ends (s .here) to) (openWhere o (s .here) u)) passing (d .most) (s .here) told-of x x' op op' (Holds h) = rw e at k in
-              let c = k' .is w (p * suc p) (rootOf vs) (st .held) (sym hr) (rootOf (putField vs 12 (s .here) 11 (h .root))) (root-same vs (s .here) (h .root) pass-row)
+              let c = k' .is w (p * suc p) (rootOf vs) (st .held) (sym hr) (rootOf (putTreeRoot vs (s .here) (h .root))) (root-same vs (s .here) (h .root) pass-row)
               (λ u z. root-other vs (s .here) (h .root) u z) in
               let f = st .few in
               let b = bound-step p (p * suc p) (length (w .opened)) (omega arith) f in
@@ -198,14 +197,14 @@ module _ {d : Ground} {s : Way} {i : ℕ} {vs es x op : List ℕ} (q : Passing d
               let g = went (q .walk) (q .steps) (q .state) .held in
               let y = root-same vs (s .here) (h .root) pass-row in
               go (ℕ-discrete (h .root) 0) y (g .room) (g .wide .few)
-              (λ z. slot-live (cols x') (cols x') (h .nodes) 0 (ends 0 0) (rootOf (putField vs 12 (s .here) 11 (h .root)) (s .here)) (g .good) (g .rooted (s .here) z))
+              (λ z. slot-live (cols x') (cols x') (h .nodes) 0 (ends 0 0) (rootOf (putTreeRoot vs (s .here) (h .root)) (s .here)) (g .good) (g .rooted (s .here) z))
             where
-              go : Dec (h .root ≡ 0) → rootOf (putField vs 12 (s .here) 11 (h .root)) (s .here) ≡ h .root → h .nodes ≤ d .most → d .most < 2 ^ 32
-                  → ((rootOf (putField vs 12 (s .here) 11 (h .root)) (s .here) ≡ 0 → ⊥) → rootOf (putField vs 12 (s .here) 11 (h .root)) (s .here) ≤ h .nodes) → h .root < 2 ^ 32
+              go : Dec (h .root ≡ 0) → rootOf (putTreeRoot vs (s .here) (h .root)) (s .here) ≡ h .root → h .nodes ≤ d .most → d .most < 2 ^ 32
+                  → ((rootOf (putTreeRoot vs (s .here) (h .root)) (s .here) ≡ 0 → ⊥) → rootOf (putTreeRoot vs (s .here) (h .root)) (s .here) ≤ h .nodes) → h .root < 2 ^ 32
               go (yes z) y a b c = omega arith
               go (no z) y a b c = let l = c (λ v. z (sym y ∙ v)) in omega arith
 
-          pub pass-next : (vs' : List ℕ) → vs' ≡ putField vs 12 (s .here) 11 (h .root) → Passed d s i vs vs' es x x' op op' (Next (record { here = to; nodes = h .nodes; groups = h .groups }))
+          pub pass-next : (vs' : List ℕ) → vs' ≡ putTreeRoot vs (s .here) (h .root) → Passed d s i vs vs' es x x' op op' (Next (record { here = to; nodes = h .nodes; groups = h .groups }))
           pass-next vs' f =
               rw f
               (record {

@@ -4,7 +4,7 @@ use mathlib.Core.Path.{_≡_, refl, sym, ap, _∙_}
 use mathlib.Core.Bool.{true}
 use mathlib.Core.Option.{none, some}
 use mathlib.Core.List.{List, [], _∷_, _++_}
-use Prim.Native.Nat.{ℕ, suc, _+_, _-_, _*_, _^_, _<_, _≤_}
+use Prim.Native.Nat.{ℕ, suc, _+_, _-_, _^_, _<_, _≤_}
 use native.Mathlib.Omega.{arith}
 use native.Mathlib.Decide.{decLt}
 use lib.ListN.{length, getD, take, drop, length-drop, length-append, drop-of-length-le}
@@ -14,7 +14,7 @@ use Rattle.definition.specs.Limits.{isBase}
 use Rattle.definition.specs.Stretch.{Stretch}
 use Rattle.definition.specs.Threading.{Ends, Edge, Graph, follow, numberOf}
 use Rattle.definition.specs.Evidence.{Tree, Walk, pass, walkBases, walkStretch, nodes}
-use Rattle.assembly.specs.Fields.{HasVertex, outEdge, kmerPlace, edgeFrom, edgeTo}
+use Rattle.assembly.specs.Fields.{HasVertices, HasVertex, outEdge, kmerPlace, edgeFrom, edgeTo}
 use Rattle.assembly.specs.Store.{edgeAt, kmersOf, graphOf, code, code-lt, follow-none, follow-some}
 use Rattle.assembly.specs.Kmers.{part, number-le}
 use Rattle.junction_tree_graph.specs.Stretches.{stretchAt}
@@ -101,7 +101,7 @@ module _ (d : Ground) (text es : List ℕ) (a len first count : ℕ) (vs₁ x₁
 
 -- what the search for the first kmer asks
 pub walk-find : {d : Ground} {text vs es x op : List ℕ} {a len count : ℕ} → Walks d text vs es x op a len count → d .k < len
-    → (a + d .k ≤ length text) × (d .vertices * 12 ≤ length vs) × ((v : ℕ) → v < d .vertices → kmerPlace vs v + d .k ≤ length text)
+    → (a + d .k ≤ length text) × (HasVertices vs (d .vertices)) × ((v : ℕ) → v < d .vertices → kmerPlace vs v + d .k ≤ length text)
 walk-find q long = ((let z = q .inside in omega arith), (let z = q .sound .room-v in omega arith), q .sound .good .fits)
 
 module _ {d : Ground} {text vs₁ es x₁ op₁ : List ℕ} {a len count : ℕ} (q : Walks d text vs₁ es x₁ op₁ a len count) (long : d .k < len)

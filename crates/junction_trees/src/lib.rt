@@ -1,6 +1,8 @@
 // Evidence: each read stretch longer than k is walked again over the graph as it was before the symbolic edge, and the walk counts in the trees that it
 // has opened. The trees and the active trees of a walk are the tables of `threading_tree`; the slot of a vertex's root is field 11 of its record, which
 // the graph does not use.
+use assembly::ROOT;
+use assembly::VERTEX;
 use assembly::byte_at;
 use assembly::edge_to;
 use assembly::find_kmer;
@@ -19,10 +21,10 @@ use threading_tree::joined_refusal;
 use threading_tree::pass_edge;
 ghost use mathlib.Core.Path.{_≡_};
 ghost use mathlib.Core.List.{_++_};
-ghost use Prim.Native.Nat.{ℕ, _+_, _*_, _^_, _<_, _≤_};
+ghost use Prim.Native.Nat.{ℕ, _+_, _*_, _^_, _<_};
 ghost use lib.ListN.{length, getD};
-ghost use Rattle.laws.specs.Records.{field, putField};
-ghost use Rattle.assembly.specs.Fields.{HasVertex, outEdge, treeRoot};
+ghost use Rattle.laws.specs.Records.{field};
+ghost use Rattle.assembly.specs.Fields.{HasVertices, HasVertex, outEdge, treeRoot, putTreeRoot};
 ghost use Rattle.assembly.specs.Store.{code};
 ghost use Rattle.junction_tree_graph.specs.Reads.{readOf, readsOf};
 ghost use Rattle.junction_tree_graph.specs.Built.{sampleOf};
@@ -33,10 +35,6 @@ ghost use Rattle.junction_trees.specs.Steps.{walkedRefusal, Passing, Pas
 ghost use Rattle.junction_trees.specs.Stretches.{Walks, Walking, walkOf};
 ghost use Rattle.junction_trees.specs.Reads.{ReadWalks, ReadsWalk, walksOf};
 ghost use Rattle.junction_trees.specs.Trees.{Gathers, Gathered};
-
-const VERTEX: usize = 12;
-
-const ROOT: usize = 11;
 
 // ---- the slot of a vertex's root, 0 where it has no tree
 
@@ -49,14 +47,14 @@ pub fn root_slot(vertices: &[u32], v: usize) -> usize
 
 fn keep_root(vertices: &mut [u32], v: usize, slot: usize)
     requires { ⌜ (HasVertex (now vertices) v) × (slot < 2 ^ 32) ⌝ }
-    ensures { λ _. ⌜ now (vertices .exit) ≡ putField (now (vertices .entry)) 12 v 11 slot ⌝ }
+    ensures { λ _. ⌜ now (vertices .exit) ≡ putTreeRoot (now (vertices .entry)) v slot ⌝ }
 {
     vertices[v * VERTEX + ROOT] = slot as u32;
 }
 
 // No vertex has a tree yet; building the graph leaves open what field 11 holds.
 fn clear_roots(vertices: &mut [u32], n: usize)
-    requires { ⌜ n * 12 ≤ length (now vertices) ⌝ }
+    requires { ⌜ HasVertices (now vertices) n ⌝ }
     ensures { λ _. ⌜ Cleared (now (vertices .entry)) n (now (vertices .exit)) n ⌝ }
 {
     let mut v: usize = 0;

@@ -23,7 +23,7 @@ use Rattle.definition.proofs.Walks.{GoodState, Numbered}
 use Rattle.definition.proofs.Turns.{lastOf, search-reached}
 use Rattle.definition.proofs.Bounds.{Counted, search-counted}
 use Rattle.definition.proofs.Checks.{Checked, k-some, some-pushes}
-use Rattle.assembly.specs.Fields.{kmerPlace}
+use Rattle.assembly.specs.Fields.{kmerPlace, edgeNumbers}
 use Rattle.limits.specs.Workspaces.{vertexTable, pathTable, pathScores, activeNodes, waitingQueue, closedPaths, pivotalOrder, pivotalMarks, pathWalks, openTrees}
 use Rattle.limits.specs.Bounds.{InLimits, settings-most}
 use Rattle.assembly.specs.Symbolic.{linked, length-linked}
@@ -69,7 +69,7 @@ pub record Searches (i : Input) (o : Outputs) (w : Tables) (b : Raise) : Type 0 
   pub outs : Outs i o
   pub some : 0 < i .asked
   pub raised : RaisedAt (i .sample) (i .graphMaxima) (w .vertices) (w .edges) (w .nodes) (w .walks) b
-  pub rows : length (w .edges) ≡ (b .edges + 1) * 6
+  pub rows : length (w .edges) ≡ edgeNumbers (b .edges + 1)
   pub vertices : length (w .vertices) ≡ vertexTable (i .graphMaxima)
   pub index : length (w .index) ≡ i .graphMaxima .vertices
   pub targets : length (w .targets) ≡ b .edges + 1

@@ -1,4 +1,5 @@
 // The work of the call for the list: the graph, its trees, the search and the list in columns, over tables of just the lengths told.
+use assembly::EDGE;
 use assembly::link_symbolic_edge;
 use fork_offers::least_total;
 use graph_work::Raise;
@@ -14,6 +15,7 @@ use search_ground::chain_tables;
 use search_state::Progress;
 use search_state::Setting;
 ghost use mathlib.Core.Path.{_≡_};
+ghost use Rattle.assembly.specs.Fields.{};
 ghost use Rattle.list_work.specs.Outcome.{refusedAnswer, found, Listed, outputsOf, tablesOf};
 ghost use Rattle.list_work.specs.Works.{inputFor, Works};
 ghost use Rattle.list_work.specs.Chains.{Chains, Chained, Small, SettingFor};
@@ -253,7 +255,7 @@ pub fn work(
         };
     }
     let all = b.edges + 1;
-    let rows = all * 6;
+    let rows = all * EDGE;
     search_list(
         a,
         b,

@@ -1,4 +1,7 @@
 // The paths that a taken path is extended to, all made before any is pushed. (Rust: process_vertex, junction_kbest.rs)
+use assembly::EDGE;
+use assembly::FROM;
+use assembly::TO;
 use assembly::edge_to;
 use assembly::next_out;
 use fork_offers::OFFER;
@@ -25,8 +28,7 @@ ghost use mathlib.Core.Path.{_≡_};
 ghost use mathlib.Core.List.{List};
 ghost use Prim.Native.Nat.{ℕ, _+_, _*_, _<_, _≤_};
 ghost use lib.ListN.{length};
-ghost use Rattle.laws.specs.Records.{field};
-ghost use Rattle.assembly.specs.Fields.{HasEdge};
+ghost use Rattle.assembly.specs.Fields.{HasEdge, edgeField};
 ghost use Rattle.fork_offers.specs.Fields.{HasOffer};
 ghost use Rattle.kbest_haplotype.specs.Penalties.{penaltyOf, priced};
 ghost use Rattle.path_store.specs.Cells.{scoreOf};
@@ -52,12 +54,12 @@ struct Way {
     pub free: bool,
 }
 
-// The number at place j of the edge i: 0 for its source, 1 for its target.
+// The number at place j of the edge i, its source or its target.
 fn edge_end(edges: &[u32], i: usize, j: usize) -> u32
     requires { ⌜ (HasEdge (now edges) i) × (j < 6) ⌝ }
-    ensures { λ r. ⌜ r ≡ field (now (edges .entry)) 6 i j ⌝ }
+    ensures { λ r. ⌜ r ≡ edgeField (now (edges .entry)) i j ⌝ }
 {
-    edges[i * 6 + j]
+    edges[i * EDGE + j]
 }
 
 // The decisions since guidance of an extension with this many trees left, by those of its parent.
@@ -98,8 +100,8 @@ fn extend_with_edges(
     let width = g.active;
     let at = wide(taken.path) * width;
     let slot = wide(n) * width;
-    let a = edge_end(edges, edge, 0);
-    let b = edge_end(edges, edge, 1);
+    let a = edge_end(edges, edge, FROM);
+    let b = edge_end(edges, edge, TO);
     let left = walk_trees(
         nodes,
         g.nodes,

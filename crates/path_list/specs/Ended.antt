@@ -15,7 +15,7 @@ use Rattle.definition.specs.Evidence.{Branches}
 use Rattle.definition.specs.Search.{SearchInput, Closed, State, endFrom}
 use Rattle.definition.specs.Building.{Built}
 use Rattle.definition.proofs.Walks.{Linked, GoodClosed, GoodState, Numbered}
-use Rattle.assembly.specs.Fields.{kmerPlace, edgeFrom, edgeTo}
+use Rattle.assembly.specs.Fields.{HasVertices, kmerPlace, edgeFrom, edgeTo}
 use Rattle.assembly.specs.Table.{Distinct}
 use Rattle.assembly.specs.Store.{edgeAt, edgesOf, graphOf}
 use Rattle.assembly.specs.Moves.{kmers-same}
@@ -148,7 +148,7 @@ module _ (s : Sample) (v e : ℕ) (vs₀ es : List ℕ) (n m sink : ℕ) (B : Bu
       shows-of s v e vs₀ es n m sink B vs kept f (G .sink ∙ gs) the-edges only to t sc closing shut (p .closed) (p .records) (H .shut-room) (H .shut-known) (H .records .held .table)
       the-size (st .closed) (H .closed) (good .closed) b bg be (rw ge at (G .linked .distinct)) numbered
 
-  pub ended-listable : 0 < s .k → length (s .reference ++ s .bases) < 2 ^ 32 → n * 12 ≤ length vs → p .closed ≤ 128
+  pub ended-listable : 0 < s .k → length (s .reference ++ s .bases) < 2 ^ 32 → HasVertices vs n → p .closed ≤ 128
       → (walks rank scored closings lengths spellings sequences places : ℕ) → p .closed * g .most ≤ walks → p .closed ≤ rank → p .closed ≤ scored → p .closed ≤ closings → p .closed ≤ lengths
       → p .closed * (s .k + g .most) ≤ spellings → p .closed * g .most ≤ sequences → p .closed * g .most ≤ places
       → Listable (s .reference ++ s .bases) vs es only to t sc shut (s .k) (g .most) (p .closed) walks rank scored closings lengths spellings sequences places

@@ -16,7 +16,7 @@ use Rattle.definition.specs.Building.{Built}
 use Rattle.definition.specs.Listing.{Row, rowOf, listOrder}
 use Rattle.definition.specs.Calls.{pathRow, writtenAt, writtenRows, ListSlices, listedSlices}
 use Rattle.definition.specs.Calls as defs
-use Rattle.assembly.specs.Fields.{edgeTo}
+use Rattle.assembly.specs.Fields.{HasVertices, HasEdges, edgeTo}
 use Rattle.assembly.specs.Store.{edgeAt}
 use Rattle.assembly.specs.Paths.{Spells}
 use Rattle.path_store.specs.Cells.{countOf}
@@ -38,8 +38,8 @@ pub record Listable (text vs es only to t : List ℕ) (sc : List Float) (shut : 
   pub drawn : Drawn text vs es only to t shut k count vertices real
   pub some : 0 < k
   pub small : length text < 2 ^ 32
-  pub vertices-room : vertices * 12 ≤ length vs
-  pub edges-room : real * 6 ≤ length es
+  pub vertices-room : HasVertices vs vertices
+  pub edges-room : HasEdges es real
   pub few : count ≤ 128
   pub rank-room : count ≤ rank
   pub scored-room : count ≤ scored

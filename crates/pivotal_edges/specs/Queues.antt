@@ -11,7 +11,7 @@ use Rattle.laws.specs.ListLaws.{All, all-mono}
 use Rattle.laws.specs.Insertion.{insert, insert-past, insert-here, all-insert}
 use Rattle.definition.specs.Threading.{Ends, Edge, leaving}
 use Rattle.definition.specs.Search.{among, Queued, earlier, enqueue, enqueueAll}
-use Rattle.assembly.specs.Fields.{edgeTo}
+use Rattle.assembly.specs.Fields.{HasEdges, edgeTo}
 use Rattle.assembly.specs.Store.{edgeAt, edgesOf}
 use Rattle.assembly.specs.Outs.{Slots, Nexts, outFrom}
 use Rattle.pivotal_edges.specs.Queue.{endsAt, queuedAt, before, part, Known, Enqueued}
@@ -47,7 +47,7 @@ entry-is es l i h =
 pub record QueuesOne (es : List ℕ) (m : ℕ) (marks q : List ℕ) (front tail level i : ℕ) : Type 0 where
   pub i-in : i < m
   pub few : m ≤ 8192
-  pub room : m * 6 ≤ length es
+  pub room : HasEdges es m
   pub marks-in : m ≤ length marks
   pub low : front ≤ tail
   pub high : tail ≤ length q

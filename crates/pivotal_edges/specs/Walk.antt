@@ -2,7 +2,7 @@
 use mathlib.Core.Path.{_≡_, refl, sym, ap, subst, _∙_}
 use mathlib.Core.Bool.{Bool, true, false, not}
 use mathlib.Core.List.{List, [], _∷_}
-use Prim.Native.Nat.{ℕ, _+_, _-_, _*_, _<_, _≤_}
+use Prim.Native.Nat.{ℕ, _+_, _-_, _<_, _≤_}
 use native.Mathlib.Omega.{arith}
 use lib.Dec.{ltb, leb}
 use lib.ListN.{length, getD}
@@ -11,7 +11,7 @@ use Rattle.laws.specs.Lists.{keep}
 use Rattle.laws.specs.ListLaws.{all-from, keep-all}
 use Rattle.definition.specs.Threading.{Ends, Edge, leaving}
 use Rattle.definition.specs.Search.{among}
-use Rattle.assembly.specs.Fields.{HasVertex, outEdge, HasEdge, edgeTo}
+use Rattle.assembly.specs.Fields.{HasVertex, outEdge, HasEdges, HasEdge, edgeTo}
 use Rattle.assembly.specs.Table.{Distinct}
 use Rattle.assembly.specs.Store.{edgeAt, edgesOf}
 use Rattle.assembly.specs.Outs.{Slots, Names, Nexts, outFrom, nexts-none, nexts-some, slots-names}
@@ -23,7 +23,7 @@ pub record Linked (vs es : List ℕ) (m : ℕ) : Type 0 where
   pub slots : (v : ℕ) → HasVertex vs v → Slots vs es m v
   pub to-in : (i : ℕ) → i < m → HasVertex vs (edgeTo es i)
   pub source-in : 12 ≤ length vs
-  pub room : m * 6 ≤ length es
+  pub room : HasEdges es m
   pub few : m ≤ 8192
 
 -- a vertex of it

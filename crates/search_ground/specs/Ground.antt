@@ -4,7 +4,7 @@ use mathlib.Core.Logic.{_≢_}
 use mathlib.Core.Bool.{Bool, true, false, _&&_, _||_}
 use mathlib.Core.List.{List, [], _∷_, _++_}
 use mathlib.Core.Option.{none, some}
-use Prim.Native.Nat.{ℕ, suc, _+_, _-_, _*_, _<_, _≤_}
+use Prim.Native.Nat.{ℕ, suc, _+_, _-_, _<_, _≤_}
 use native.Mathlib.Omega.{arith}
 use native.Mathlib.Decide.{ℕ-discrete, decLt}
 use lib.Dec.{leb, eqb}
@@ -25,7 +25,7 @@ use Rattle.definition.specs.Listing.{searchInput}
 use Rattle.definition.proofs.Counts.{Small, SmallTree, counts-small}
 use Rattle.definition.proofs.Supports.{leaving-small}
 use Rattle.definition.proofs.Degrees.{six-leave}
-use Rattle.assembly.specs.Fields.{HasVertex, treeRoot, edgeFrom, edgeTo}
+use Rattle.assembly.specs.Fields.{HasVertices, HasVertex, treeRoot, edgeNumbers, edgeFrom, edgeTo}
 use Rattle.assembly.specs.Table.{length-table}
 use Rattle.assembly.specs.Store.{edgeAt, edgesOf, graphOf}
 use Rattle.assembly.specs.Kmers.{length-of}
@@ -129,9 +129,9 @@ settingFor i n m sink c cap least =
 
 -- the edge table ends behind the symbolic edge; `only` has a place for each vertex, the symbolic one too, and each of its places has a record
 pub record Lies (vs es only : List ℕ) (n m : ℕ) : Type 0 where
-  pub rows : length es ≡ (m + 1) * 6
+  pub rows : length es ≡ edgeNumbers (m + 1)
   pub places : n < length only
-  pub room : length only * 12 ≤ length vs
+  pub room : HasVertices vs (length only)
   pub few : length only ≤ 4096
 
 module _ (i : Input) {vs₂ es : List ℕ} {n m sink : ℕ} (rules : firstBroken (sampleRules (i .sample)) ≡ 0)

@@ -4,14 +4,14 @@ use mathlib.Core.Path.{_≡_, refl, sym, ap, _∙_}
 use mathlib.Core.Logic.{_≢_}
 use mathlib.Core.List.{List, [], _∷_}
 use mathlib.Core.Option.{none, some}
-use Prim.Native.Nat.{ℕ, _+_, _-_, _*_, _<_, _≤_}
+use Prim.Native.Nat.{ℕ, _+_, _-_, _<_, _≤_}
 use native.Mathlib.Omega.{arith}
 use native.Mathlib.Decide.{ℕ-discrete}
 use lib.ListN.{length, getD, set, length-set}
 use lib.Seq.{getD-set-same, getD-set-other}
 use Rattle.laws.specs.Lists.{sole}
 use Rattle.definition.specs.Threading.{Edge, leaving}
-use Rattle.assembly.specs.Fields.{treeRoot, HasEdge, edgeTo}
+use Rattle.assembly.specs.Fields.{HasVertices, treeRoot, HasEdge, edgeTo}
 use Rattle.assembly.specs.Store.{edgeAt, edgesOf}
 use Rattle.assembly.specs.Outs.{Slots, Nexts, outFrom}
 use Rattle.pivotal_edges.specs.Walk.{Linked, Here, leaving-from, next-is, next-none, next-some, next-in, next-row, next-fits, next-again}
@@ -116,7 +116,7 @@ soles-end f h = record { size = f .size; is = λ v k. f .is v (omega arith) }
 pub record Tables (vs es : List ℕ) (m : ℕ) (only to : List ℕ) : Type 0 where
   pub linked : Linked vs es m
   pub size : length to ≡ m
-  pub room : length only * 12 ≤ length vs
+  pub room : HasVertices vs (length only)
 
 pub record Tabled (vs es : List ℕ) (m sink : ℕ) (only to : List ℕ) : Type 0 where
   pub size : length to ≡ m

@@ -2,14 +2,14 @@
 use mathlib.Core.Path.{_≡_}
 use mathlib.Core.List.{List}
 use mathlib.Core.Option.{none, some}
-use Prim.Native.Nat.{ℕ, _*_, _<_, _≤_}
+use Prim.Native.Nat.{ℕ, _<_, _≤_}
 use lib.ListN.{length}
 use Rattle.laws.specs.Lists.{total}
 use Rattle.definition.specs.Threading.{Ends, supportOf, leaving}
 use Rattle.definition.specs.Evidence.{Branches, treeAt}
 use Rattle.definition.specs.Search.{SearchInput}
 use Rattle.definition.proofs.Counts.{Small}
-use Rattle.assembly.specs.Fields.{treeRoot}
+use Rattle.assembly.specs.Fields.{HasVertices, treeRoot}
 use Rattle.assembly.specs.Store.{edgeAt}
 use Rattle.threading_tree.specs.Ends.{ends}
 use Rattle.threading_tree.specs.Slots.{cols}
@@ -37,7 +37,7 @@ pub record Ground (f : SearchInput) (g : Setting) (vs es x only to : List ℕ) :
   pub linked : Linked vs es (g .edges)
   pub settings : Settings f es (g .edges) (ends (g .sink) (g .symbolic)) (g .least)
   pub size : length to ≡ g .edges
-  pub vertices : length only * 12 ≤ length vs
+  pub vertices : HasVertices vs (length only)
   pub few : length only ≤ 4096
   pub source : f .source ≡ 0
   pub sink : f .sink ≡ g .sink
