@@ -10,8 +10,8 @@ use lib.Dec.{eqb, ltb}
 use lib.ListN.{length}
 use borrow.Author.Tests.{eqb-true, eq-eqb, ne-eqb, lt-ltb, le-ltb}
 use Rattle.laws.specs.ListLaws.{and-left, and-right, clash}
-use Rattle.laws.specs.Records.{field}
 use Rattle.definition.specs.Threading.{Ends, Edge, leaving}
+use Rattle.assembly.specs.Fields.{outEdge, edgeFrom, edgeTo}
 use Rattle.assembly.specs.Table.{count, count-0, count-more, length-keep}
 use Rattle.assembly.specs.Store.{edgeAt, edgesOf, lastOf, code, code-lt, Good, good-distinct}
 use Rattle.assembly.specs.Kmers.{count-zero}
@@ -51,20 +51,20 @@ count-only p f (suc m) i l h u = go (ℕ-discrete i m) (p (f m .ends)) refl (λ 
 -- ---- the slots of v that are filled, among the first c
 pub filled : List ℕ → ℕ → ℕ → ℕ
 filled vs v zero = 0
-filled vs v (suc c) = one (ltb 0 (field vs 12 v c)) + filled vs v c
+filled vs v (suc c) = one (ltb 0 (outEdge vs v c)) + filled vs v c
 
 pub filled-0 : (vs : List ℕ) (v : ℕ) → filled vs v 0 ≡ 0
 unfolding filled
 filled-0 vs v = refl
 
-pub filled-more : (vs : List ℕ) (v c : ℕ) → filled vs v (c + 1) ≡ one (ltb 0 (field vs 12 v c)) + filled vs v c
+pub filled-more : (vs : List ℕ) (v c : ℕ) → filled vs v (c + 1) ≡ one (ltb 0 (outEdge vs v c)) + filled vs v c
 unfolding filled
 filled-more vs v c = rw (add-one c)
 
 pub filled-le : (vs : List ℕ) (v c : ℕ) → filled vs v c ≤ c
 unfolding filled
 filled-le vs v zero = omega arith
-filled-le vs v (suc c) = go (ltb 0 (field vs 12 v c)) (filled-le vs v c)
+filled-le vs v (suc c) = go (ltb 0 (outEdge vs v c)) (filled-le vs v c)
   where
     go : (b : Bool) → filled vs v c ≤ c → one b + filled vs v c ≤ suc c
     go true h = omega arith
@@ -81,30 +81,30 @@ module _ {k : ℕ} {text vs : List ℕ} {n : ℕ} {es : List ℕ} {m : ℕ} (g :
   abbrev below : ℕ → Ends → Bool
   below c d = eqb (d .from) v && ltb (codeOf d) c
 
-  in-slot : (c j : ℕ) → j < m → at c (edgeAt es j .ends) ≡ true → field vs 12 v c ≡ j + 1
+  in-slot : (c j : ℕ) → j < m → at c (edgeAt es j .ends) ≡ true → outEdge vs v c ≡ j + 1
   in-slot c j h e =
-      let a = eqb-true (field es 6 j 0) v (and-left (eqb (field es 6 j 0) v) (eqb (codeOf (edgeAt es j .ends)) c) e) in
-      let b = eqb-true (codeOf (edgeAt es j .ends)) c (and-right (eqb (field es 6 j 0) v) (eqb (codeOf (edgeAt es j .ends)) c) e) in
+      let a = eqb-true (edgeFrom es j) v (and-left (eqb (edgeFrom es j) v) (eqb (codeOf (edgeAt es j .ends)) c) e) in
+      let b = eqb-true (codeOf (edgeAt es j .ends)) c (and-right (eqb (edgeFrom es j) v) (eqb (codeOf (edgeAt es j .ends)) c) e) in
       rw (a, b) at (g .slot j h)
 
   at-is : (c : ℕ) (d : Ends) → d .from ≡ v → codeOf d ≡ c → at c d ≡ true
   at-is c d p q = rw (eq-eqb (d .from) v p, eq-eqb (codeOf d) c q)
 
   -- a slot holds one edge or none
-  slot-count : (c : ℕ) → c < 8 → count (at c) (edgeAt es) m ≡ one (ltb 0 (field vs 12 v c))
-  slot-count c h = go (ℕ-discrete (field vs 12 v c) 0)
+  slot-count : (c : ℕ) → c < 8 → count (at c) (edgeAt es) m ≡ one (ltb 0 (outEdge vs v c))
+  slot-count c h = go (ℕ-discrete (outEdge vs v c) 0)
     where
-      none : field vs 12 v c ≡ 0 → (j : ℕ) → j < m → (b : Bool) → at c (edgeAt es j .ends) ≡ b → b ≡ false
+      none : outEdge vs v c ≡ 0 → (j : ℕ) → j < m → (b : Bool) → at c (edgeAt es j .ends) ≡ b → b ≡ false
       none z j l true e = absurd (let y = in-slot c j l e in omega arith)
       none z j l false e = refl
 
-      go : Dec (field vs 12 v c ≡ 0) → count (at c) (edgeAt es) m ≡ one (ltb 0 (field vs 12 v c))
-      go (yes z) = rw (le-ltb 0 (field vs 12 v c) (omega arith)) (count-zero (at c) (edgeAt es) m (λ j l. none z j l (at c (edgeAt es j .ends)) refl))
+      go : Dec (outEdge vs v c ≡ 0) → count (at c) (edgeAt es) m ≡ one (ltb 0 (outEdge vs v c))
+      go (yes z) = rw (le-ltb 0 (outEdge vs v c) (omega arith)) (count-zero (at c) (edgeAt es) m (λ j l. none z j l (at c (edgeAt es j .ends)) refl))
       go (no z) =
           let w = g .full v c hv h (omega arith) in
-          let i : field vs 12 v c - 1 < m = (let y = w .0 in omega arith) in
-          rw (lt-ltb 0 (field vs 12 v c) (omega arith))
-          (count-only (at c) (edgeAt es) m (field vs 12 v c - 1) i (at-is c (edgeAt es (field vs 12 v c - 1) .ends) (w .1) (w .2)) (λ j l e. (let y = in-slot c j l e in omega arith)))
+          let i : outEdge vs v c - 1 < m = (let y = w .0 in omega arith) in
+          rw (lt-ltb 0 (outEdge vs v c) (omega arith))
+          (count-only (at c) (edgeAt es) m (outEdge vs v c - 1) i (at-is c (edgeAt es (outEdge vs v c - 1) .ends) (w .1) (w .2)) (λ j l e. (let y = in-slot c j l e in omega arith)))
 
   -- one code more
   split : (c : ℕ) (d : Ends) → one (below (c + 1) d) ≡ one (at c d) + one (below c d)
@@ -118,7 +118,7 @@ module _ {k : ℕ} {text vs : List ℕ} {n : ℕ} {es : List ℕ} {m : ℕ} (g :
 
   counted : (c : ℕ) → c ≤ 8 → count (below c) (edgeAt es) m ≡ filled vs v c
   unfolding filled
-  counted zero h = count-zero (below 0) (edgeAt es) m (λ j l. none (eqb (field es 6 j 0) v) (codeOf (edgeAt es j .ends)))
+  counted zero h = count-zero (below 0) (edgeAt es) m (λ j l. none (eqb (edgeFrom es j) v) (codeOf (edgeAt es j .ends)))
     where
       none : (b : Bool) (x : ℕ) → (b && ltb x 0) ≡ false
       none true x = le-ltb x 0 (omega arith)
@@ -147,7 +147,7 @@ module _ {k : ℕ} {text vs : List ℕ} {n : ℕ} {es : List ℕ} {m : ℕ} (g :
           let z = count-zero (λ d. false) (edgeAt es) m (λ j l. refl) in
           let a =
           count-add (λ d. eqb (d .from) v) (below 8) (λ d. false) (edgeAt es) m
-          (λ j l. same (eqb (field es 6 j 0) v) (codeOf (edgeAt es j .ends)) (code-lt (lastOf k text vs n (field es 6 j 1)))) in
+          (λ j l. same (eqb (edgeFrom es j) v) (codeOf (edgeAt es j .ends)) (code-lt (lastOf k text vs n (edgeTo es j)))) in
           omega arith
 
 -- ---- the loop
@@ -158,14 +158,14 @@ pub record Counted (vs : List ℕ) (v c r : ℕ) : Type 0 where
 pub counted-start : (vs : List ℕ) (v : ℕ) → Counted vs v 0 0
 counted-start vs v = record { within = omega arith; is = sym (filled-0 vs v) }
 
-pub counted-next : (vs : List ℕ) (v c r s a : ℕ) → Counted vs v c r → c < 8 → s ≡ field vs 12 v c → a ≡ one (ltb 0 s) → Counted vs v (c + 1) (r + a)
+pub counted-next : (vs : List ℕ) (v c r s a : ℕ) → Counted vs v c r → c < 8 → s ≡ outEdge vs v c → a ≡ one (ltb 0 s) → Counted vs v (c + 1) (r + a)
 counted-next vs v c r s a b h e d =
-    record { within = omega arith; is = (let z = b .is in let y = filled-more vs v c in let u : a ≡ one (ltb 0 (field vs 12 v c)) = rw e at d in omega arith) }
+    record { within = omega arith; is = (let z = b .is in let y = filled-more vs v c in let u : a ≡ one (ltb 0 (outEdge vs v c)) = rw e at d in omega arith) }
 
 pub counted-end : (vs : List ℕ) (v c r : ℕ) → Counted vs v c r → 8 ≤ c → r ≡ filled vs v 8
 counted-end vs v c r b h = b .is ∙ ap (λ (x : ℕ). filled vs v x) (let z : c ≡ 8 = (let y = b .within in omega arith) in z)
 
-pub counted-le : (vs : List ℕ) (v c r s a : ℕ) → Counted vs v c r → c < 8 → s ≡ field vs 12 v c → a ≡ one (ltb 0 s) → r + a ≤ 8
+pub counted-le : (vs : List ℕ) (v c r s a : ℕ) → Counted vs v c r → c < 8 → s ≡ outEdge vs v c → a ≡ one (ltb 0 s) → r + a ≤ 8
 counted-le vs v c r s a b h e d =
     let w = counted-next vs v c r s a b h e d in
     let z = w .is in

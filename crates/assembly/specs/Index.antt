@@ -14,9 +14,9 @@ use lib.ListN.{length, getD, set, length-set, length-append, List·getD-append}
 use lib.Seq.{getD-at, getD-set-same, getD-set-other}
 use Rattle.laws.specs.Lists.{position}
 use Rattle.laws.specs.Numbers.{eqList, eqList-true, eqList-self}
-use Rattle.laws.specs.Records.{field}
 use Rattle.laws.specs.Rows.{getD-rows}
 use Rattle.definition.specs.Threading.{numberOf}
+use Rattle.assembly.specs.Fields.{HasVertices, kmerPlace}
 use Rattle.assembly.specs.Store.{kmersOf, kmerAt}
 use Rattle.assembly.specs.Kmers.{part, getD-part, length-of, number-here, number-none}
 
@@ -155,8 +155,8 @@ module _ {k size : ℕ} (text vs : List ℕ) {idx : List ℕ} (n : ℕ) (i : Siz
 -- what a lookup asks
 pub record Finds (k : ℕ) (text vs idx : List ℕ) (n q : ℕ) : Type 0 where
   pub inside : q + k ≤ length text
-  pub rows : n * 12 ≤ length vs
-  pub fits : (v : ℕ) → v < n → field vs 12 v 8 + k ≤ length text
+  pub rows : HasVertices vs n
+  pub fits : (v : ℕ) → v < n → kmerPlace vs v + k ≤ length text
   pub buckets : 0 < sizeOf idx
   pub indexed : Indexed k (kmersOf k text vs n) idx
 
@@ -165,7 +165,7 @@ pub record Finding (k : ℕ) (text vs idx : List ℕ) (n : ℕ) : Type 0 where
   pub buckets : 0 < sizeOf idx
   pub indexed : Indexed k (kmersOf k text vs n) idx
 
-pub finding-finds : {k : ℕ} {text vs idx : List ℕ} {n : ℕ} (q : ℕ) → Finding k text vs idx n → (q + k ≤ length text) × (n * 12 ≤ length vs) × ((v : ℕ) → v < n → field vs 12 v 8 + k ≤ length text)
+pub finding-finds : {k : ℕ} {text vs idx : List ℕ} {n : ℕ} (q : ℕ) → Finding k text vs idx n → (q + k ≤ length text) × (HasVertices vs n) × ((v : ℕ) → v < n → kmerPlace vs v + k ≤ length text)
     → Finds k text vs idx n q
 finding-finds q f a = record { inside = a .0; rows = a .1; fits = a .2; buckets = f .buckets; indexed = f .indexed }
 

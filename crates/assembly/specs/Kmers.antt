@@ -15,8 +15,9 @@ use Rattle.laws.specs.Lists.{lastOr, position}
 use Rattle.laws.specs.Numbers.{eqList, eqList-true}
 use Rattle.definition.specs.Limits.{isBase}
 use Rattle.definition.specs.Threading.{Edge, Ends, lastBase, numberOf, withKmer}
-use Rattle.laws.specs.Rows.{rows, rows-more, length-rows, getD-rows}
-use Rattle.laws.specs.Records.{field, putField, field-same, field-other, row-other}
+use Rattle.laws.specs.Rows.{rows, rows-more, length-rows, getD-rows, rows-none, rows-suc}
+use Rattle.laws.specs.Records.{putField, field-same, field-other, row-other}
+use Rattle.assembly.specs.Fields.{HasVertex, vertexField, outEdge, kmerPlace, incomingCount, incomingEdge, edgeFrom, edgeTo}
 use Rattle.assembly.specs.Table.{count, count-0, count-more}
 use Rattle.assembly.specs.Store.{edgeAt, kmersOf, kmerAt, lastOf, code, code-lt, Good}
 
@@ -65,16 +66,6 @@ eqList-no a b j h = go (eqList a b) refl
     go false e = refl
 
 -- ---- the first place
-no-rows : {A : Type 0} (l : List A) → length l ≡ 0 → l ≡ []
-no-rows [] h = refl
-no-rows (x ∷ l) h = absurd (omega arith)
-
-pub rows-0 : {A : Type 0} (f : ℕ → A) → rows f 0 ≡ []
-rows-0 f = no-rows (rows f 0) (length-rows f 0)
-
-rows-suc : {A : Type 0} (f : ℕ → A) (n : ℕ) → rows f (suc n) ≡ rows f n ++ (f n ∷ [])
-rows-suc f n = rows-more f f n (f n) refl (λ j h. refl)
-
 module _ {A : Type 0} (p : A → Bool) where
   position-hit : (l : List A) (x : A) → position p l < length l → position p (l ++ (x ∷ [])) ≡ position p l
   position-hit [] x h = absurd (omega arith)
@@ -99,7 +90,7 @@ module _ {A : Type 0} (p : A → Bool) where
       go false e ih false q = rw (e, position, q) (ap suc (ih (let z : position p (y ∷ l) ≡ suc (position p l) = rw (e, position) in omega arith) ∙ rw q))
 
   pub position-none : (f : ℕ → A) (n : ℕ) → ((j : ℕ) → j < n → p (f j) ≡ false) → position p (rows f n) ≡ n
-  position-none f zero h = rw (rows-0 f)
+  position-none f zero h = rw (rows-none f)
   position-none f (suc n) h =
       rw (rows-suc f n)
       (position-miss (rows f n) (f n) (position-none f n (λ j k. h j (omega arith)) ∙ sym (length-rows f n)) ∙ rw (h n (omega arith), length-rows f n))
@@ -168,16 +159,16 @@ pub length-born : (vs : List ℕ) (n q : ℕ) → length (born vs n q) ≡ lengt
 unfolding born
 length-born vs n q = length-set vs (n * 12 + 8) q
 
-module _ (k : ℕ) (text vs : List ℕ) (n q : ℕ) (r : n * 12 + 12 ≤ length vs) where
-  born-8 : field (born vs n q) 12 n 8 ≡ q
+module _ (k : ℕ) (text vs : List ℕ) (n q : ℕ) (r : HasVertex vs n) where
+  born-8 : kmerPlace (born vs n q) n ≡ q
   unfolding born
   born-8 = field-same vs 12 n 8 q (omega arith)
 
-  pub born-row : (u d : ℕ) → d < 12 → u ≢ n → field (born vs n q) 12 u d ≡ field vs 12 u d
+  pub born-row : (u d : ℕ) → d < 12 → u ≢ n → vertexField (born vs n q) u d ≡ vertexField vs u d
   unfolding born
   born-row u d h p = row-other vs 12 n 8 q u d (omega arith) h p
 
-  pub born-field : (u d : ℕ) → d < 12 → d ≢ 8 → field (born vs n q) 12 u d ≡ field vs 12 u d
+  pub born-field : (u d : ℕ) → d < 12 → d ≢ 8 → vertexField (born vs n q) u d ≡ vertexField vs u d
   unfolding born
   born-field u d h p = field-other vs 12 n 8 q u d (omega arith) h p
 
@@ -202,15 +193,15 @@ pub count-zero : (p : Ends → Bool) (f : ℕ → Edge) (m : ℕ) → ((j : ℕ)
 count-zero p f zero h = count-0 p f
 count-zero p f (suc m) h = let e : suc m ≡ m + 1 = omega arith in rw e (count-more p f m ∙ rw (h m (omega arith), count-zero p f m (λ j k. h j (omega arith))))
 
-pub born-good : {k : ℕ} {text vs : List ℕ} {n : ℕ} {es : List ℕ} {m : ℕ} (q : ℕ) → Good k text vs n es m → n * 12 + 12 ≤ length vs → q + k ≤ length text
+pub born-good : {k : ℕ} {text vs : List ℕ} {n : ℕ} {es : List ℕ} {m : ℕ} (q : ℕ) → Good k text vs n es m → HasVertex vs n → q + k ≤ length text
     → isBase (lastOr 0 (part k text q)) ≡ true → Good k text (born vs n q) (n + 1) es m
 born-good {k = k} {text = text} {vs = vs} {n = n} {es = es} {m = m} q g r f b =
     record {
       from-in = λ i h. (let z = g .from-in i h in omega arith);
       to-in = λ i h. (let z = g .to-in i h in omega arith);
       slot = λ i h.
-          rw (born-last k text vs n q r (field es 6 i 1) (g .to-in i h))
-          (born-row k text vs n q r (field es 6 i 0) (code (lastOf k text vs n (field es 6 i 1))) (low i h) (let z = g .from-in i h in omega arith) ∙ g .slot i h);
+          rw (born-last k text vs n q r (edgeTo es i) (g .to-in i h))
+          (born-row k text vs n q r (edgeFrom es i) (code (lastOf k text vs n (edgeTo es i))) (low i h) (let z = g .from-in i h in omega arith) ∙ g .slot i h);
       full = λ u c h l z. full' u c h l z (ℕ-discrete u n);
       base = λ u h. base' u h (ℕ-discrete u n);
       fits = λ u h. fits' u h (ℕ-discrete u n);
@@ -219,40 +210,40 @@ born-good {k = k} {text = text} {vs = vs} {n = n} {es = es} {m = m} q g r f b =
       zeros = λ u c h l. born-row k text vs n q r u c l (omega arith) ∙ g .zeros u c (omega arith) l;
     }
   where
-    low : (i : ℕ) → i < m → code (lastOf k text vs n (field es 6 i 1)) < 12
-    low i h = let z = code-lt (lastOf k text vs n (field es 6 i 1)) in omega arith
+    low : (i : ℕ) → i < m → code (lastOf k text vs n (edgeTo es i)) < 12
+    low i h = let z = code-lt (lastOf k text vs n (edgeTo es i)) in omega arith
 
     -- of the new vertex, every field but 8 is zero
-    none : (c : ℕ) → c < 12 → c ≢ 8 → field (born vs n q) 12 n c ≡ 0
+    none : (c : ℕ) → c < 12 → c ≢ 8 → outEdge (born vs n q) n c ≡ 0
     none c l p = born-field k text vs n q r n c l p ∙ g .zeros n c (omega arith) l
 
     Full : ℕ → ℕ → ℕ → Type 0
-    Full u c s = (s ≤ m) × (field es 6 (s - 1) 0 ≡ u) × (code (lastOf k text (born vs n q) (n + 1) (field es 6 (s - 1) 1)) ≡ c)
+    Full u c s = (s ≤ m) × (edgeFrom es (s - 1) ≡ u) × (code (lastOf k text (born vs n q) (n + 1) (edgeTo es (s - 1))) ≡ c)
 
-    full' : (u c : ℕ) → u < n + 1 → c < 8 → 0 < field (born vs n q) 12 u c → Dec (u ≡ n) → Full u c (field (born vs n q) 12 u c)
-    full' u c h l z (yes y) = absurd (let x : field (born vs n q) 12 u c ≡ 0 = rw y (none c (omega arith) (omega arith)) in omega arith)
+    full' : (u c : ℕ) → u < n + 1 → c < 8 → 0 < outEdge (born vs n q) u c → Dec (u ≡ n) → Full u c (outEdge (born vs n q) u c)
+    full' u c h l z (yes y) = absurd (let x : outEdge (born vs n q) u c ≡ 0 = rw y (none c (omega arith) (omega arith)) in omega arith)
     full' u c h l z (no y) =
         let x = born-row k text vs n q r u c (omega arith) y in
         let w = g .full u c (omega arith) l (rw x at z) in
-        let i : field vs 12 u c - 1 < m = (let t = w .0 in let s : 0 < field vs 12 u c = rw x at z in omega arith) in
-        rw x (w .0, w .1, rw (born-last k text vs n q r (field es 6 (field vs 12 u c - 1) 1) (g .to-in (field vs 12 u c - 1) i)) (w .2))
+        let i : outEdge vs u c - 1 < m = (let t = w .0 in let s : 0 < outEdge vs u c = rw x at z in omega arith) in
+        rw x (w .0, w .1, rw (born-last k text vs n q r (edgeTo es (outEdge vs u c - 1)) (g .to-in (outEdge vs u c - 1) i)) (w .2))
 
     base' : (u : ℕ) → u < n + 1 → Dec (u ≡ n) → isBase (lastOf k text (born vs n q) (n + 1) u) ≡ true
     base' u h (yes y) = rw (y, born-last-new k text vs n q r) b
     base' u h (no y) = rw (born-last k text vs n q r u (omega arith)) (g .base u (omega arith))
 
-    fits' : (u : ℕ) → u < n + 1 → Dec (u ≡ n) → field (born vs n q) 12 u 8 + k ≤ length text
+    fits' : (u : ℕ) → u < n + 1 → Dec (u ≡ n) → kmerPlace (born vs n q) u + k ≤ length text
     fits' u h (yes y) = rw (y, born-8 k text vs n q r) f
     fits' u h (no y) = rw (born-row k text vs n q r u 8 (omega arith) y) (g .fits u (omega arith))
 
-    ins' : (u : ℕ) → u < n + 1 → Dec (u ≡ n) → field (born vs n q) 12 u 9 ≡ count (λ d. eqb (d .to) u) (edgeAt es) m
+    ins' : (u : ℕ) → u < n + 1 → Dec (u ≡ n) → incomingCount (born vs n q) u ≡ count (λ d. eqb (d .to) u) (edgeAt es) m
     ins' u h (yes y) =
         rw y (none 9 (omega arith) (omega arith))
-        ∙ sym (count-zero (λ d. eqb (d .to) u) (edgeAt es) m (λ j l. ne-eqb (field es 6 j 1) u (let z = g .to-in j l in omega arith)))
+        ∙ sym (count-zero (λ d. eqb (d .to) u) (edgeAt es) m (λ j l. ne-eqb (edgeTo es j) u (let z = g .to-in j l in omega arith)))
     ins' u h (no y) = born-row k text vs n q r u 9 (omega arith) y ∙ g .ins u (omega arith)
 
-    into' : (u : ℕ) → u < n + 1 → 0 < field (born vs n q) 12 u 9 → Dec (u ≡ n) → (0 < field (born vs n q) 12 u 10) × (field (born vs n q) 12 u 10 ≤ m) × (field es 6 (field (born vs n q) 12 u 10 - 1) 1 ≡ u)
-    into' u h z (yes y) = absurd (let x : field (born vs n q) 12 u 9 ≡ 0 = rw y (none 9 (omega arith) (omega arith)) in omega arith)
+    into' : (u : ℕ) → u < n + 1 → 0 < incomingCount (born vs n q) u → Dec (u ≡ n) → (0 < incomingEdge (born vs n q) u) × (incomingEdge (born vs n q) u ≤ m) × (edgeTo es (incomingEdge (born vs n q) u - 1) ≡ u)
+    into' u h z (yes y) = absurd (let x : incomingCount (born vs n q) u ≡ 0 = rw y (none 9 (omega arith) (omega arith)) in omega arith)
     into' u h z (no y) = rw (born-row k text vs n q r u 10 (omega arith) y) (g .into u (omega arith) (rw (born-row k text vs n q r u 9 (omega arith) y) at z))
 
 -- ---- the text by its two parts, and the comparison's loop

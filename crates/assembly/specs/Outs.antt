@@ -3,15 +3,14 @@ use mathlib.Core.Path.{_≡_, refl, sym, ap, _∙_}
 use mathlib.Core.Logic.{_≢_, _⊎_, inl, inr}
 use mathlib.Core.Bool.{Bool, true, false, _&&_}
 use mathlib.Core.List.{List, [], _∷_}
-use Prim.Native.Nat.{ℕ, zero, suc, _+_, _-_, _*_, _<_, _≤_, Ordering, Ordering·lt, Ordering·eq, Ordering·gt}
+use Prim.Native.Nat.{ℕ, zero, suc, _+_, _-_, _<_, _≤_, Ordering, Ordering·lt, Ordering·eq, Ordering·gt}
 use native.Mathlib.Omega.{arith}
 use native.Mathlib.Decide.{ℕ-discrete}
 use lib.Dec.{eqb, leb}
-use lib.ListN.{length}
 use borrow.Author.Tests.{eqb-true, eq-eqb, le-leb, leb-true}
 use Rattle.laws.specs.Lists.{keep}
 use Rattle.definition.specs.Threading.{Ends, Edge, compareEnds, put, leaving}
-use Rattle.laws.specs.Records.{field}
+use Rattle.assembly.specs.Fields.{vertexField, outEdge, HasEdges, HasEdge, edgeFrom, edgeTo}
 use Rattle.assembly.specs.Ends.{ends-eq, ends-flip, ends-flip', ends-trans, Below, is-below, is-above}
 use Rattle.assembly.specs.Puts.{put-nil, put-lt, put-eq, put-gt, merge-ends}
 use Rattle.assembly.specs.Table.{table, table-0, table-suc, Distinct}
@@ -175,8 +174,8 @@ not-true-false b h k = let z : true ≡ false = sym h ∙ k in let y : _≡_ {A 
 
 -- what the code finds: r is 0 where v has no out-edge to a target from t on, else one more than the number of that with the least target
 pub record Nexts (es : List ℕ) (m v t r : ℕ) : Type 0 where
-  pub there : 0 < r → (r ≤ m) × (field es 6 (r - 1) 0 ≡ v) × (t ≤ field es 6 (r - 1) 1)
-  pub least : (j : ℕ) → j < m → field es 6 j 0 ≡ v → t ≤ field es 6 j 1 → (0 < r) × (field es 6 (r - 1) 1 ≤ field es 6 j 1)
+  pub there : 0 < r → (r ≤ m) × (edgeFrom es (r - 1) ≡ v) × (t ≤ edgeTo es (r - 1))
+  pub least : (j : ℕ) → j < m → edgeFrom es j ≡ v → t ≤ edgeTo es j → (0 < r) × (edgeTo es (r - 1) ≤ edgeTo es j)
 
 pub nexts-none : (es : List ℕ) (m v t r : ℕ) → Nexts es m v t r → r ≡ 0 → outFrom (edgesOf es m) v t ≡ []
 unfolding outFrom leaving edgesOf
@@ -186,34 +185,34 @@ nexts-none es m v t r x z =
     (each-table (λ d. from-on v t d ≡ false) (edgeAt es) m (λ j h. from-off v t (edgeAt es j .ends) (λ e l. (let w = x .least j h e l .0 in omega arith))))
 
 pub nexts-some : (es : List ℕ) (m v t r : ℕ) → Distinct (edgeAt es) m → Nexts es m v t r → 0 < r
-    → outFrom (edgesOf es m) v t ≡ edgeAt es (r - 1) ∷ outFrom (edgesOf es m) v (field es 6 (r - 1) 1 + 1)
+    → outFrom (edgesOf es m) v t ≡ edgeAt es (r - 1) ∷ outFrom (edgesOf es m) v (edgeTo es (r - 1) + 1)
 unfolding outFrom leaving edgesOf
 nexts-some es m v t r ds x z =
     keep-keep (λ e. eqb (e .ends .from) v) (λ e. leb t (e .ends .to)) (table (edgeAt es) m)
-    ∙ keep-least (from-on v t) (from-on v (field es 6 (r - 1) 1 + 1)) (edgeAt es (r - 1))
-    (from-on-is v t (edgeAt es (r - 1) .ends) (w .1) (w .2)) (from-off v (field es 6 (r - 1) 1 + 1) (edgeAt es (r - 1) .ends) (λ e l. omega arith)) after less
+    ∙ keep-least (from-on v t) (from-on v (edgeTo es (r - 1) + 1)) (edgeAt es (r - 1))
+    (from-on-is v t (edgeAt es (r - 1) .ends) (w .1) (w .2)) (from-off v (edgeTo es (r - 1) + 1) (edgeAt es (r - 1) .ends) (λ e l. omega arith)) after less
     (table (edgeAt es) m) (rising-table (edgeAt es) m) (has-table (edgeAt es) m (r - 1) ds (let y = w .0 in omega arith))
     (each-table (λ d. from-on v t d ≡ true → compareEnds (edgeAt es (r - 1) .ends) d ≡ Ordering·gt → ⊥) (edgeAt es) m (λ j h. small j h))
-    ∙ ap (λ (l : List Edge). edgeAt es (r - 1) ∷ l) (sym (keep-keep (λ e. eqb (e .ends .from) v) (λ e. leb (field es 6 (r - 1) 1 + 1) (e .ends .to)) (table (edgeAt es) m)))
+    ∙ ap (λ (l : List Edge). edgeAt es (r - 1) ∷ l) (sym (keep-keep (λ e. eqb (e .ends .from) v) (λ e. leb (edgeTo es (r - 1) + 1) (e .ends .to)) (table (edgeAt es) m)))
   where
-    w : (r ≤ m) × (field es 6 (r - 1) 0 ≡ v) × (t ≤ field es 6 (r - 1) 1)
+    w : (r ≤ m) × (edgeFrom es (r - 1) ≡ v) × (t ≤ edgeTo es (r - 1))
     w = x .there z
 
-    cases : (d : Ends) → Below (edgeAt es (r - 1) .ends) d → from-on v (field es 6 (r - 1) 1 + 1) d ≡ from-on v t d
-    cases d (inl h) = from-off v (field es 6 (r - 1) 1 + 1) d (λ e l. (let y = w .1 in omega arith)) ∙ sym (from-off v t d (λ e l. (let y = w .1 in omega arith)))
+    cases : (d : Ends) → Below (edgeAt es (r - 1) .ends) d → from-on v (edgeTo es (r - 1) + 1) d ≡ from-on v t d
+    cases d (inl h) = from-off v (edgeTo es (r - 1) + 1) d (λ e l. (let y = w .1 in omega arith)) ∙ sym (from-off v t d (λ e l. (let y = w .1 in omega arith)))
     cases d (inr h) =
         let e : d .from ≡ v = sym (h .0) ∙ w .1 in
         let l = h .1 in
         let y = w .2 in
-        from-on-is v (field es 6 (r - 1) 1 + 1) d e (omega arith) ∙ sym (from-on-is v t d e (omega arith))
+        from-on-is v (edgeTo es (r - 1) + 1) d e (omega arith) ∙ sym (from-on-is v t d e (omega arith))
 
-    after : (d : Ends) → compareEnds (edgeAt es (r - 1) .ends) d ≡ Ordering·lt → from-on v (field es 6 (r - 1) 1 + 1) d ≡ from-on v t d
+    after : (d : Ends) → compareEnds (edgeAt es (r - 1) .ends) d ≡ Ordering·lt → from-on v (edgeTo es (r - 1) + 1) d ≡ from-on v t d
     after d c = cases d (is-below (edgeAt es (r - 1) .ends) d c)
 
-    less : (d : Ends) → from-on v t d ≡ false → from-on v (field es 6 (r - 1) 1 + 1) d ≡ false
-    less d k = from-off v (field es 6 (r - 1) 1 + 1) d (λ e l. not-true-false (from-on v t d) (from-on-is v t d e (let y = w .2 in omega arith)) k)
+    less : (d : Ends) → from-on v t d ≡ false → from-on v (edgeTo es (r - 1) + 1) d ≡ false
+    less d k = from-off v (edgeTo es (r - 1) + 1) d (λ e l. not-true-false (from-on v t d) (from-on-is v t d e (let y = w .2 in omega arith)) k)
 
-    above : (d : Ends) → d .from ≡ v → field es 6 (r - 1) 1 ≤ d .to → Below d (edgeAt es (r - 1) .ends) → ⊥
+    above : (d : Ends) → d .from ≡ v → edgeTo es (r - 1) ≤ d .to → Below d (edgeAt es (r - 1) .ends) → ⊥
     above d e l (inl h) = let y = w .1 in omega arith
     above d e l (inr h) = let y = h .1 in omega arith
 
@@ -225,39 +224,39 @@ nexts-some es m v t r ds x z =
 -- ---- the scan of a vertex's slots
 -- a slot's number names an edge, where it names any
 abbrev pub Names : List ℕ → ℕ → Type 0
-Names es r = 0 < r → (r - 1) * 6 + 6 ≤ length es
+Names es r = 0 < r → HasEdge es (r - 1)
 
 -- the better of what was found and a slot
 pub record Lesser (es : List ℕ) (best slot t r : ℕ) : Type 0 where
-  pub from : (r ≡ best) ⊎ ((r ≡ slot) × (t ≤ field es 6 (slot - 1) 1))
-  pub keeps : 0 < best → (0 < r) × (field es 6 (r - 1) 1 ≤ field es 6 (best - 1) 1)
-  pub beats : 0 < slot → t ≤ field es 6 (slot - 1) 1 → (0 < r) × (field es 6 (r - 1) 1 ≤ field es 6 (slot - 1) 1)
+  pub from : (r ≡ best) ⊎ ((r ≡ slot) × (t ≤ edgeTo es (slot - 1)))
+  pub keeps : 0 < best → (0 < r) × (edgeTo es (r - 1) ≤ edgeTo es (best - 1))
+  pub beats : 0 < slot → t ≤ edgeTo es (slot - 1) → (0 < r) × (edgeTo es (r - 1) ≤ edgeTo es (slot - 1))
 
 -- v's slots hold its out-edges and nothing else
 pub record Slots (vs es : List ℕ) (m v : ℕ) : Type 0 where
-  pub full : (c : ℕ) → c < 8 → 0 < field vs 12 v c → (field vs 12 v c ≤ m) × (field es 6 (field vs 12 v c - 1) 0 ≡ v)
-  pub all : (i : ℕ) → i < m → field es 6 i 0 ≡ v → (c : ℕ) × (c < 8) × (field vs 12 v c ≡ i + 1)
+  pub full : (c : ℕ) → c < 8 → 0 < outEdge vs v c → (outEdge vs v c ≤ m) × (edgeFrom es (outEdge vs v c - 1) ≡ v)
+  pub all : (i : ℕ) → i < m → edgeFrom es i ≡ v → (c : ℕ) × (c < 8) × (outEdge vs v c ≡ i + 1)
 
 pub slots-of : {k : ℕ} {text vs : List ℕ} {n : ℕ} {es : List ℕ} {m v : ℕ} → Good k text vs n es m → v < n → Slots vs es m v
 slots-of {k = k} {text = text} {vs = vs} {n = n} {es = es} {v = v} g h =
     record {
       full = λ c l z. (let w = g .full v c h l z in (w .0, w .1));
-      all = λ i l e. (code (lastOf k text vs n (field es 6 i 1)), code-lt (lastOf k text vs n (field es 6 i 1)), rw e at (g .slot i l));
+      all = λ i l e. (code (lastOf k text vs n (edgeTo es i)), code-lt (lastOf k text vs n (edgeTo es i)), rw e at (g .slot i l));
     }
 
-pub slots-names : {vs es : List ℕ} {m v : ℕ} → Slots vs es m v → m * 6 ≤ length es → (c : ℕ) → c < 8 → Names es (field vs 12 v c)
+pub slots-names : {vs es : List ℕ} {m v : ℕ} → Slots vs es m v → HasEdges es m → (c : ℕ) → c < 8 → Names es (outEdge vs v c)
 slots-names s r c h z = let w = s .full c h z .0 in omega arith
 
 -- after c slots: what was found stands in one of them, and is the least of them from t on
 pub record Best (vs es : List ℕ) (v t c r : ℕ) : Type 0 where
   pub within : c ≤ 8
-  pub there : 0 < r → (d : ℕ) × (d < c) × (r ≡ field vs 12 v d) × (t ≤ field es 6 (r - 1) 1)
-  pub least : (d : ℕ) → d < c → 0 < field vs 12 v d → t ≤ field es 6 (field vs 12 v d - 1) 1 → (0 < r) × (field es 6 (r - 1) 1 ≤ field es 6 (field vs 12 v d - 1) 1)
+  pub there : 0 < r → (d : ℕ) × (d < c) × (r ≡ vertexField vs v d) × (t ≤ edgeTo es (r - 1))
+  pub least : (d : ℕ) → d < c → 0 < vertexField vs v d → t ≤ edgeTo es (vertexField vs v d - 1) → (0 < r) × (edgeTo es (r - 1) ≤ edgeTo es (vertexField vs v d - 1))
 
 pub best-start : (vs es : List ℕ) (v t : ℕ) → Best vs es v t 0 0
 best-start vs es v t = record { within = omega arith; there = λ h. absurd (omega arith); least = λ d h. absurd (omega arith) }
 
-pub best-next : (vs es : List ℕ) (v t c r r' : ℕ) → Best vs es v t c r → c < 8 → Lesser es r (field vs 12 v c) t r' → Best vs es v t (c + 1) r'
+pub best-next : (vs es : List ℕ) (v t c r r' : ℕ) → Best vs es v t c r → c < 8 → Lesser es r (outEdge vs v c) t r' → Best vs es v t (c + 1) r'
 best-next vs es v t c r r' b h l =
     record {
       within = omega arith;
@@ -265,11 +264,11 @@ best-next vs es v t c r r' b h l =
       least = λ d k z w. least' d k z w (ℕ-discrete d c);
     }
   where
-    there' : 0 < r' → (r' ≡ r) ⊎ ((r' ≡ field vs 12 v c) × (t ≤ field es 6 (field vs 12 v c - 1) 1)) → (d : ℕ) × (d < c + 1) × (r' ≡ field vs 12 v d) × (t ≤ field es 6 (r' - 1) 1)
+    there' : 0 < r' → (r' ≡ r) ⊎ ((r' ≡ outEdge vs v c) × (t ≤ edgeTo es (outEdge vs v c - 1))) → (d : ℕ) × (d < c + 1) × (r' ≡ vertexField vs v d) × (t ≤ edgeTo es (r' - 1))
     there' z (inl e) = let w = b .there (rw e at z) in (w .0, (let y = w .1 in omega arith), e ∙ w .2, rw e (w .3))
     there' z (inr e) = (c, omega arith, e .0, rw (e .0) (e .1))
 
-    least' : (d : ℕ) → d < c + 1 → 0 < field vs 12 v d → t ≤ field es 6 (field vs 12 v d - 1) 1 → Dec (d ≡ c) → (0 < r') × (field es 6 (r' - 1) 1 ≤ field es 6 (field vs 12 v d - 1) 1)
+    least' : (d : ℕ) → d < c + 1 → 0 < vertexField vs v d → t ≤ edgeTo es (vertexField vs v d - 1) → Dec (d ≡ c) → (0 < r') × (edgeTo es (r' - 1) ≤ edgeTo es (vertexField vs v d - 1))
     least' d k z w (yes e) = rw e (l .beats (rw e at z) (rw e at w))
     least' d k z w (no e) =
         let y = b .least d (omega arith) z w in
@@ -283,13 +282,13 @@ best-end vs es v t c r b h m s =
       least = λ j l e k. least' j k (s .all j l e);
     }
   where
-    there' : 0 < r → (d : ℕ) × (d < c) × (r ≡ field vs 12 v d) × (t ≤ field es 6 (r - 1) 1) → (r ≤ m) × (field es 6 (r - 1) 0 ≡ v) × (t ≤ field es 6 (r - 1) 1)
+    there' : 0 < r → (d : ℕ) × (d < c) × (r ≡ vertexField vs v d) × (t ≤ edgeTo es (r - 1)) → (r ≤ m) × (edgeFrom es (r - 1) ≡ v) × (t ≤ edgeTo es (r - 1))
     there' z w =
         let l : w .0 < 8 = (let x = b .within in let y = w .1 in omega arith) in
         let u = s .full (w .0) l (rw (w .2) at z) in
         (rw (w .2) (u .0), rw (w .2) (u .1), w .3)
 
-    least' : (j : ℕ) → t ≤ field es 6 j 1 → (d : ℕ) × (d < 8) × (field vs 12 v d ≡ j + 1) → (0 < r) × (field es 6 (r - 1) 1 ≤ field es 6 j 1)
+    least' : (j : ℕ) → t ≤ edgeTo es j → (d : ℕ) × (d < 8) × (vertexField vs v d ≡ j + 1) → (0 < r) × (edgeTo es (r - 1) ≤ edgeTo es j)
     least' j k w =
         let z : j + 1 - 1 ≡ j = omega arith in
         let y = b .least (w .0) (let x = w .1 in omega arith) (let x = w .2 in omega arith) (rw (w .2, z) k) in
@@ -298,7 +297,7 @@ best-end vs es v t c r b h m s =
 pub names-next : (es : List ℕ) (best slot t r : ℕ) → Names es best → Names es slot → Lesser es best slot t r → Names es r
 names-next es best slot t r a b l = go (l .from)
   where
-    go : (r ≡ best) ⊎ ((r ≡ slot) × (t ≤ field es 6 (slot - 1) 1)) → Names es r
+    go : (r ≡ best) ⊎ ((r ≡ slot) × (t ≤ edgeTo es (slot - 1))) → Names es r
     go (inl e) = rw e a
     go (inr e) = rw (e .0) b
 
@@ -307,14 +306,14 @@ module _ (es : List ℕ) (best slot t : ℕ) where
   pub lesser-empty : slot ≡ 0 → Lesser es best slot t best
   lesser-empty e = record { from = inl refl; keeps = λ h. (h, omega arith); beats = λ h. absurd (omega arith) }
 
-  pub lesser-low : field es 6 (slot - 1) 1 < t → Lesser es best slot t best
+  pub lesser-low : edgeTo es (slot - 1) < t → Lesser es best slot t best
   lesser-low e = record { from = inl refl; keeps = λ h. (h, omega arith); beats = λ h k. absurd (omega arith) }
 
-  pub lesser-first : (slot ≡ 0 → ⊥) → t ≤ field es 6 (slot - 1) 1 → best ≡ 0 → Lesser es best slot t slot
+  pub lesser-first : (slot ≡ 0 → ⊥) → t ≤ edgeTo es (slot - 1) → best ≡ 0 → Lesser es best slot t slot
   lesser-first z e h = record { from = inr (refl, e); keeps = λ k. absurd (omega arith); beats = λ k l. (k, omega arith) }
 
-  pub lesser-new : (slot ≡ 0 → ⊥) → t ≤ field es 6 (slot - 1) 1 → field es 6 (slot - 1) 1 < field es 6 (best - 1) 1 → Lesser es best slot t slot
+  pub lesser-new : (slot ≡ 0 → ⊥) → t ≤ edgeTo es (slot - 1) → edgeTo es (slot - 1) < edgeTo es (best - 1) → Lesser es best slot t slot
   lesser-new z e h = record { from = inr (refl, e); keeps = λ k. (omega arith, omega arith); beats = λ k l. (k, omega arith) }
 
-  pub lesser-old : (best ≡ 0 → ⊥) → field es 6 (best - 1) 1 ≤ field es 6 (slot - 1) 1 → Lesser es best slot t best
+  pub lesser-old : (best ≡ 0 → ⊥) → edgeTo es (best - 1) ≤ edgeTo es (slot - 1) → Lesser es best slot t best
   lesser-old z h = record { from = inl refl; keeps = λ k. (k, omega arith); beats = λ k l. (omega arith, h) }

@@ -1,7 +1,7 @@
 -- The bases of a path: the first vertex's kmer, then the last base of each vertex reached, read off the tables. Assumes nothing.
 use mathlib.Core.Path.{_≡_, refl, sym, ap, _∙_}
 use mathlib.Core.List.{List, [], _∷_, _++_, map}
-use Prim.Native.Nat.{ℕ, zero, suc, _+_, _-_, _*_, _^_, _<_, _≤_}
+use Prim.Native.Nat.{ℕ, zero, suc, _+_, _-_, _^_, _<_, _≤_}
 use native.Mathlib.Omega.{arith}
 use native.Mathlib.Numerals.{add-one}
 use lib.ListN.{length, getD, set, take, length-append, length-map, length-set, List·getD-append}
@@ -9,27 +9,27 @@ use lib.Seq.{getD-append-add, getD-take, length-take-le, paste, paste-zero, past
 use Rattle.laws.specs.Lists.{lastOr}
 use Rattle.laws.specs.ListLaws.{All, cons}
 use Rattle.laws.specs.Rows.{getD-rows}
-use Rattle.laws.specs.Records.{field}
 use Rattle.definition.specs.Threading.{Ends, lastBase}
 use Rattle.definition.specs.Listing.{pathBases}
+use Rattle.assembly.specs.Fields.{HasVertex, kmerPlace, HasEdge, edgeTo}
 use Rattle.assembly.specs.Store.{edgeAt, kmerAt, kmersOf, graphOf}
 use Rattle.assembly.specs.Kmers.{part, length-part, getD-part, last-part, last-of}
 
 -- the last base of the vertex that edge i enters
 abbrev pub endBase : ℕ → List ℕ → List ℕ → List ℕ → ℕ → ℕ
-endBase k text vs es i = lastOr 0 (kmerAt k text vs (field es 6 i 1))
+endBase k text vs es i = lastOr 0 (kmerAt k text vs (edgeTo es i))
 
 -- the bases of the path from vertex 0 over the edges numbered in `path`
 unfoldable pub basesOf : ℕ → List ℕ → List ℕ → List ℕ → List ℕ → List ℕ
 basesOf k text vs es path = kmerAt k text vs 0 ++ map (endBase k text vs es) path
 
 -- the definition's bases, where every vertex reached is one of the n
-ends-bases : (k : ℕ) (text vs es : List ℕ) (n : ℕ) (path : List ℕ) → All (λ (i : ℕ). field es 6 i 1 < n) path
+ends-bases : (k : ℕ) (text vs es : List ℕ) (n : ℕ) (path : List ℕ) → All (λ (i : ℕ). edgeTo es i < n) path
     → map (endBase k text vs es) path ≡ map (λ (e : Ends). lastBase (kmersOf k text vs n) (e .to)) (map (λ (i : ℕ). edgeAt es i .ends) path)
 ends-bases k text vs es n [] a = refl
-ends-bases k text vs es n (i ∷ path) (cons h a) = rw (last-of k text vs n (field es 6 i 1) h, ends-bases k text vs es n path a)
+ends-bases k text vs es n (i ∷ path) (cons h a) = rw (last-of k text vs n (edgeTo es i) h, ends-bases k text vs es n path a)
 
-pub bases-is : (k : ℕ) (text vs es : List ℕ) (n m : ℕ) (path : List ℕ) → 0 < n → All (λ (i : ℕ). field es 6 i 1 < n) path
+pub bases-is : (k : ℕ) (text vs es : List ℕ) (n m : ℕ) (path : List ℕ) → 0 < n → All (λ (i : ℕ). edgeTo es i < n) path
     → basesOf k text vs es path ≡ pathBases (graphOf k text vs n es m) (map (λ (i : ℕ). edgeAt es i .ends) path)
 unfolding basesOf pathBases graphOf kmersOf
 bases-is k text vs es n m path h a = rw (getD-rows (kmerAt k text vs) n 0 [] h) (ap (λ (l : List ℕ). kmerAt k text vs 0 ++ l) (ends-bases k text vs es n path a))
@@ -40,17 +40,17 @@ pub record Spells (k : ℕ) (text vs es path : List ℕ) (e : ℕ) : Type 0 wher
   pub small : length text < 2 ^ 32
   pub long : e ≤ length path
   pub first-room : 12 ≤ length vs
-  pub first-fits : field vs 12 0 8 + k ≤ length text
-  pub edge-room : (j : ℕ) → j < e → getD path j 0 * 6 + 6 ≤ length es
-  pub to-room : (j : ℕ) → j < e → field es 6 (getD path j 0) 1 * 12 + 12 ≤ length vs
-  pub to-fits : (j : ℕ) → j < e → field vs 12 (field es 6 (getD path j 0) 1) 8 + k ≤ length text
+  pub first-fits : kmerPlace vs 0 + k ≤ length text
+  pub edge-room : (j : ℕ) → j < e → HasEdge es (getD path j 0)
+  pub to-room : (j : ℕ) → j < e → HasVertex vs (edgeTo es (getD path j 0))
+  pub to-fits : (j : ℕ) → j < e → kmerPlace vs (edgeTo es (getD path j 0)) + k ≤ length text
 
 module _ {k : ℕ} {text vs es path : List ℕ} {e : ℕ} (x : Spells k text vs es path e) where
   abbrev all : List ℕ
   all = basesOf k text vs es (take e path)
 
   first-length : length (kmerAt k text vs 0) ≡ k
-  first-length = length-part k text (field vs 12 0 8) (x .first-fits)
+  first-length = length-part k text (kmerPlace vs 0) (x .first-fits)
 
   pub bases-length : length (basesOf k text vs es (take e path)) ≡ k + e
   unfolding basesOf
@@ -59,30 +59,30 @@ module _ {k : ℕ} {text vs es path : List ℕ} {e : ℕ} (x : Spells k text vs 
       ∙ rw (first-length, length-map (take e path) (endBase k text vs es), length-take-le e path (x .long))
 
   module _ (i : ℕ) where
-    pub base-first : i < k → (p : ℕ) → p ≡ field vs 12 0 8 → getD text (p + i) 0 ≡ getD (basesOf k text vs es (take e path)) i 0
+    pub base-first : i < k → (p : ℕ) → p ≡ kmerPlace vs 0 → getD text (p + i) 0 ≡ getD (basesOf k text vs es (take e path)) i 0
     unfolding basesOf
     base-first h p hp =
         rw hp
-        (sym (List·getD-append (kmerAt k text vs 0) (map (endBase k text vs es) (take e path)) 0 i (rw first-length h) ∙ getD-part k text (field vs 12 0 8) i h))
+        (sym (List·getD-append (kmerAt k text vs 0) (map (endBase k text vs es) (take e path)) 0 i (rw first-length h) ∙ getD-part k text (kmerPlace vs 0) i h))
 
     module _ (l : k ≤ i) (r : i < k + e) where
       j-in : i - k < e
       j-in = omega arith
 
-      pub base-edge : (j : ℕ) → j ≡ getD path (i - k) 0 → j * 6 + 6 ≤ length es
+      pub base-edge : (j : ℕ) → j ≡ getD path (i - k) 0 → HasEdge es j
       base-edge j h = rw h (x .edge-room (i - k) j-in)
 
-      module _ (j : ℕ) (hj : j ≡ getD path (i - k) 0) (v : ℕ) (hv : v ≡ field es 6 j 1) where
-        v-is : v ≡ field es 6 (getD path (i - k) 0) 1
+      module _ (j : ℕ) (hj : j ≡ getD path (i - k) 0) (v : ℕ) (hv : v ≡ edgeTo es j) where
+        v-is : v ≡ edgeTo es (getD path (i - k) 0)
         v-is = rw hj at hv
 
-        pub base-room : v * 12 + 12 ≤ length vs
+        pub base-room : HasVertex vs v
         base-room = rw v-is (x .to-room (i - k) j-in)
 
-        pub base-fits : (p : ℕ) → p ≡ field vs 12 v 8 → p + k ≤ length text
+        pub base-fits : (p : ℕ) → p ≡ kmerPlace vs v → p + k ≤ length text
         base-fits p h = rw (h, v-is) (x .to-fits (i - k) j-in)
 
-        pub base-later : (p : ℕ) → p ≡ field vs 12 v 8 → getD text (p + k - 1) 0 ≡ getD (basesOf k text vs es (take e path)) i 0
+        pub base-later : (p : ℕ) → p ≡ kmerPlace vs v → getD text (p + k - 1) 0 ≡ getD (basesOf k text vs es (take e path)) i 0
         unfolding basesOf
         base-later p h =
             let z : i ≡ length (kmerAt k text vs 0) + (i - k) = (let y = first-length in omega arith) in

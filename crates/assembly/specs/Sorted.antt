@@ -13,7 +13,8 @@ use lib.Seq.{take-suc-set, drop-set-lt}
 use borrow.Author.Tests.{eqb-true, eq-eqb, le-leb, leb-true, lt-ltb, le-ltb, ltb-true}
 use Rattle.laws.specs.Lists.{keep}
 use Rattle.definition.specs.Threading.{Ends, Edge, compareEnds}
-use Rattle.laws.specs.Records.{field}
+use Rattle.laws.specs.ListLaws.{length-nil}
+use Rattle.assembly.specs.Fields.{HasVertex, outEdge, HasEdges, HasEdge, edgeFrom, edgeTo}
 use Rattle.assembly.specs.Ends.{Below, is-below, is-above}
 use Rattle.assembly.specs.Table.{table, Distinct, length-table}
 use Rattle.assembly.specs.Store.{edgeAt, edgesOf}
@@ -66,13 +67,13 @@ rest v t es = keep (λ e. from-there v t (e .ends)) es
 
 pub rest-start : (es : List ℕ) (m : ℕ) → rest 0 0 (edgesOf es m) ≡ edgesOf es m
 unfolding rest edgesOf
-rest-start es m = keep-all (from-there 0 0) (table (edgeAt es) m) (each-table (λ d. from-there 0 0 d ≡ true) (edgeAt es) m (λ j h. there-is 0 0 (edgeAt es j .ends) (go (ℕ-discrete (field es 6 j 0) 0))))
+rest-start es m = keep-all (from-there 0 0) (table (edgeAt es) m) (each-table (λ d. from-there 0 0 d ≡ true) (edgeAt es) m (λ j h. there-is 0 0 (edgeAt es j .ends) (go (ℕ-discrete (edgeFrom es j) 0))))
   where
     go : {d : Ends} → Dec (d .from ≡ 0) → There 0 0 d
     go (yes e) = inr (e, omega arith)
     go (no e) = inl (omega arith)
 
-pub rest-end : (es : List ℕ) (m v t : ℕ) → ((i : ℕ) → i < m → field es 6 i 0 < v) → rest v t (edgesOf es m) ≡ []
+pub rest-end : (es : List ℕ) (m v t : ℕ) → ((i : ℕ) → i < m → edgeFrom es i < v) → rest v t (edgesOf es m) ≡ []
 unfolding rest edgesOf
 rest-end es m v t h =
     keep-none (from-there v t) (table (edgeAt es) m)
@@ -86,57 +87,57 @@ pub rest-skip : (es : List ℕ) (m v t r : ℕ) → Nexts es m v t r → r ≡ 0
 unfolding rest edgesOf
 rest-skip es m v t r x z =
     keep-same (from-there v t) (from-there (v + 1) 0) (table (edgeAt es) m)
-    (each-table (λ d. from-there v t d ≡ from-there (v + 1) 0 d) (edgeAt es) m (λ j h. same j h (decLt v (field es 6 j 0))))
+    (each-table (λ d. from-there v t d ≡ from-there (v + 1) 0 d) (edgeAt es) m (λ j h. same j h (decLt v (edgeFrom es j))))
   where
-    on : (j : ℕ) → v < field es 6 j 0 → Dec (field es 6 j 0 ≡ v + 1) → There (v + 1) 0 (edgeAt es j .ends)
+    on : (j : ℕ) → v < edgeFrom es j → Dec (edgeFrom es j ≡ v + 1) → There (v + 1) 0 (edgeAt es j .ends)
     on j l (yes e) = inr (e, omega arith)
     on j l (no e) = inl (omega arith)
 
-    off : (j : ℕ) → j < m → (v < field es 6 j 0 → ⊥) → There v t (edgeAt es j .ends) → ⊥
+    off : (j : ℕ) → j < m → (v < edgeFrom es j → ⊥) → There v t (edgeAt es j .ends) → ⊥
     off j h l (inl w) = l w
     off j h l (inr w) = let y = x .least j h (w .0) (w .1) .0 in omega arith
 
-    off' : (j : ℕ) → (v < field es 6 j 0 → ⊥) → There (v + 1) 0 (edgeAt es j .ends) → ⊥
+    off' : (j : ℕ) → (v < edgeFrom es j → ⊥) → There (v + 1) 0 (edgeAt es j .ends) → ⊥
     off' j l (inl w) = l (omega arith)
     off' j l (inr w) = l (let y = w .0 in omega arith)
 
-    same : (j : ℕ) → j < m → Dec (v < field es 6 j 0) → from-there v t (edgeAt es j .ends) ≡ from-there (v + 1) 0 (edgeAt es j .ends)
-    same j h (yes l) = there-is v t (edgeAt es j .ends) (inl l) ∙ sym (there-is (v + 1) 0 (edgeAt es j .ends) (on j l (ℕ-discrete (field es 6 j 0) (v + 1))))
+    same : (j : ℕ) → j < m → Dec (v < edgeFrom es j) → from-there v t (edgeAt es j .ends) ≡ from-there (v + 1) 0 (edgeAt es j .ends)
+    same j h (yes l) = there-is v t (edgeAt es j .ends) (inl l) ∙ sym (there-is (v + 1) 0 (edgeAt es j .ends) (on j l (ℕ-discrete (edgeFrom es j) (v + 1))))
     same j h (no l) = there-off v t (edgeAt es j .ends) (off j h l) ∙ sym (there-off (v + 1) 0 (edgeAt es j .ends) (off' j l))
 
 pub rest-take : (es : List ℕ) (m v t r : ℕ) → Distinct (edgeAt es) m → Nexts es m v t r → 0 < r
-    → rest v t (edgesOf es m) ≡ edgeAt es (r - 1) ∷ rest v (field es 6 (r - 1) 1 + 1) (edgesOf es m)
+    → rest v t (edgesOf es m) ≡ edgeAt es (r - 1) ∷ rest v (edgeTo es (r - 1) + 1) (edgesOf es m)
 unfolding rest edgesOf
 rest-take es m v t r ds x z =
-    keep-least (from-there v t) (from-there v (field es 6 (r - 1) 1 + 1)) (edgeAt es (r - 1))
-    (there-is v t (edgeAt es (r - 1) .ends) (inr (w .1, w .2))) (there-off v (field es 6 (r - 1) 1 + 1) (edgeAt es (r - 1) .ends) itself) (λ d c. after d (is-below (edgeAt es (r - 1) .ends) d c)) less
+    keep-least (from-there v t) (from-there v (edgeTo es (r - 1) + 1)) (edgeAt es (r - 1))
+    (there-is v t (edgeAt es (r - 1) .ends) (inr (w .1, w .2))) (there-off v (edgeTo es (r - 1) + 1) (edgeAt es (r - 1) .ends) itself) (λ d c. after d (is-below (edgeAt es (r - 1) .ends) d c)) less
     (table (edgeAt es) m) (rising-table (edgeAt es) m) (has-table (edgeAt es) m (r - 1) ds (let y = w .0 in omega arith))
     (each-table (λ d. from-there v t d ≡ true → compareEnds (edgeAt es (r - 1) .ends) d ≡ Ordering·gt → ⊥) (edgeAt es) m
     (λ j h k c. small j h (is-there v t (edgeAt es j .ends) k) (is-above (edgeAt es (r - 1) .ends) (edgeAt es j .ends) c)))
   where
-    w : (r ≤ m) × (field es 6 (r - 1) 0 ≡ v) × (t ≤ field es 6 (r - 1) 1)
+    w : (r ≤ m) × (edgeFrom es (r - 1) ≡ v) × (t ≤ edgeTo es (r - 1))
     w = x .there z
 
-    itself : There v (field es 6 (r - 1) 1 + 1) (edgeAt es (r - 1) .ends) → ⊥
+    itself : There v (edgeTo es (r - 1) + 1) (edgeAt es (r - 1) .ends) → ⊥
     itself (inl h) = let y = w .1 in omega arith
     itself (inr h) = let y = h .1 in omega arith
 
-    after : (d : Ends) → Below (edgeAt es (r - 1) .ends) d → from-there v (field es 6 (r - 1) 1 + 1) d ≡ from-there v t d
+    after : (d : Ends) → Below (edgeAt es (r - 1) .ends) d → from-there v (edgeTo es (r - 1) + 1) d ≡ from-there v t d
     after d (inl h) =
         let l : v < d .from = (let y = w .1 in omega arith) in
-        there-is v (field es 6 (r - 1) 1 + 1) d (inl l) ∙ sym (there-is v t d (inl l))
+        there-is v (edgeTo es (r - 1) + 1) d (inl l) ∙ sym (there-is v t d (inl l))
     after d (inr h) =
         let e : d .from ≡ v = sym (h .0) ∙ w .1 in
         let l = h .1 in
         let y = w .2 in
-        there-is v (field es 6 (r - 1) 1 + 1) d (inr (e, omega arith)) ∙ sym (there-is v t d (inr (e, omega arith)))
+        there-is v (edgeTo es (r - 1) + 1) d (inr (e, omega arith)) ∙ sym (there-is v t d (inr (e, omega arith)))
 
-    fewer : (d : Ends) → There v (field es 6 (r - 1) 1 + 1) d → There v t d
+    fewer : (d : Ends) → There v (edgeTo es (r - 1) + 1) d → There v t d
     fewer d (inl h) = inl h
     fewer d (inr h) = inr (h .0, (let y = w .2 in let u = h .1 in omega arith))
 
-    less : (d : Ends) → from-there v t d ≡ false → from-there v (field es 6 (r - 1) 1 + 1) d ≡ false
-    less d k = there-off v (field es 6 (r - 1) 1 + 1) d (λ u. not-there v t d k (fewer d u))
+    less : (d : Ends) → from-there v t d ≡ false → from-there v (edgeTo es (r - 1) + 1) d ≡ false
+    less d k = there-off v (edgeTo es (r - 1) + 1) d (λ u. not-there v t d k (fewer d u))
 
     small : (j : ℕ) → j < m → There v t (edgeAt es j .ends) → Below (edgeAt es j .ends) (edgeAt es (r - 1) .ends) → ⊥
     small j h (inl k) (inl b) = let y = w .1 in omega arith
@@ -147,9 +148,9 @@ rest-take es m v t r ds x z =
 -- ---- the pass: over every vertex that the table has room for, until all edges are out
 pub record Orders (vs es out : List ℕ) (m : ℕ) : Type 0 where
   pub distinct : Distinct (edgeAt es) m
-  pub from-in : (i : ℕ) → i < m → field es 6 i 0 * 12 + 12 ≤ length vs
-  pub slots : (v : ℕ) → v * 12 + 12 ≤ length vs → Slots vs es m v
-  pub room-e : m * 6 ≤ length es
+  pub from-in : (i : ℕ) → i < m → HasVertex vs (edgeFrom es i)
+  pub slots : (v : ℕ) → HasVertex vs v → Slots vs es m v
+  pub room-e : HasEdges es m
   pub room-o : m ≤ length out
   pub few-e : m ≤ 8192
 
@@ -163,10 +164,6 @@ pub record Passing (es out out' : List ℕ) (m v t p : ℕ) : Type 0 where
   pub fits : p + length (rest v t (edgesOf es m)) ≡ m
   pub is : map (edgeAt es) (take p out') ++ rest v t (edgesOf es m) ≡ edgesOf es m
   pub beyond : drop m out' ≡ drop m out
-
-length-nil : (l : List Edge) → length l ≡ 0 → l ≡ []
-length-nil [] h = refl
-length-nil (x ∷ l) h = absurd (omega arith)
 
 module _ {vs es out : List ℕ} {m : ℕ} (x : Orders vs es out m) where
   length-all : length (edgesOf es m) ≡ m
@@ -185,14 +182,14 @@ module _ {vs es out : List ℕ} {m : ℕ} (x : Orders vs es out m) where
 
     module _ (l : p < m) where
       -- while edges are left there is a vertex to look at
-      pub pass-v : v * 12 + 12 ≤ length vs
+      pub pass-v : HasVertex vs v
       pass-v = go (decLt (length vs) (v * 12 + 12))
         where
-          go : Dec (length vs < v * 12 + 12) → v * 12 + 12 ≤ length vs
+          go : Dec (length vs < v * 12 + 12) → HasVertex vs v
           go (yes h) = absurd (let e = ap length (rest-end es m v t (λ i k. (let z = x .from-in i k in omega arith))) in let w = b .fits in omega arith)
           go (no h) = omega arith
 
-      pub pass-names : (v * 12 + 12 ≤ length vs) × ((c : ℕ) → c < 8 → Names es (field vs 12 v c))
+      pub pass-names : (HasVertex vs v) × ((c : ℕ) → c < 8 → Names es (outEdge vs v c))
       pass-names = (pass-v, λ c h z. (let w = x .slots v pass-v .full c h z .0 in let r = x .room-e in omega arith))
 
       module _ {r : ℕ} (nexts : (k : ℕ) → Slots vs es k v → Nexts es k v t r) where
@@ -208,19 +205,19 @@ module _ {vs es out : List ℕ} {m : ℕ} (x : Orders vs es out m) where
           pos : 0 < r
           pos = omega arith
 
-          e : rest v t (edgesOf es m) ≡ edgeAt es (r - 1) ∷ rest v (field es 6 (r - 1) 1 + 1) (edgesOf es m)
+          e : rest v t (edgesOf es m) ≡ edgeAt es (r - 1) ∷ rest v (edgeTo es (r - 1) + 1) (edgesOf es m)
           e = rest-take es m v t r (x .distinct) nx pos
 
           pub pass-in : r - 1 < m
           pass-in = let w = nx .there pos .0 in let q = pos in omega arith
 
-          pub pass-room : (r - 1) * 6 + 6 ≤ length es
+          pub pass-room : HasEdge es (r - 1)
           pass-room = let w = pass-in in let q = x .room-e in omega arith
 
           pub pass-o : p < length out'
           pass-o = let q = x .room-o in let u = b .same in omega arith
 
-          pub pass-take : Passing es out (set out' p (r - 1)) m v (field es 6 (r - 1) 1 + 1) (p + 1)
+          pub pass-take : Passing es out (set out' p (r - 1)) m v (edgeTo es (r - 1) + 1) (p + 1)
           pass-take =
               record {
                 same = length-set out' p (r - 1) ∙ b .same;
@@ -230,7 +227,7 @@ module _ {vs es out : List ℕ} {m : ℕ} (x : Orders vs es out m) where
                       add-one p,
                       take-suc-set out' p (r - 1) pass-o,
                       map-append (edgeAt es) (take p out') ((r - 1) ∷ []),
-                      append-assoc (map (edgeAt es) (take p out')) (edgeAt es (r - 1) ∷ []) (rest v (field es 6 (r - 1) 1 + 1) (edgesOf es m)),
+                      append-assoc (map (edgeAt es) (take p out')) (edgeAt es (r - 1) ∷ []) (rest v (edgeTo es (r - 1) + 1) (edgesOf es m)),
                       ← e,
                     ) (b .is);
                 beyond = drop-set-lt m out' p (r - 1) l ∙ b .beyond;

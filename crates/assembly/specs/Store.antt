@@ -16,7 +16,7 @@ use Rattle.laws.specs.Lists.{find}
 use Rattle.definition.specs.Limits.{isBase}
 use Rattle.definition.specs.Threading.{Ends, Edge, Graph, leaving, entering, lastBase, follow}
 use Rattle.laws.specs.Rows.{rows}
-use Rattle.laws.specs.Records.{field}
+use Rattle.assembly.specs.Fields.{outEdge, kmerPlace, incomingCount, incomingEdge, edgeFrom, edgeTo, edgeSupport, edgeMark, edgeSequence, edgePlace}
 use Rattle.assembly.specs.Table.{table, Distinct, find-keep, find-table-none, find-table-some, count, length-keep}
 
 unfoldable pub code : ℕ → ℕ
@@ -30,14 +30,14 @@ code-lt b = omega arith
 abbrev pub edgeAt : List ℕ → ℕ → Edge
 edgeAt es i =
     record {
-      ends = record { from = field es 6 i 0; to = field es 6 i 1 };
-      support = field es 6 i 2;
-      isRef = not (eqb (field es 6 i 3) 0);
-      origin = record { sequence = field es 6 i 4; place = field es 6 i 5 };
+      ends = record { from = edgeFrom es i; to = edgeTo es i };
+      support = edgeSupport es i;
+      isRef = not (eqb (edgeMark es i) 0);
+      origin = record { sequence = edgeSequence es i; place = edgePlace es i };
     }
 
 abbrev pub kmerAt : ℕ → List ℕ → List ℕ → ℕ → List ℕ
-kmerAt k text vs v = take k (drop (field vs 12 v 8) text)
+kmerAt k text vs v = take k (drop (kmerPlace vs v) text)
 
 unfoldable pub edgesOf : List ℕ → ℕ → List Edge
 edgesOf es m = table (edgeAt es) m
@@ -54,17 +54,17 @@ lastOf k text vs n v = lastBase (kmersOf k text vs n) v
 
 -- ---- what holds of them
 pub record Good (k : ℕ) (text : List ℕ) (vs : List ℕ) (n : ℕ) (es : List ℕ) (m : ℕ) : Type 0 where
-  pub from-in : (i : ℕ) → i < m → field es 6 i 0 < n
-  pub to-in : (i : ℕ) → i < m → field es 6 i 1 < n
+  pub from-in : (i : ℕ) → i < m → edgeFrom es i < n
+  pub to-in : (i : ℕ) → i < m → edgeTo es i < n
   -- every edge stands in its source's slot, and a slot holds nothing else
-  pub slot : (i : ℕ) → i < m → field vs 12 (field es 6 i 0) (code (lastOf k text vs n (field es 6 i 1))) ≡ i + 1
-  pub full : (v c : ℕ) → v < n → c < 8 → 0 < field vs 12 v c → (field vs 12 v c ≤ m) × (field es 6 (field vs 12 v c - 1) 0 ≡ v) × (code (lastOf k text vs n (field es 6 (field vs 12 v c - 1) 1)) ≡ c)
+  pub slot : (i : ℕ) → i < m → outEdge vs (edgeFrom es i) (code (lastOf k text vs n (edgeTo es i))) ≡ i + 1
+  pub full : (v c : ℕ) → v < n → c < 8 → 0 < outEdge vs v c → (outEdge vs v c ≤ m) × (edgeFrom es (outEdge vs v c - 1) ≡ v) × (code (lastOf k text vs n (edgeTo es (outEdge vs v c - 1))) ≡ c)
   pub base : (v : ℕ) → v < n → isBase (lastOf k text vs n v) ≡ true
-  pub fits : (v : ℕ) → v < n → field vs 12 v 8 + k ≤ length text
-  pub ins : (v : ℕ) → v < n → field vs 12 v 9 ≡ count (λ d. eqb (d .to) v) (edgeAt es) m
-  pub into : (v : ℕ) → v < n → 0 < field vs 12 v 9 → (0 < field vs 12 v 10) × (field vs 12 v 10 ≤ m) × (field es 6 (field vs 12 v 10 - 1) 1 ≡ v)
+  pub fits : (v : ℕ) → v < n → kmerPlace vs v + k ≤ length text
+  pub ins : (v : ℕ) → v < n → incomingCount vs v ≡ count (λ d. eqb (d .to) v) (edgeAt es) m
+  pub into : (v : ℕ) → v < n → 0 < incomingCount vs v → (0 < incomingEdge vs v) × (incomingEdge vs v ≤ m) × (edgeTo es (incomingEdge vs v - 1) ≡ v)
   -- what is not used yet is zero
-  pub zeros : (v c : ℕ) → n ≤ v → c < 12 → field vs 12 v c ≡ 0
+  pub zeros : (v c : ℕ) → n ≤ v → c < 12 → outEdge vs v c ≡ 0
 
 -- ---- two bases of one code are one base
 or-else : {C : Type 0} (a b : Bool) → (a || b) ≡ true → (a ≡ true → C) → (b ≡ true → C) → C
@@ -93,9 +93,9 @@ module _ {k : ℕ} {text vs : List ℕ} {n : ℕ} {es : List ℕ} {m : ℕ} (g :
   good-distinct i j h k' e =
       let a = g .slot i h in
       let b = g .slot j k' in
-      let p : field es 6 i 0 ≡ field es 6 j 0 = ap (λ (d : Ends). d .from) e in
-      let q : field es 6 i 1 ≡ field es 6 j 1 = ap (λ (d : Ends). d .to) e in
-      let r : i + 1 ≡ j + 1 = sym a ∙ ap (λ (x : ℕ). field vs 12 x (code (lastOf k text vs n (field es 6 i 1)))) p ∙ ap (λ (x : ℕ). field vs 12 (field es 6 j 0) (code (lastOf k text vs n x))) q ∙ b in
+      let p : edgeFrom es i ≡ edgeFrom es j = ap (λ (d : Ends). d .from) e in
+      let q : edgeTo es i ≡ edgeTo es j = ap (λ (d : Ends). d .to) e in
+      let r : i + 1 ≡ j + 1 = sym a ∙ ap (λ (x : ℕ). outEdge vs x (code (lastOf k text vs n (edgeTo es i)))) p ∙ ap (λ (x : ℕ). outEdge vs (edgeFrom es j) (code (lastOf k text vs n x))) q ∙ b in
       omega arith
 
   -- the edges that leave v to a target that ends in b
@@ -113,35 +113,35 @@ module _ {k : ℕ} {text vs : List ℕ} {n : ℕ} {es : List ℕ} {m : ℕ} (g :
       go false e q = absurd (let y : _≡_ {A = ℕ} 0 1 = cc in omega arith)
 
   -- an edge that leaves v to a target that ends in b has its number in v's slot for b
-  in-slot : (v b i : ℕ) → i < m → to-base v b (edgeAt es i .ends) ≡ true → field vs 12 v (code b) ≡ i + 1
+  in-slot : (v b i : ℕ) → i < m → to-base v b (edgeAt es i .ends) ≡ true → outEdge vs v (code b) ≡ i + 1
   in-slot v b i h e =
       let w = is-to-base v b (edgeAt es i .ends) e in
-      sym (ap (λ (x : ℕ). field vs 12 x (code b)) (w .0)) ∙ sym (ap (λ (x : ℕ). field vs 12 (field es 6 i 0) (code x)) (w .1)) ∙ g .slot i h
+      sym (ap (λ (x : ℕ). outEdge vs x (code b)) (w .0)) ∙ sym (ap (λ (x : ℕ). outEdge vs (edgeFrom es i) (code x)) (w .1)) ∙ g .slot i h
 
   follow-as : (v b : ℕ) → follow (graphOf k text vs n es m) v b ≡ find (λ e. to-base v b (e .ends)) (table (edgeAt es) m)
   unfolding follow leaving graphOf edgesOf
   follow-as v b = find-keep (λ e. eqb (e .ends .from) v) (λ e. eqb (lastOf k text vs n (e .ends .to)) b) (table (edgeAt es) m)
 
-  pub follow-none : (v b : ℕ) → field vs 12 v (code b) ≡ 0 → follow (graphOf k text vs n es m) v b ≡ none
+  pub follow-none : (v b : ℕ) → outEdge vs v (code b) ≡ 0 → follow (graphOf k text vs n es m) v b ≡ none
   follow-none v b z = follow-as v b ∙ find-table-none (to-base v b) (edgeAt es) m (λ j h. no-j j h (to-base v b (edgeAt es j .ends)) refl)
     where
       no-j : (j : ℕ) → j < m → (t : Bool) → to-base v b (edgeAt es j .ends) ≡ t → t ≡ false
       no-j j h true e = absurd (let y = in-slot v b j h e in omega arith)
       no-j j h false e = refl
 
-  pub follow-some : (v b : ℕ) → v < n → isBase b ≡ true → 0 < field vs 12 v (code b)
-      → follow (graphOf k text vs n es m) v b ≡ some (edgeAt es (field vs 12 v (code b) - 1))
+  pub follow-some : (v b : ℕ) → v < n → isBase b ≡ true → 0 < outEdge vs v (code b)
+      → follow (graphOf k text vs n es m) v b ≡ some (edgeAt es (outEdge vs v (code b) - 1))
   follow-some v b h i z =
       let w = g .full v (code b) h (code-lt b) z in
-      let s = field vs 12 v (code b) - 1 in
+      let s = outEdge vs v (code b) - 1 in
       let l : s < m = (let y = w .0 in omega arith) in
-      let q = code-one (lastOf k text vs n (field es 6 s 1)) b (g .base (field es 6 s 1) (g .to-in s l)) i (w .2) in
+      let q = code-one (lastOf k text vs n (edgeTo es s)) b (g .base (edgeTo es s) (g .to-in s l)) i (w .2) in
       follow-as v b
       ∙ find-table-some (to-base v b) (edgeAt es) m s l (to-base-is v b (edgeAt es s .ends) (w .1) q)
       (λ j k' e. (let y = in-slot v b j k' e in omega arith))
 
   -- ---- predecessors
 
-  pub in-degree : (v : ℕ) → v < n → length (entering (edgesOf es m) v) ≡ field vs 12 v 9
+  pub in-degree : (v : ℕ) → v < n → length (entering (edgesOf es m) v) ≡ incomingCount vs v
   unfolding entering edgesOf
   in-degree v h = length-keep (λ d. eqb (d .to) v) (edgeAt es) m good-distinct ∙ sym (g .ins v h)

@@ -10,9 +10,10 @@ use native.Mathlib.Decide.{ℕ-discrete, decLt}
 use lib.Dec.{eqb}
 use lib.ListN.{length, length-set}
 use borrow.Author.Tests.{eqb-true}
-use Rattle.laws.specs.Records.{field, putField, field-same, field-other, row-other}
+use Rattle.laws.specs.Records.{putField, field-same, field-other, row-other}
 use Rattle.definition.specs.Limits.{isBase}
 use Rattle.definition.specs.Threading.{Ends, Edge, put}
+use Rattle.assembly.specs.Fields.{HasVertices, HasVertex, vertexField, outEdge, HasEdges, HasEdge, edgeFrom, edgeTo}
 use Rattle.assembly.specs.Table.{table-same, Distinct}
 use Rattle.assembly.specs.Store.{edgeAt, edgesOf, lastOf, code, Good, good-distinct}
 use Rattle.assembly.specs.Moves.{addedE, addedE-row, addedE-at, addedE-old, added-put, good-front}
@@ -22,7 +23,7 @@ use Rattle.assembly.specs.Sorted.{Orders}
 abbrev pub symbolic : ℕ → ℕ → ℕ → Edge
 symbolic sink n place = record { ends = record { from = sink; to = n }; support = 0; isRef = true; origin = record { sequence = 0; place = place } }
 
-module _ (es : List ℕ) (m sink n place : ℕ) (room : m * 6 + 6 ≤ length es) where
+module _ (es : List ℕ) (m sink n place : ℕ) (room : HasEdge es m) where
   abbrev es' : List ℕ
   es' = addedE es m (symbolic sink n place) 1
 
@@ -33,10 +34,10 @@ module _ (es : List ℕ) (m sink n place : ℕ) (room : m * 6 + 6 ≤ length es)
   unfolding edgesOf
   symbolic-front = table-same (edgeAt es) (edgeAt es') m (λ j h. addedE-old es m (symbolic sink n place) 1 j (omega arith))
 
-  pub symbolic-from : field (addedE es m (symbolic sink n place) 1) 6 m 0 ≡ sink
+  pub symbolic-from : edgeFrom (addedE es m (symbolic sink n place) 1) m ≡ sink
   symbolic-from = addedE-at es m (symbolic sink n place) 1 room 0 (omega arith)
 
-  pub symbolic-to : field (addedE es m (symbolic sink n place) 1) 6 m 1 ≡ n
+  pub symbolic-to : edgeTo (addedE es m (symbolic sink n place) 1) m ≡ n
   symbolic-to = addedE-at es m (symbolic sink n place) 1 room 1 (omega arith)
 
   pub symbolic-good : {k : ℕ} {text vs : List ℕ} → Good k text vs n es m → Good k text vs n (addedE es m (symbolic sink n place) 1) m
@@ -58,15 +59,15 @@ not-four b h e =
     (λ z. (let y = eqb-true b 71 z in omega arith))) (λ z. (let y = eqb-true b 84 z in omega arith))) (λ z. (let y = eqb-true b 78 z in omega arith))
 
 module _ {k : ℕ} {text vs : List ℕ} {n : ℕ} {es : List ℕ} {m : ℕ} (g : Good k text vs n es m) where
-  free : (v : ℕ) → v < n → field vs 12 v 4 ≡ 0
-  free v h = go (ℕ-discrete (field vs 12 v 4) 0)
+  free : (v : ℕ) → v < n → outEdge vs v 4 ≡ 0
+  free v h = go (ℕ-discrete (outEdge vs v 4) 0)
     where
-      go : Dec (field vs 12 v 4 ≡ 0) → field vs 12 v 4 ≡ 0
+      go : Dec (outEdge vs v 4 ≡ 0) → outEdge vs v 4 ≡ 0
       go (yes e) = e
       go (no e) =
           let w = g .full v 4 h (omega arith) (omega arith) in
-          let i : field vs 12 v 4 - 1 < m = (let y = w .0 in omega arith) in
-          absurd (not-four (lastOf k text vs n (field es 6 (field vs 12 v 4 - 1) 1)) (g .base (field es 6 (field vs 12 v 4 - 1) 1) (g .to-in (field vs 12 v 4 - 1) i)) (w .2))
+          let i : outEdge vs v 4 - 1 < m = (let y = w .0 in omega arith) in
+          absurd (not-four (lastOf k text vs n (edgeTo es (outEdge vs v 4 - 1))) (g .base (edgeTo es (outEdge vs v 4 - 1)) (g .to-in (outEdge vs v 4 - 1) i)) (w .2))
 
 -- the sink's slot 4 names edge m
 unfoldable pub linked : List ℕ → ℕ → ℕ → List ℕ
@@ -77,58 +78,58 @@ unfolding linked
 length-linked vs sink m = length-set vs (sink * 12 + 4) (m + 1)
 
 -- the slots hold the edges with the symbolic one, row m
-module _ {k : ℕ} {text vs : List ℕ} {n : ℕ} {es : List ℕ} {m : ℕ} (g : Good k text vs n es m) (sink : ℕ) (hs : sink < n) (hf : field es 6 m 0 ≡ sink) (ht : field es 6 m 1 ≡ n)
-    (room : n * 12 ≤ length vs) where
-  at : field (linked vs sink m) 12 sink 4 ≡ m + 1
+module _ {k : ℕ} {text vs : List ℕ} {n : ℕ} {es : List ℕ} {m : ℕ} (g : Good k text vs n es m) (sink : ℕ) (hs : sink < n) (hf : edgeFrom es m ≡ sink) (ht : edgeTo es m ≡ n)
+    (room : HasVertices vs n) where
+  at : outEdge (linked vs sink m) sink 4 ≡ m + 1
   unfolding linked
   at = field-same vs 12 sink 4 (m + 1) (omega arith)
 
-  other-c : (v c : ℕ) → c < 8 → c ≢ 4 → field (linked vs sink m) 12 v c ≡ field vs 12 v c
+  other-c : (v c : ℕ) → c < 8 → c ≢ 4 → outEdge (linked vs sink m) v c ≡ outEdge vs v c
   unfolding linked
   other-c v c h e = field-other vs 12 sink 4 (m + 1) v c (omega arith) (omega arith) e
 
-  other-v : (v c : ℕ) → c < 8 → v ≢ sink → field (linked vs sink m) 12 v c ≡ field vs 12 v c
+  other-v : (v c : ℕ) → c < 8 → v ≢ sink → outEdge (linked vs sink m) v c ≡ outEdge vs v c
   unfolding linked
   other-v v c h e = row-other vs 12 sink 4 (m + 1) v c (omega arith) (omega arith) e
 
   pub linked-distinct : Distinct (edgeAt es) (m + 1)
   linked-distinct i j h l e = go (ℕ-discrete i m) (ℕ-discrete j m)
     where
-      to : field es 6 i 1 ≡ field es 6 j 1
+      to : edgeTo es i ≡ edgeTo es j
       to = ap (λ (d : Ends). d .to) e
 
       go : Dec (i ≡ m) → Dec (j ≡ m) → i ≡ j
       go (yes p) (yes q) = omega arith
-      go (yes p) (no q) = absurd (let z = g .to-in j (omega arith) in let y : field es 6 i 1 ≡ n = rw p ht in let u = to in omega arith)
-      go (no p) (yes q) = absurd (let z = g .to-in i (omega arith) in let y : field es 6 j 1 ≡ n = rw q ht in let u = to in omega arith)
+      go (yes p) (no q) = absurd (let z = g .to-in j (omega arith) in let y : edgeTo es i ≡ n = rw p ht in let u = to in omega arith)
+      go (no p) (yes q) = absurd (let z = g .to-in i (omega arith) in let y : edgeTo es j ≡ n = rw q ht in let u = to in omega arith)
       go (no p) (no q) = good-distinct g i j (omega arith) (omega arith) e
 
   Holds : ℕ → ℕ → Type 0
-  Holds v s = (s ≤ m + 1) × (field es 6 (s - 1) 0 ≡ v)
+  Holds v s = (s ≤ m + 1) × (edgeFrom es (s - 1) ≡ v)
 
   -- what a slot of v held, it holds
   old-slots : (v : ℕ) → v < n → Slots (linked vs sink m) es (m + 1) v
   unfolding Holds
   old-slots v hv = record { full = λ c h z. full c h z (ℕ-discrete c 4) (ℕ-discrete v sink); all = λ i h e. all i e (ℕ-discrete i m) h }
     where
-      was : (c : ℕ) → c < 8 → 0 < field vs 12 v c → Holds v (field vs 12 v c)
+      was : (c : ℕ) → c < 8 → 0 < outEdge vs v c → Holds v (outEdge vs v c)
       was c h z = let w = slots-of g hv .full c h z in ((let y = w .0 in omega arith), w .1)
 
-      full : (c : ℕ) → c < 8 → 0 < field (linked vs sink m) 12 v c → Dec (c ≡ 4) → Dec (v ≡ sink) → Holds v (field (linked vs sink m) 12 v c)
+      full : (c : ℕ) → c < 8 → 0 < outEdge (linked vs sink m) v c → Dec (c ≡ 4) → Dec (v ≡ sink) → Holds v (outEdge (linked vs sink m) v c)
       full c h z (yes p) (yes q) =
           let y : m + 1 - 1 ≡ m = omega arith in
-          let f : field (linked vs sink m) 12 v c ≡ m + 1 = rw (p, q) at in
+          let f : outEdge (linked vs sink m) v c ≡ m + 1 = rw (p, q) at in
           rw f (omega arith, rw y (hf ∙ sym q))
       full c h z (yes p) (no q) = rw (other-v v c h q) (was c h (rw (other-v v c h q) at z))
       full c h z (no p) q = rw (other-c v c h p) (was c h (rw (other-c v c h p) at z))
 
-      all : (i : ℕ) → field es 6 i 0 ≡ v → Dec (i ≡ m) → i < m + 1 → (c : ℕ) × (c < 8) × (field (linked vs sink m) 12 v c ≡ i + 1)
+      all : (i : ℕ) → edgeFrom es i ≡ v → Dec (i ≡ m) → i < m + 1 → (c : ℕ) × (c < 8) × (outEdge (linked vs sink m) v c ≡ i + 1)
       all i e (yes p) h =
           let q : v ≡ sink = sym e ∙ (rw p hf) in
           (4, omega arith, rw (q, p) at)
       all i e (no p) h =
           let w = slots-of g hv .all i (omega arith) e in
-          let f : w .0 ≢ 4 = (λ z. (let y = w .2 in let u : field vs 12 v (w .0) ≡ 0 = rw z (free g v hv) in omega arith)) in
+          let f : w .0 ≢ 4 = (λ z. (let y = w .2 in let u : vertexField vs v (w .0) ≡ 0 = rw z (free g v hv) in omega arith)) in
           (w .0, w .1, other-c v (w .0) (w .1) f ∙ w .2)
 
   -- a vertex that is not used has no out-edge
@@ -139,8 +140,8 @@ module _ {k : ℕ} {text vs : List ℕ} {n : ℕ} {es : List ℕ} {m : ℕ} (g :
         all = λ i h e. absurd (from i h e (ℕ-discrete i m));
       }
     where
-      from : (i : ℕ) → i < m + 1 → field es 6 i 0 ≡ v → Dec (i ≡ m) → ⊥
-      from i h e (yes p) = let y : field es 6 i 0 ≡ sink = rw p hf in omega arith
+      from : (i : ℕ) → i < m + 1 → edgeFrom es i ≡ v → Dec (i ≡ m) → ⊥
+      from i h e (yes p) = let y : edgeFrom es i ≡ sink = rw p hf in omega arith
       from i h e (no p) = let y = g .from-in i (omega arith) in omega arith
 
   pub linked-slots : (v : ℕ) → Slots (linked vs sink m) es (m + 1) v
@@ -151,7 +152,7 @@ module _ {k : ℕ} {text vs : List ℕ} {n : ℕ} {es : List ℕ} {m : ℕ} (g :
       go (no l) = no-slots v (omega arith)
 
   -- so all edges, the symbolic one too, can be put in the definition's order
-  pub linked-orders : (out : List ℕ) → (m + 1) * 6 ≤ length es → m + 1 ≤ length out → m + 1 ≤ 8192 → Orders (linked vs sink m) es out (m + 1)
+  pub linked-orders : (out : List ℕ) → HasEdges es (m + 1) → m + 1 ≤ length out → m + 1 ≤ 8192 → Orders (linked vs sink m) es out (m + 1)
   linked-orders out re ro f =
       record {
         distinct = linked-distinct;
@@ -162,6 +163,6 @@ module _ {k : ℕ} {text vs : List ℕ} {n : ℕ} {es : List ℕ} {m : ℕ} (g :
         few-e = f;
       }
     where
-      from : (i : ℕ) → i < m + 1 → Dec (i ≡ m) → field es 6 i 0 * 12 + 12 ≤ length vs
-      from i h (yes p) = let y : field es 6 i 0 ≡ sink = rw p hf in omega arith
+      from : (i : ℕ) → i < m + 1 → Dec (i ≡ m) → HasVertex vs (edgeFrom es i)
+      from i h (yes p) = let y : edgeFrom es i ≡ sink = rw p hf in omega arith
       from i h (no p) = let y = g .from-in i (omega arith) in omega arith

@@ -11,6 +11,7 @@ use native.Mathlib.Decide.{ℕ-discrete}
 use native.Mathlib.Omega.{arith}
 use lib.ListN.{length}
 use Rattle.laws.specs.Lists.{keep, find, sole}
+use Rattle.laws.specs.ListLaws.{length-nil}
 use Rattle.definition.specs.Threading.{Ends, Edge, merge, put}
 use Rattle.assembly.specs.Puts.{put-same, put-comm, find-miss, find-hit, keep-miss, keep-first, keep-more, Absent, absent-put, length-put}
 
@@ -83,10 +84,6 @@ sole-not : (l : List Edge) → length l ≢ 1 → sole l ≡ none
 sole-not [] h = refl
 sole-not (x ∷ []) h = absurd (h refl)
 sole-not (x ∷ y ∷ l) h = refl
-
-length-nil : (l : List Edge) → length l ≡ 0 → l ≡ []
-length-nil [] h = refl
-length-nil (x ∷ l) h = absurd (omega arith)
 
 not-both : (b : Bool) → b ≡ true → b ≡ false → ⊥
 not-both b h k = let z : true ≡ false = sym h ∙ k in let y : _≡_ {A = ℕ} 0 1 = cc in omega arith

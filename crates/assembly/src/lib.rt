@@ -10,8 +10,8 @@ ghost use lib.Dec.{ltb};
 ghost use lib.ListN.{length, getD, take};
 ghost use lib.Seq.{paste};
 ghost use Rattle.laws.specs.Numbers.{eqList};
-ghost use Rattle.laws.specs.Records.{field};
 ghost use Rattle.definition.specs.Threading.{numberOf};
+ghost use Rattle.assembly.specs.Fields.{HasVertex, outEdge, kmerPlace, incomingCount, incomingEdge, HasEdge, edgeFrom, edgeTo, edgeSupport, edgeSequence, edgePlace};
 ghost use Rattle.assembly.specs.Store.{edgeAt, kmersOf};
 ghost use Rattle.assembly.specs.Kmers.{part, born};
 ghost use Rattle.assembly.specs.Index.{bucketOf, sizeOf, Finds, entered};
@@ -22,7 +22,10 @@ ghost use Rattle.assembly.specs.Degrees.{one, filled};
 ghost use Rattle.assembly.specs.Paths.{basesOf, Spells};
 ghost use Rattle.assembly.specs.Sorted.{Orders, Ordered};
 
-const VERTEX: usize = 12;
+// A vertex's record; the evidence walk writes the slot of its tree's root.
+pub const VERTEX: usize = 12;
+
+pub const ROOT: usize = 11;
 
 const SYMBOLIC: usize = 4;
 
@@ -32,19 +35,21 @@ const INS: usize = 9;
 
 const INTO: usize = 10;
 
-const EDGE: usize = 6;
+// An edge's record, and where its ends stand.
+pub const EDGE: usize = 6;
 
-const FROM: usize = 0;
+pub const FROM: usize = 0;
 
-const TO: usize = 1;
+pub const TO: usize = 1;
 
 const SUPPORT: usize = 2;
 
 const MARK: usize = 3;
 
-const SEQUENCE: usize = 4;
+// Where an edge's origin stands.
+pub const SEQUENCE: usize = 4;
 
-const PLACE: usize = 5;
+pub const PLACE: usize = 5;
 
 // ---- reading a vertex
 
@@ -56,32 +61,32 @@ pub fn wide(x: u32) -> usize
 
 // The out-edge of v whose target's last base has the code c: its number plus 1, or 0.
 pub fn out_edge(vertices: &[u32], v: usize, c: usize) -> usize
-    requires { ⌜ (v * 12 + 12 ≤ length (now vertices)) × (c < 8) ⌝ }
-    ensures { λ r. ⌜ r ≡ field (now (vertices .entry)) 12 v c ⌝ }
+    requires { ⌜ (HasVertex (now vertices) v) × (c < 8) ⌝ }
+    ensures { λ r. ⌜ r ≡ outEdge (now (vertices .entry)) v c ⌝ }
 {
     wide(vertices[v * VERTEX + c])
 }
 
 // The place of v's kmer in the text.
 pub fn kmer_place(vertices: &[u32], v: usize) -> usize
-    requires { ⌜ v * 12 + 12 ≤ length (now vertices) ⌝ }
-    ensures { λ r. ⌜ r ≡ field (now (vertices .entry)) 12 v 8 ⌝ }
+    requires { ⌜ HasVertex (now vertices) v ⌝ }
+    ensures { λ r. ⌜ r ≡ kmerPlace (now (vertices .entry)) v ⌝ }
 {
     wide(vertices[v * VERTEX + AT])
 }
 
 // How many edges enter v.
 pub fn incoming_count(vertices: &[u32], v: usize) -> usize
-    requires { ⌜ v * 12 + 12 ≤ length (now vertices) ⌝ }
-    ensures { λ r. ⌜ r ≡ field (now (vertices .entry)) 12 v 9 ⌝ }
+    requires { ⌜ HasVertex (now vertices) v ⌝ }
+    ensures { λ r. ⌜ r ≡ incomingCount (now (vertices .entry)) v ⌝ }
 {
     wide(vertices[v * VERTEX + INS])
 }
 
 // An edge that enters v: its number plus 1, or 0.
 pub fn incoming_edge(vertices: &[u32], v: usize) -> usize
-    requires { ⌜ v * 12 + 12 ≤ length (now vertices) ⌝ }
-    ensures { λ r. ⌜ r ≡ field (now (vertices .entry)) 12 v 10 ⌝ }
+    requires { ⌜ HasVertex (now vertices) v ⌝ }
+    ensures { λ r. ⌜ r ≡ incomingEdge (now (vertices .entry)) v ⌝ }
 {
     wide(vertices[v * VERTEX + INTO])
 }
@@ -98,7 +103,7 @@ fn there(slot: usize) -> usize
 
 // How many edges leave v: the symbolic one too, once it is linked.
 pub fn outgoing_count(vertices: &[u32], v: usize) -> usize
-    requires { ⌜ v * 12 + 12 ≤ length (now vertices) ⌝ }
+    requires { ⌜ HasVertex (now vertices) v ⌝ }
     ensures { λ r. ⌜ r ≡ filled (now (vertices .entry)) v 8 ⌝ }
 {
     let mut n: usize = 0;
@@ -113,43 +118,43 @@ pub fn outgoing_count(vertices: &[u32], v: usize) -> usize
 // ---- reading an edge
 
 pub fn edge_from(edges: &[u32], i: usize) -> usize
-    requires { ⌜ i * 6 + 6 ≤ length (now edges) ⌝ }
-    ensures { λ r. ⌜ r ≡ field (now (edges .entry)) 6 i 0 ⌝ }
+    requires { ⌜ HasEdge (now edges) i ⌝ }
+    ensures { λ r. ⌜ r ≡ edgeFrom (now (edges .entry)) i ⌝ }
 {
     wide(edges[i * EDGE + FROM])
 }
 
 pub fn edge_to(edges: &[u32], i: usize) -> usize
-    requires { ⌜ i * 6 + 6 ≤ length (now edges) ⌝ }
-    ensures { λ r. ⌜ r ≡ field (now (edges .entry)) 6 i 1 ⌝ }
+    requires { ⌜ HasEdge (now edges) i ⌝ }
+    ensures { λ r. ⌜ r ≡ edgeTo (now (edges .entry)) i ⌝ }
 {
     wide(edges[i * EDGE + TO])
 }
 
 pub fn edge_support(edges: &[u32], i: usize) -> usize
-    requires { ⌜ i * 6 + 6 ≤ length (now edges) ⌝ }
-    ensures { λ r. ⌜ r ≡ field (now (edges .entry)) 6 i 2 ⌝ }
+    requires { ⌜ HasEdge (now edges) i ⌝ }
+    ensures { λ r. ⌜ r ≡ edgeSupport (now (edges .entry)) i ⌝ }
 {
     wide(edges[i * EDGE + SUPPORT])
 }
 
 pub fn edge_is_ref(edges: &[u32], i: usize) -> bool
-    requires { ⌜ i * 6 + 6 ≤ length (now edges) ⌝ }
+    requires { ⌜ HasEdge (now edges) i ⌝ }
     ensures { λ r. ⌜ r ≡ edgeAt (now (edges .entry)) i .isRef ⌝ }
 {
     edges[i * EDGE + MARK] != 0
 }
 
 pub fn edge_sequence(edges: &[u32], i: usize) -> usize
-    requires { ⌜ i * 6 + 6 ≤ length (now edges) ⌝ }
-    ensures { λ r. ⌜ r ≡ field (now (edges .entry)) 6 i 4 ⌝ }
+    requires { ⌜ HasEdge (now edges) i ⌝ }
+    ensures { λ r. ⌜ r ≡ edgeSequence (now (edges .entry)) i ⌝ }
 {
     wide(edges[i * EDGE + SEQUENCE])
 }
 
 pub fn edge_place(edges: &[u32], i: usize) -> usize
-    requires { ⌜ i * 6 + 6 ≤ length (now edges) ⌝ }
-    ensures { λ r. ⌜ r ≡ field (now (edges .entry)) 6 i 5 ⌝ }
+    requires { ⌜ HasEdge (now edges) i ⌝ }
+    ensures { λ r. ⌜ r ≡ edgePlace (now (edges .entry)) i ⌝ }
 {
     wide(edges[i * EDGE + PLACE])
 }
@@ -254,7 +259,7 @@ pub fn enter_kmer(index: &mut [u32], n: usize, h: usize)
 
 // Vertex n, with the kmer at place q of the text.
 pub fn create_vertex(vertices: &mut [u32], n: usize, q: usize)
-    requires { ⌜ (n * 12 + 12 ≤ length (now vertices)) × (q < 2 ^ 32) ⌝ }
+    requires { ⌜ (HasVertex (now vertices) n) × (q < 2 ^ 32) ⌝ }
     ensures { λ _. ⌜ now (vertices .exit) ≡ born (now (vertices .entry)) n q ⌝ }
 {
     vertices[n * VERTEX + AT] = q as u32;
@@ -262,7 +267,7 @@ pub fn create_vertex(vertices: &mut [u32], n: usize, q: usize)
 
 // One more support for edge i, and the mark where there is one.
 pub fn inc_edge(edges: &mut [u32], i: usize, mark: u32)
-    requires { ⌜ (i * 6 + 6 ≤ length (now edges)) × (field (now edges) 6 i 2 + 1 < 2 ^ 32) ⌝ }
+    requires { ⌜ (HasEdge (now edges) i) × (edgeSupport (now edges) i + 1 < 2 ^ 32) ⌝ }
     ensures { λ _. ⌜ now (edges .exit) ≡ gained (now (edges .entry)) i mark ⌝ }
 {
     edges[i * EDGE + SUPPORT] += 1;
@@ -284,7 +289,7 @@ pub fn add_edge(
     sequence: u32,
     place: u32,
 )
-    requires { ⌜ (from * 12 + 12 ≤ length (now vertices)) × (to * 12 + 12 ≤ length (now vertices)) × (m * 6 + 6 ≤ length (now edges)) × (c < 8) × (from < 8192) × (to < 8192) × (m < 8192) × (field (now vertices) 12 to 9 + 1 < 2 ^ 32) ⌝ }
+    requires { ⌜ (HasVertex (now vertices) from) × (HasVertex (now vertices) to) × (HasEdge (now edges) m) × (c < 8) × (from < 8192) × (to < 8192) × (m < 8192) × (incomingCount (now vertices) to + 1 < 2 ^ 32) ⌝ }
     ensures { λ _. ⌜ (now (vertices .exit) ≡ addedV (now (vertices .entry)) from c to m) × (now (edges .exit) ≡ addedE (now (edges .entry)) m (newEdge mark sequence place from to) mark) ⌝ }
 {
     let ins = vertices[to * VERTEX + INS];
@@ -302,7 +307,7 @@ pub fn add_edge(
 
 // Row m becomes the symbolic edge, from the sink to vertex n: of support 0, marked, with the place of the reference's last kmer as its origin.
 pub fn add_symbolic_edge(edges: &mut [u32], m: usize, sink: usize, n: usize, place: usize)
-    requires { ⌜ (m * 6 + 6 ≤ length (now edges)) × (sink < 2 ^ 32) × (n < 2 ^ 32) × (place < 2 ^ 32) ⌝ }
+    requires { ⌜ (HasEdge (now edges) m) × (sink < 2 ^ 32) × (n < 2 ^ 32) × (place < 2 ^ 32) ⌝ }
     ensures { λ _. ⌜ now (edges .exit) ≡ addedE (now (edges .entry)) m (symbolic sink n place) 1 ⌝ }
 {
     edges[m * EDGE + FROM] = sink as u32;
@@ -315,7 +320,7 @@ pub fn add_symbolic_edge(edges: &mut [u32], m: usize, sink: usize, n: usize, pla
 
 // The sink's slot 4, which no base has, names the symbolic edge: from here on it is among the out-edges.
 pub fn link_symbolic_edge(vertices: &mut [u32], sink: usize, m: usize)
-    requires { ⌜ (sink * 12 + 12 ≤ length (now vertices)) × (m < 8192) ⌝ }
+    requires { ⌜ (HasVertex (now vertices) sink) × (m < 8192) ⌝ }
     ensures { λ _. ⌜ now (vertices .exit) ≡ linked (now (vertices .entry)) sink m ⌝ }
 {
     vertices[sink * VERTEX + SYMBOLIC] = (m + 1) as u32;
@@ -347,7 +352,7 @@ fn lesser(edges: &[u32], best: usize, slot: usize, t: usize) -> usize
 
 // The out-edge of v (its number plus 1) of least target from t on, or 0.
 pub fn next_out(vertices: &[u32], edges: &[u32], v: usize, t: usize) -> usize
-    requires { ⌜ (v * 12 + 12 ≤ length (now vertices)) × ((c : ℕ) → c < 8 → Names (now edges) (field (now vertices) 12 v c)) ⌝ }
+    requires { ⌜ (HasVertex (now vertices) v) × ((c : ℕ) → c < 8 → Names (now edges) (outEdge (now vertices) v c)) ⌝ }
     ensures { λ r. ⌜ ((m : ℕ) → Slots (now (vertices .entry)) (now (edges .entry)) m v → Nexts (now (edges .entry)) m v t r) ⌝ }
 {
     let mut best: usize = 0;

@@ -2,7 +2,7 @@
 use mathlib.Core.Path.{_≡_, refl, sym, ap, _∙_}
 use Prim.Native.Nat.{ℕ, _<_, _≤_}
 use native.Mathlib.Omega.{arith}
-use mathlib.Core.Bool.{Bool, true, false, _&&_}
+use mathlib.Core.Bool.{Bool, true, false, _&&_, and-false}
 use mathlib.Core.List.{List, [], _∷_}
 use lib.Dec.{leb}
 use borrow.Author.Tests.{le-leb, lt-leb}
@@ -10,10 +10,6 @@ use Rattle.definition.specs.Refusal.{Result, ok, refused, Rule, firstBroken}
 use Rattle.definition.specs.Limits.{kFits}
 use Rattle.bio_ids.specs.declared.KmerSize.{KmerSize}
 use Rattle.bio_ids.specs.declared.TriedKmerSize.{TriedKmerSize}
-
-and-none : (b : Bool) → (b && false) ≡ false
-and-none true = refl
-and-none false = refl
 
 -- the size or the number that an answer of `try_new` holds
 abbrev pub sizeOf : TriedKmerSize → Result ℕ
@@ -52,7 +48,7 @@ holds k h = rw (h, firstBroken)
 
 pub k-above : (k : ℕ) → 128 < k → 1 ≡ firstBroken (kRules k)
 unfolding kFits
-k-above k h = broken k (rw (lt-leb k 128 h, and-none (leb 2 k)))
+k-above k h = broken k (rw (lt-leb k 128 h, and-false (leb 2 k)))
 
 -- below the upper limit k fits where it is a kmer size
 module _ (k : ℕ) (tried : TriedKmerSize) (e : sizeOf tried ≡ atLeastTwo k) where

@@ -27,7 +27,7 @@ pub record Checked (i : Input) : Type 0 where
   pub column-fits : columnFits (i .column) ≡ true
 
 -- a first rule that has a number of 1 or more holds where none is broken
-holds-first : (n : ℕ) (b : Bool) (rs : List Rule) → firstBroken (record { number = suc n; holds = b } ∷ rs) ≡ 0 → (b ≡ true) × (firstBroken rs ≡ 0)
+pub holds-first : (n : ℕ) (b : Bool) (rs : List Rule) → firstBroken (record { number = suc n; holds = b } ∷ rs) ≡ 0 → (b ≡ true) × (firstBroken rs ≡ 0)
 unfolding firstBroken
 holds-first n true rs e = (refl, e)
 holds-first n false rs e = absurd (omega arith)

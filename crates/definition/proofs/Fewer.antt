@@ -1,11 +1,11 @@
 -- Where a search for more paths is not refused, one for fewer is not either: it makes the same turns and stops earlier.
 use mathlib.Core.Path.{_≡_, refl, sym, _∙_}
-use Prim.Native.Nat.{ℕ, zero, suc, _≤_, _<_}
+use Prim.Native.Nat.{ℕ, zero, suc, _≤_}
 use native.Mathlib.Omega.{arith}
 use mathlib.Core.Bool.{Bool, true, false}
 use lib.Dec.{leb, eqb}
 use lib.ListN.{length}
-use borrow.Author.Tests.{leb-false, lt-leb, eqb-true, eq-eqb}
+use borrow.Author.Tests.{eqb-true, eq-eqb}
 use Rattle.laws.specs.ListLaws.{clash}
 use Rattle.definition.specs.Refusal.{Result, ok, refused}
 use Rattle.definition.specs.Score.{Scoring}
@@ -13,7 +13,7 @@ use Rattle.definition.specs.Limits.{Input}
 use Rattle.definition.specs.Search.{SearchInput, State, Turn, more, ended, failed, full, turn, run, search}
 use Rattle.definition.specs.Building.{Built}
 use Rattle.definition.specs.Listing.{Answer, refusal, listed, listOf, searchInput, answerOf, afterBuild}
-use Rattle.definition.proofs.Runs.{turn-asked, turn-stop, run-ended, run-failed, run-full}
+use Rattle.definition.proofs.Runs.{turn-fewer, turn-stop, run-ended, run-failed, run-full}
 use Rattle.definition.proofs.Found.{withAsked, same-input}
 
 -- an answer that is a list
@@ -39,11 +39,8 @@ module _ {S : Type 0} (𝓢 : Scoring S) (f : SearchInput) (limit n m : ℕ) (le
       go true e ih = rw (turn-stop 𝓢 f n limit s e, run-ended 𝓢 f n limit fuel s) tt
       go false e ih = after (turn 𝓢 f n limit s) refl
         where
-          lt : length (s .closed) < n
-          lt = leb-false n (length (s .closed)) e
-
           same : turn 𝓢 f m limit s ≡ turn 𝓢 f n limit s
-          same = turn-asked 𝓢 f m n limit s (lt-leb m (length (s .closed)) (omega (arith, lt))) e
+          same = turn-fewer 𝓢 f n m limit s le e
 
           after : (u : Turn S) → turn 𝓢 f n limit s ≡ u → Sound (run 𝓢 f n limit fuel u)
           after (more x) t = ih x (rw (same ∙ t) at h)

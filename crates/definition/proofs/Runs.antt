@@ -1,11 +1,13 @@
 -- Laws of the waiting list and of the iteration `run`.
 use mathlib.Core.Path.{_≡_, refl, sym}
-use Prim.Native.Nat.{ℕ, zero, suc, _+_}
+use Prim.Native.Nat.{ℕ, zero, suc, _+_, _≤_}
+use native.Mathlib.Omega.{arith}
 use native.Mathlib.Nat.{zero-add, suc-add}
 use mathlib.Core.Bool.{true, false}
 use mathlib.Core.List.{List}
 use lib.Dec.{leb}
 use lib.ListN.{length}
+use borrow.Author.Tests.{leb-false, lt-leb}
 use Rattle.laws.specs.ListLaws.{All}
 use Rattle.laws.specs.Insertion.{length-insert, all-insert}
 use Rattle.definition.specs.Score.{Scoring}
@@ -21,10 +23,15 @@ module _ {S : Type 0} where
   all-wait 𝓢 p h a = all-insert (ahead 𝓢) p h a
 
   -- While fewer paths have closed than either run asks for, both make the same turn.
-  pub turn-asked : (𝓢 : Scoring S) (f : SearchInput) (a b limit : ℕ) (s : State S) → leb a (length (s .closed)) ≡ false → leb b (length (s .closed)) ≡ false
+  turn-asked : (𝓢 : Scoring S) (f : SearchInput) (a b limit : ℕ) (s : State S) → leb a (length (s .closed)) ≡ false → leb b (length (s .closed)) ≡ false
       → turn 𝓢 f a limit s ≡ turn 𝓢 f b limit s
   unfolding turn
   turn-asked 𝓢 f a b limit s ha hb = rw (ha, hb, turn)
+
+  pub turn-fewer : (𝓢 : Scoring S) (f : SearchInput) (n m limit : ℕ) (s : State S) → n ≤ m → leb n (length (s .closed)) ≡ false → turn 𝓢 f m limit s ≡ turn 𝓢 f n limit s
+  turn-fewer 𝓢 f n m limit s le e =
+      let lt = leb-false n (length (s .closed)) e in
+      turn-asked 𝓢 f m n limit s (lt-leb m (length (s .closed)) (omega arith)) e
 
   -- as many paths as asked have closed
   pub turn-stop : (𝓢 : Scoring S) (f : SearchInput) (a limit : ℕ) (s : State S) → leb a (length (s .closed)) ≡ true → turn 𝓢 f a limit s ≡ ended s

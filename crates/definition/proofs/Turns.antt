@@ -14,7 +14,7 @@ use Rattle.laws.specs.ListLaws.{All, nil, cons, all-head, all-tail, all-append,
 use Rattle.definition.specs.Score.{Scoring}
 use Rattle.definition.specs.Threading.{Ends, Edge, supportOf, leaving}
 use Rattle.definition.specs.Search.{SearchInput, Path, Closed, State, Made, atEnd, broken, made, Turn, more, ended, failed, full, wait, push, pushAll, advance, pushMade, turn, run, Queued, among, endsOf, pivotalOf, pivotalFrom, pivotalEdges, firstState, search}
-use Rattle.definition.proofs.Runs.{length-wait, all-wait, turn-asked, turn-stop, run-ended, run-failed, run-full, run-add}
+use Rattle.definition.proofs.Runs.{length-wait, all-wait, turn-fewer, turn-stop, run-ended, run-failed, run-full, run-add}
 use Rattle.definition.proofs.Order.{Keeps}
 use Rattle.definition.proofs.Walks.{Has, leaving-on, Good, GoodState, Numbered, advance-made}
 
@@ -235,7 +235,7 @@ module _ {S : Type 0} {𝓢 : Scoring S} {Fine : S → Type 0} (K : Keeps 𝓢 F
           lt = leb-false n (length (s .closed)) e
 
           same : turn 𝓢 f m limit s ≡ turn 𝓢 f n limit s
-          same = turn-asked 𝓢 f m n limit s (lt-leb m (length (s .closed)) (omega (arith, lt))) e
+          same = turn-fewer 𝓢 f n m limit s le e
 
           after : (u : Turn S) → turn 𝓢 f n limit s ≡ u → Goal
           after (more x) t =

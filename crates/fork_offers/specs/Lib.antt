@@ -3,6 +3,7 @@ pub mod Stops
 pub mod Walks
 pub mod Real
 pub mod Best
+pub mod Fields
 pub mod Rows
 pub mod Trees
 pub mod Support

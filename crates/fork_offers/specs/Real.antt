@@ -1,17 +1,16 @@
 -- The out-edges of a fork in the stores, and whether a node's edge is one of them.
 use mathlib.Core.Path.{_≡_, refl, sym, ap, _∙_}
-use Prim.Native.Nat.{ℕ, _+_, _-_, _*_, _^_, _<_, _≤_}
-use mathlib.Core.Bool.{Bool, true, false, not, _&&_}
+use Prim.Native.Nat.{ℕ, _+_, _-_, _^_, _<_, _≤_}
+use mathlib.Core.Bool.{Bool, true, false, not, _&&_, and-true, and-false}
 use mathlib.Core.List.{List, [], _∷_, map}
 use native.Mathlib.Omega.{arith}
 use lib.Dec.{leb, eqb}
-use lib.ListN.{length}
 use borrow.Author.Tests.{eq-eqb, ne-eqb, le-leb, lt-leb}
 use Rattle.laws.specs.Lists.{keep}
 use Rattle.laws.specs.ListLaws.{clash}
-use Rattle.laws.specs.Records.{field}
 use Rattle.definition.specs.Threading.{Ends, Edge, eqEnds, leaving}
 use Rattle.definition.specs.Search.{among}
+use Rattle.assembly.specs.Fields.{HasVertex, outEdge, HasEdges, HasEdge, edgeFrom, edgeTo}
 use Rattle.assembly.specs.Store.{edgeAt, edgesOf}
 use Rattle.assembly.specs.Table.{Distinct}
 use Rattle.assembly.specs.Outs.{Names, Slots, Nexts, outFrom, nexts-none, nexts-some, slots-names}
@@ -33,11 +32,11 @@ outs-is es m v = refl
 pub record Fork (vs es : List ℕ) (m v : ℕ) : Type 0 where
   pub slots : Slots vs es m v
   pub distinct : Distinct (edgeAt es) m
-  pub room-v : v * 12 + 12 ≤ length vs
-  pub room-e : m * 6 ≤ length es
+  pub room-v : HasVertex vs v
+  pub room-e : HasEdges es m
   pub few : m < 2 ^ 32
 
-pub fork-names : {vs es : List ℕ} {m v : ℕ} → Fork vs es m v → (c : ℕ) → c < 8 → Names es (field vs 12 v c)
+pub fork-names : {vs es : List ℕ} {m v : ℕ} → Fork vs es m v → (c : ℕ) → c < 8 → Names es (outEdge vs v c)
 fork-names f = slots-names (f .slots) (f .room-e)
 
 -- ---- an edge among those that pass a test
@@ -81,7 +80,7 @@ among-next d e es h = rw (eqEnds-ne d (e .ends) h)
 
 -- by the answer, 0 or the number plus 1 of v's out-edge to `to`
 pub record OutTo (es : List ℕ) (m v to r : ℕ) : Type 0 where
-  pub there : (r ≡ 0 → ⊥) → (r ≤ m) × (field es 6 (r - 1) 0 ≡ v) × (field es 6 (r - 1) 1 ≡ to)
+  pub there : (r ≡ 0 → ⊥) → (r ≤ m) × (edgeFrom es (r - 1) ≡ v) × (edgeTo es (r - 1) ≡ to)
   pub is : among (ends v to) (outsOf es m v) ≡ not (eqb r 0)
 
 from-on : (es : List ℕ) (m v to : ℕ) → among (ends v to) (endsOfAll (outFrom (edgesOf es m) v to)) ≡ among (ends v to) (outsOf es m v)
@@ -112,39 +111,39 @@ module _ (vs es : List ℕ) (m v to : ℕ) (f : Fork vs es m v) (r : ℕ) (h : (
       }
 
   module _ (ne : r ≡ 0 → ⊥) where
-    pub out-room : (r - 1) * 6 + 6 ≤ length es
+    pub out-room : HasEdge es (r - 1)
     out-room = let w = h m (f .slots) .there (omega arith) .0 in let q = f .room-e in omega arith
 
-    split : outFrom (edgesOf es m) v to ≡ edgeAt es (r - 1) ∷ outFrom (edgesOf es m) v (field es 6 (r - 1) 1 + 1)
+    split : outFrom (edgesOf es m) v to ≡ edgeAt es (r - 1) ∷ outFrom (edgesOf es m) v (edgeTo es (r - 1) + 1)
     split = nexts-some es m v to r (f .distinct) (h m (f .slots)) (omega arith)
 
-    begun : among (ends v to) (endsOfAll (edgeAt es (r - 1) ∷ outFrom (edgesOf es m) v (field es 6 (r - 1) 1 + 1))) ≡ among (ends v to) (outsOf es m v)
+    begun : among (ends v to) (endsOfAll (edgeAt es (r - 1) ∷ outFrom (edgesOf es m) v (edgeTo es (r - 1) + 1))) ≡ among (ends v to) (outsOf es m v)
     begun = ap (λ (l : List Edge). among (ends v to) (endsOfAll l)) (sym split) ∙ from-on es m v to
 
-    module _ (t : ℕ) (ht : t ≡ field es 6 (r - 1) 1) where
+    module _ (t : ℕ) (ht : t ≡ edgeTo es (r - 1)) where
       pub out-there : t ≡ to → OutTo es m v to r
       out-there z =
           let w = h m (f .slots) .there (omega arith) in
-          let y : field es 6 (r - 1) 1 ≡ to = sym ht ∙ z in
+          let y : edgeTo es (r - 1) ≡ to = sym ht ∙ z in
           let d : ends v to ≡ edgeAt es (r - 1) .ends = same-ends (sym (w .1)) (sym y) in
           record {
             there = λ q. (w .0, w .1, y);
-            is = sym begun ∙ among-head (ends v to) (edgeAt es (r - 1)) (outFrom (edgesOf es m) v (field es 6 (r - 1) 1 + 1)) d ∙ sym (ap not (ne-eqb r 0 ne));
+            is = sym begun ∙ among-head (ends v to) (edgeAt es (r - 1)) (outFrom (edgesOf es m) v (edgeTo es (r - 1) + 1)) d ∙ sym (ap not (ne-eqb r 0 ne));
           }
         where
-          same-ends : v ≡ field es 6 (r - 1) 0 → to ≡ field es 6 (r - 1) 1 → ends v to ≡ ends (field es 6 (r - 1) 0) (field es 6 (r - 1) 1)
+          same-ends : v ≡ edgeFrom es (r - 1) → to ≡ edgeTo es (r - 1) → ends v to ≡ ends (edgeFrom es (r - 1)) (edgeTo es (r - 1))
           same-ends p q = cc
 
       pub out-other : (t ≡ to → ⊥) → OutTo es m v to 0
       out-other z =
           let w = h m (f .slots) .there (omega arith) in
-          let l : to < field es 6 (r - 1) 1 + 1 = (let q = w .2 in omega arith) in
+          let l : to < edgeTo es (r - 1) + 1 = (let q = w .2 in omega arith) in
           let d : ends v to ≡ edgeAt es (r - 1) .ends → ⊥ = λ y. z (ht ∙ sym (ap (λ (u : Ends). u .to) y)) in
           record {
             there = λ y. absurd (y refl);
             is =
-                sym begun ∙ among-next (ends v to) (edgeAt es (r - 1)) (outFrom (edgesOf es m) v (field es 6 (r - 1) 1 + 1)) d
-                ∙ beyond-none (edgesOf es m) v to (field es 6 (r - 1) 1 + 1) l;
+                sym begun ∙ among-next (ends v to) (edgeAt es (r - 1)) (outFrom (edgesOf es m) v (edgeTo es (r - 1) + 1)) d
+                ∙ beyond-none (edgesOf es m) v to (edgeTo es (r - 1) + 1) l;
           }
 
 -- ---- a node's edge
@@ -161,14 +160,6 @@ isReal outs symbolic e = among e outs && not (eqEnds e symbolic)
 pub record RealEdge (es : List ℕ) (m v : ℕ) (x : List ℕ) (s : ℕ) (e : Ends) (r : ℕ) : Type 0 where
   pub there : (r ≡ 0 → ⊥) → (r ≤ m) × (edgeAt es (r - 1) .ends ≡ nodeEdge x s)
   pub is : isReal (outsOf es m v) e (nodeEdge x s) ≡ not (eqb r 0)
-
-and-false : (a : Bool) → (a && false) ≡ false
-and-false true = refl
-and-false false = refl
-
-and-true : (a : Bool) → (a && true) ≡ a
-and-true true = refl
-and-true false = refl
 
 module _ (es : List ℕ) (m v : ℕ) (x : List ℕ) (s : ℕ) (e : Ends) (from to : ℕ) (hf : from ≡ cols x .from s) (ht : to ≡ cols x .to s) where
   pub real-elsewhere : (from ≡ v → ⊥) → RealEdge es m v x s e 0
@@ -200,7 +191,7 @@ module _ (es : List ℕ) (m v : ℕ) (x : List ℕ) (s : ℕ) (e : Ends) (from t
         same-ends : v ≡ cols x .from s → to ≡ cols x .to s → ends v to ≡ nodeEdge x s
         same-ends p q = cc
 
-        same-edge : field es 6 (r - 1) 0 ≡ cols x .from s → field es 6 (r - 1) 1 ≡ cols x .to s → ends (field es 6 (r - 1) 0) (field es 6 (r - 1) 1) ≡ nodeEdge x s
+        same-edge : edgeFrom es (r - 1) ≡ cols x .from s → edgeTo es (r - 1) ≡ cols x .to s → ends (edgeFrom es (r - 1)) (edgeTo es (r - 1)) ≡ nodeEdge x s
         same-edge p q = cc
 
 -- ---- two edges compared

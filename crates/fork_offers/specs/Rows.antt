@@ -1,7 +1,7 @@
 -- The offers of a fork as rows of four numbers: the edge's number, the count, the total, and 1 where a tree offers it.
 use mathlib.Core.Path.{_≡_, refl, sym, ap, _∙_}
 use mathlib.Core.Logic.{_≢_}
-use Prim.Native.Nat.{ℕ, zero, suc, _+_, _-_, _*_, _<_, _≤_}
+use Prim.Native.Nat.{ℕ, zero, suc, _+_, _-_, _<_, _≤_}
 use mathlib.Core.Bool.{Bool, true, false, not, _||_, cond}
 use mathlib.Core.List.{List, [], _∷_, _++_, map, append-assoc}
 use native.Mathlib.Numerals.{add-one}
@@ -10,37 +10,28 @@ use native.Mathlib.Decide.{ℕ-discrete}
 use lib.Dec.{eqb}
 use lib.ListN.{length, getD, length-append}
 use Rattle.laws.specs.Records.{field, putFrom, length-putFrom, putFrom-row, putFrom-at}
-use Rattle.laws.specs.Rows.{rows, length-rows, rows-same, rows-more}
+use Rattle.laws.specs.Rows.{rows, length-rows, rows-same, rows-more, rows-none, rows-suc}
 use Rattle.definition.specs.Threading.{Ends, eqEnds}
 use Rattle.definition.specs.Search.{Offer, among, unseen}
 use Rattle.assembly.specs.Store.{edgeAt}
 use Rattle.assembly.specs.Table.{Distinct}
 use Rattle.threading_tree.specs.Ends.{eqEnds-self, eqEnds-ne}
+use Rattle.fork_offers.specs.Fields.{HasOffer, offerEdge, offerCount, offerTotal, offerGuided}
 
 abbrev pub offerAt : List ℕ → List ℕ → ℕ → Offer
 offerAt es out i =
-    record { ends = edgeAt es (field out 4 i 0) .ends; count = field out 4 i 1; outOf = field out 4 i 2; guided = not (eqb (field out 4 i 3) 0) }
+    record { ends = edgeAt es (offerEdge out i) .ends; count = offerCount out i; outOf = offerTotal out i; guided = not (eqb (offerGuided out i) 0) }
 
 -- the first k rows as the definition's offers, and their edges
 unfoldable pub offersOf : List ℕ → List ℕ → ℕ → List Offer
 offersOf es out k = rows (offerAt es out) k
 
 unfoldable pub seenOf : List ℕ → List ℕ → ℕ → List Ends
-seenOf es out k = rows (λ i. edgeAt es (field out 4 i 0) .ends) k
+seenOf es out k = rows (λ i. edgeAt es (offerEdge out i) .ends) k
 
 -- the rows name edges
 abbrev pub Few : ℕ → List ℕ → ℕ → Type 0
-Few m out k = (j : ℕ) → j < k → field out 4 j 0 < m
-
-rows-none : {A : Type 0} (f : ℕ → A) → rows f 0 ≡ []
-rows-none f = go (rows f 0) (length-rows f 0)
-  where
-    go : {A : Type 0} (xs : List A) → length xs ≡ 0 → xs ≡ []
-    go [] h = refl
-    go (x ∷ xs) h = absurd (omega arith)
-
-rows-suc : {A : Type 0} (f : ℕ → A) (n : ℕ) → rows f (suc n) ≡ rows f n ++ (f n ∷ [])
-rows-suc f n = rows-more f f n (f n) refl (λ j h. refl)
+Few m out k = (j : ℕ) → j < k → offerEdge out j < m
 
 pub map-append : {A B : Type 0} (f : A → B) (xs ys : List A) → map f (xs ++ ys) ≡ map f xs ++ map f ys
 map-append {B = B} f [] ys = refl
@@ -61,7 +52,7 @@ offers-none es out = rows-none (offerAt es out)
 
 pub seen-none : (es out : List ℕ) → seenOf es out 0 ≡ []
 unfolding seenOf
-seen-none es out = rows-none (λ i. edgeAt es (field out 4 i 0) .ends)
+seen-none es out = rows-none (λ i. edgeAt es (offerEdge out i) .ends)
 
 -- ---- whether an edge is among the rows
 
@@ -90,20 +81,20 @@ module _ (es out : List ℕ) (m edge : ℕ) (ds : Distinct (edgeAt es) m) (he : 
   abbrev me : Ends
   me = edgeAt es edge .ends
 
-  seen-more : (k : ℕ) → among me (seenOf es out (suc k)) ≡ among me (seenOf es out k) || eqEnds me (edgeAt es (field out 4 k 0) .ends)
+  seen-more : (k : ℕ) → among me (seenOf es out (suc k)) ≡ among me (seenOf es out k) || eqEnds me (edgeAt es (offerEdge out k) .ends)
   unfolding seenOf
   seen-more k =
-      ap (among me) (rows-suc (λ i. edgeAt es (field out 4 i 0) .ends) k) ∙ among-append me (rows (λ i. edgeAt es (field out 4 i 0) .ends) k) (edgeAt es (field out 4 k 0) .ends)
+      ap (among me) (rows-suc (λ i. edgeAt es (offerEdge out i) .ends) k) ∙ among-append me (rows (λ i. edgeAt es (offerEdge out i) .ends) k) (edgeAt es (offerEdge out k) .ends)
 
-  seen-no : (k : ℕ) → Few m out k → ((j : ℕ) → j < k → field out 4 j 0 ≡ edge → ⊥) → among me (seenOf es out k) ≡ false
+  seen-no : (k : ℕ) → Few m out k → ((j : ℕ) → j < k → offerEdge out j ≡ edge → ⊥) → among me (seenOf es out k) ≡ false
   seen-no zero f h = ap (among me) (seen-none es out) ∙ among-empty me
   seen-no (suc k) f h =
       let a = seen-no k (λ j l. f j (omega arith)) (λ j l. h j (omega arith)) in
-      let b : eqEnds me (edgeAt es (field out 4 k 0) .ends) ≡ false
-      = eqEnds-ne me (edgeAt es (field out 4 k 0) .ends) (λ y. h k (omega arith) (sym (ds edge (field out 4 k 0) he (f k (omega arith)) y))) in
-      seen-more k ∙ ap (λ (t : Bool). t || eqEnds me (edgeAt es (field out 4 k 0) .ends)) a ∙ b
+      let b : eqEnds me (edgeAt es (offerEdge out k) .ends) ≡ false
+      = eqEnds-ne me (edgeAt es (offerEdge out k) .ends) (λ y. h k (omega arith) (sym (ds edge (offerEdge out k) he (f k (omega arith)) y))) in
+      seen-more k ∙ ap (λ (t : Bool). t || eqEnds me (edgeAt es (offerEdge out k) .ends)) a ∙ b
 
-  seen-yes : (k j : ℕ) → j < k → field out 4 j 0 ≡ edge → among me (seenOf es out k) ≡ true
+  seen-yes : (k j : ℕ) → j < k → offerEdge out j ≡ edge → among me (seenOf es out k) ≡ true
   seen-yes zero j l h = absurd (omega arith)
   seen-yes (suc k) j l h = seen-more k ∙ go (ℕ-discrete j k) (λ q. seen-yes k j q h)
     where
@@ -111,17 +102,17 @@ module _ (es out : List ℕ) (m edge : ℕ) (ds : Distinct (edgeAt es) m) (he : 
       or-true true b h = refl
       or-true false b h = h
 
-      go : Dec (j ≡ k) → (j < k → among me (seenOf es out k) ≡ true) → among me (seenOf es out k) || eqEnds me (edgeAt es (field out 4 k 0) .ends) ≡ true
+      go : Dec (j ≡ k) → (j < k → among me (seenOf es out k) ≡ true) → among me (seenOf es out k) || eqEnds me (edgeAt es (offerEdge out k) .ends) ≡ true
       go (yes z) ih =
-          let y : field out 4 k 0 ≡ edge = sym (ap (λ (u : ℕ). field out 4 u 0) z) ∙ h in
-          or-true (among me (seenOf es out k)) (eqEnds me (edgeAt es (field out 4 k 0) .ends))
+          let y : offerEdge out k ≡ edge = sym (ap (λ (u : ℕ). offerEdge out u) z) ∙ h in
+          or-true (among me (seenOf es out k)) (eqEnds me (edgeAt es (offerEdge out k) .ends))
           (ap (λ (u : ℕ). eqEnds me (edgeAt es u .ends)) y ∙ eqEnds-self me)
-      go (no z) ih = ap (λ (t : Bool). t || eqEnds me (edgeAt es (field out 4 k 0) .ends)) (ih (omega arith))
+      go (no z) ih = ap (λ (t : Bool). t || eqEnds me (edgeAt es (offerEdge out k) .ends)) (ih (omega arith))
 
-pub offered-no : (out : List ℕ) (k edge i : ℕ) → ((j : ℕ) → j < i → field out 4 j 0 ≡ edge → ⊥) → k ≤ i → Offered out k edge false
+pub offered-no : (out : List ℕ) (k edge i : ℕ) → ((j : ℕ) → j < i → offerEdge out j ≡ edge → ⊥) → k ≤ i → Offered out k edge false
 offered-no out k edge i h l = record { is = λ es m ds he f. sym (seen-no es out m edge ds he k f (λ j q. h j (omega arith))) }
 
-pub offered-yes : (out : List ℕ) (k edge i : ℕ) → i < k → field out 4 i 0 ≡ edge → Offered out k edge true
+pub offered-yes : (out : List ℕ) (k edge i : ℕ) → i < k → offerEdge out i ≡ edge → Offered out k edge true
 offered-yes out k edge i l h = record { is = λ es m ds he f. sym (seen-yes es out m edge ds he k i l h) }
 
 -- ---- rows are added
@@ -130,7 +121,7 @@ offered-yes out k edge i l h = record { is = λ es m ds he f. sym (seen-yes es o
 pub record Grown (es : List ℕ) (m : ℕ) (out out' : List ℕ) (k r : ℕ) (os : List Offer) : Type 0 where
   pub is : offersOf es out' r ≡ offersOf es out k ++ os
   pub few : Few m out' r
-  pub kept : (j : ℕ) → j < k → field out' 4 j 0 ≡ field out 4 j 0
+  pub kept : (j : ℕ) → j < k → offerEdge out' j ≡ offerEdge out j
   pub long : length out' ≡ length out
   pub le : k ≤ r
 
@@ -167,13 +158,13 @@ grown-trans {es} {m} {out} {out'} {out''} {k} {j} {r} {os} {ps} g h =
 pub grown-seen : {es : List ℕ} {m : ℕ} {out out' : List ℕ} {k r : ℕ} {os : List Offer} → Grown es m out out' k r os → (s : ℕ) → s ≤ k → seenOf es out' s ≡ seenOf es out s
 unfolding seenOf
 grown-seen {es} {m} {out} {out'} g s l =
-    rows-same (λ i. edgeAt es (field out' 4 i 0) .ends) (λ i. edgeAt es (field out 4 i 0) .ends) s (λ i h. ap (λ (u : ℕ). edgeAt es u .ends) (g .kept i (omega arith)))
+    rows-same (λ i. edgeAt es (offerEdge out' i) .ends) (λ i. edgeAt es (offerEdge out i) .ends) s (λ i h. ap (λ (u : ℕ). edgeAt es u .ends) (g .kept i (omega arith)))
 
 -- the row k is written
 abbrev pub rowPut : List ℕ → ℕ → ℕ → ℕ → ℕ → ℕ → List ℕ
 rowPut out k a b c d = putFrom out 4 k 0 (a ∷ b ∷ c ∷ d ∷ [])
 
-pub grown-one : (es : List ℕ) (m : ℕ) (out : List ℕ) (k edge count total guided : ℕ) → Few m out k → k * 4 + 4 ≤ length out → edge < m
+pub grown-one : (es : List ℕ) (m : ℕ) (out : List ℕ) (k edge count total guided : ℕ) → Few m out k → HasOffer out k → edge < m
     → Grown es m out (rowPut out k edge count total guided) k (k + 1) (record { ends = edgeAt es edge .ends; count = count; outOf = total; guided = not (eqb guided 0) } ∷ [])
 unfolding offersOf
 grown-one es m out k edge count total guided f l h =
@@ -204,7 +195,7 @@ grown-one es m out k edge count total guided f l h =
     at-k : offerAt es (rowPut out k edge count total guided) k ≡ record { ends = edgeAt es edge .ends; count = count; outOf = total; guided = not (eqb guided 0) }
     at-k = same-offer (at 0 (omega arith)) (at 1 (omega arith)) (at 2 (omega arith)) (at 3 (omega arith))
 
-    low : (j : ℕ) → j < k + 1 → Dec (j ≡ k) → field (rowPut out k edge count total guided) 4 j 0 < m
+    low : (j : ℕ) → j < k + 1 → Dec (j ≡ k) → offerEdge (rowPut out k edge count total guided) j < m
     low j q (yes z) = rw (z, at 0 (omega arith)) h
     low j q (no z) = rw (other j 0 (omega arith) z) (f j (omega arith))
 

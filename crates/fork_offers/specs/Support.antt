@@ -8,11 +8,12 @@ use lib.Dec.{leb, eqb}
 use lib.ListN.{length, length-append}
 use borrow.Author.Tests.{eq-eqb, ne-eqb, le-leb}
 use Rattle.laws.specs.Lists.{keep, total}
-use Rattle.laws.specs.Records.{field}
 use Rattle.definition.specs.Threading.{Ends, Edge, supportOf, leaving}
 use Rattle.definition.specs.Search.{Offer, among, unseen, bySupport}
+use Rattle.assembly.specs.Fields.{HasEdge, edgeTo, edgeSupport}
 use Rattle.assembly.specs.Store.{edgeAt, edgesOf}
 use Rattle.assembly.specs.Outs.{Slots, Nexts, outFrom, nexts-none, nexts-some}
+use Rattle.fork_offers.specs.Fields.{HasOffer}
 use Rattle.fork_offers.specs.Real.{Fork}
 use Rattle.fork_offers.specs.Rows.{Few, seenOf, Offered, Grown, rowPut, append-nil, grown-none, grown-one, grown-trans, grown-seen, grown-many, unseen-none, unseen-yes, unseen-no, unseen-split}
 
@@ -83,7 +84,7 @@ module _ (es : List ℕ) (m i t : ℕ) (vs : List ℕ) (v : ℕ) (out : List ℕ
   abbrev seens : List Ends
   seens = seenOf es out seen
 
-  pub edge-room : i * 6 + 6 ≤ length es
+  pub edge-room : HasEdge es i
   edge-room = let a = p .edge in let b = p .fork .room-e in omega arith
 
   pub edge-small : i < 2 ^ 32
@@ -92,10 +93,10 @@ module _ (es : List ℕ) (m i t : ℕ) (vs : List ℕ) (v : ℕ) (out : List ℕ
   pub edge-seen-room : seen * 4 ≤ length out
   edge-seen-room = let a = p .old in let b = p .rows in omega arith
 
-  module _ (c : ℕ) (hc : c ≡ field es 6 i 2) (ref : Bool) (hr : ref ≡ edgeAt es i .isRef) (q : Bool) (hq : q ≡ worth c ref) where
+  module _ (c : ℕ) (hc : c ≡ edgeSupport es i) (ref : Bool) (hr : ref ≡ edgeAt es i .isRef) (q : Bool) (hq : q ≡ worth c ref) where
     passes : worth (supportOf (edgeAt es i)) (edgeAt es i .isRef) ≡ q
     unfolding supportOf
-    passes = sym (hq ∙ ap (λ (n : ℕ). worth n ref) hc ∙ ap (λ (b : Bool). worth (field es 6 i 2) b) hr)
+    passes = sym (hq ∙ ap (λ (n : ℕ). worth n ref) hc ∙ ap (λ (b : Bool). worth (edgeSupport es i) b) hr)
 
     pub edge-left : q ≡ false → Grown es m out out k k (supportOffers seens t (edgeAt es i ∷ []))
     edge-left z = subst (λ (os : List Offer). Grown es m out out k k os) (sym (offer-out seens t (edgeAt es i) (passes ∙ z))) (grown-none es m out k (p .few))
@@ -114,10 +115,10 @@ module _ (es : List ℕ) (m i t : ℕ) (vs : List ℕ) (v : ℕ) (out : List ℕ
         new : supportOffers seens t (edgeAt es i ∷ []) ≡ edgeOffer t (edgeAt es i) ∷ []
         new = one ∙ unseen-no seens (edgeOffer t (edgeAt es i)) (mine ∙ y)
 
-        pub edge-row : k * 4 + 4 ≤ length out
+        pub edge-row : HasOffer out k
         edge-row = rooms (length (supportOffers seens t (edgeAt es i ∷ []))) (p .room) (ap length new)
           where
-            rooms : (l : ℕ) → (k + l) * 4 ≤ length out → l ≡ 1 → k * 4 + 4 ≤ length out
+            rooms : (l : ℕ) → (k + l) * 4 ≤ length out → l ≡ 1 → HasOffer out k
             rooms l a b = omega arith
 
         pub edge-new : (out' : List ℕ) (k' : ℕ) → (out' ≡ rowPut out k i c t 0) × (k' ≡ k + 1) → Grown es m out out' k k' (supportOffers seens t (edgeAt es i ∷ []))
@@ -149,9 +150,9 @@ from-start es m v = keep-all (λ e. leb 0 (e .ends .to)) (leaving (edgesOf es m)
 -- what is left falls as the targets rise
 unfoldable pub outLeft : ℕ → List ℕ → ℕ → ℕ
 outLeft W es zero = 0
-outLeft W es (suc i) = suc (W - field es 6 i 1)
+outLeft W es (suc i) = suc (W - edgeTo es i)
 
-out-falls : (W : ℕ) (es : List ℕ) (r r' : ℕ) → (r ≡ 0 → ⊥) → ((r' ≡ 0 → ⊥) → field es 6 (r - 1) 1 + 1 ≤ field es 6 (r' - 1) 1) → ((i : ℕ) → field es 6 i 1 < W) → outLeft W es r' < outLeft W es r
+out-falls : (W : ℕ) (es : List ℕ) (r r' : ℕ) → (r ≡ 0 → ⊥) → ((r' ≡ 0 → ⊥) → edgeTo es (r - 1) + 1 ≤ edgeTo es (r' - 1)) → ((i : ℕ) → edgeTo es i < W) → outLeft W es r' < outLeft W es r
 unfolding outLeft
 out-falls W es zero r' ne h u = absurd (ne refl)
 out-falls W es (suc i) zero ne h u = omega arith
@@ -160,8 +161,8 @@ out-falls W es (suc i) (suc j) ne h u =
     let b = u j in
     let p : suc i - 1 ≡ i = omega arith in
     let q : suc j - 1 ≡ j = omega arith in
-    let c : field es 6 i 1 + 1 ≤ field es 6 j 1 = subst (λ (n : ℕ). field es 6 i 1 + 1 ≤ field es 6 n 1) q (subst (λ (n : ℕ). field es 6 n 1 + 1 ≤ field es 6 (suc j - 1) 1) p a) in
-    falls W (field es 6 i 1) (field es 6 j 1) c b
+    let c : edgeTo es i + 1 ≤ edgeTo es j = subst (λ (n : ℕ). edgeTo es i + 1 ≤ edgeTo es n) q (subst (λ (n : ℕ). edgeTo es n + 1 ≤ edgeTo es (suc j - 1)) p a) in
+    falls W (edgeTo es i) (edgeTo es j) c b
   where
     falls : (W a b : ℕ) → a + 1 ≤ b → b < W → suc (W - b) < suc (W - a)
     falls W a b h k = omega arith
@@ -174,20 +175,20 @@ module _ (vs es : List ℕ) (m v r : ℕ) (f : Fork vs es m v) (o : Onward vs es
     pub onward-edge : r - 1 < m
     onward-edge = let a = o .next m (f .slots) .there (omega arith) .0 in omega arith
 
-    pub onward-room : (r - 1) * 6 + 6 ≤ length es
+    pub onward-room : HasEdge es (r - 1)
     onward-room = let a = onward-edge in let b = f .room-e in omega arith
 
-    pub onward-split : leftFrom es m v (o .t) ≡ edgeAt es (r - 1) ∷ leftFrom es m v (field es 6 (r - 1) 1 + 1)
+    pub onward-split : leftFrom es m v (o .t) ≡ edgeAt es (r - 1) ∷ leftFrom es m v (edgeTo es (r - 1) + 1)
     onward-split = nexts-some es m v (o .t) r (f .distinct) (o .next m (f .slots)) (omega arith)
 
 -- the next after r
 pub record After (vs es : List ℕ) (v r r' : ℕ) : Type 0 where
-  pub next : (k : ℕ) → Slots vs es k v → Nexts es k v (field es 6 (r - 1) 1 + 1) r'
+  pub next : (k : ℕ) → Slots vs es k v → Nexts es k v (edgeTo es (r - 1) + 1) r'
 
-pub after-is : (vs es : List ℕ) (v r r' t : ℕ) → t ≡ field es 6 (r - 1) 1 → ((k : ℕ) → Slots vs es k v → Nexts es k v (t + 1) r') → After vs es v r r'
+pub after-is : (vs es : List ℕ) (v r r' t : ℕ) → t ≡ edgeTo es (r - 1) → ((k : ℕ) → Slots vs es k v → Nexts es k v (t + 1) r') → After vs es v r r'
 after-is vs es v r r' t z h = record { next = subst (λ (n : ℕ). (k : ℕ) → Slots vs es k v → Nexts es k v (n + 1) r') z h }
 
-pub after-falls : (W : ℕ) (vs es : List ℕ) (m v r r' : ℕ) → Fork vs es m v → (r ≡ 0 → ⊥) → After vs es v r r' → ((i : ℕ) → field es 6 i 1 < W) → outLeft W es r' < outLeft W es r
+pub after-falls : (W : ℕ) (vs es : List ℕ) (m v r r' : ℕ) → Fork vs es m v → (r ≡ 0 → ⊥) → After vs es v r r' → ((i : ℕ) → edgeTo es i < W) → outLeft W es r' < outLeft W es r
 after-falls W vs es m v r r' f ne a u = out-falls W es r r' ne (λ y. a .next m (f .slots) .there (omega arith) .2) u
 
 -- ---- the total
@@ -215,22 +216,22 @@ module _ (vs es : List ℕ) (m v r sum : ℕ) (w : Totalling vs es m v r sum) wh
       ended : (a : ℕ) → sum + a ≡ allSupport es m v → a ≡ 0 → sum ≡ allSupport es m v
       ended a h k = omega arith
 
-  module _ (ne : r ≡ 0 → ⊥) (c : ℕ) (hc : c ≡ field es 6 (r - 1) 2) where
-    more : (sum + c) + total supportOf (leftFrom es m v (field es 6 (r - 1) 1 + 1)) ≡ allSupport es m v
+  module _ (ne : r ≡ 0 → ⊥) (c : ℕ) (hc : c ≡ edgeSupport es (r - 1)) where
+    more : (sum + c) + total supportOf (leftFrom es m v (edgeTo es (r - 1) + 1)) ≡ allSupport es m v
     unfolding supportOf
-    more = grows c (total supportOf (leftFrom es m v (w .onward .t))) (total supportOf (leftFrom es m v (field es 6 (r - 1) 1 + 1))) (w .run) (ap (total supportOf) (onward-split vs es m v r (w .fork) (w .onward) ne)) hc
+    more = grows c (total supportOf (leftFrom es m v (w .onward .t))) (total supportOf (leftFrom es m v (edgeTo es (r - 1) + 1))) (w .run) (ap (total supportOf) (onward-split vs es m v r (w .fork) (w .onward) ne)) hc
       where
-        grows : (c a b : ℕ) → sum + a ≡ allSupport es m v → a ≡ field es 6 (r - 1) 2 + b → c ≡ field es 6 (r - 1) 2 → (sum + c) + b ≡ allSupport es m v
+        grows : (c a b : ℕ) → sum + a ≡ allSupport es m v → a ≡ edgeSupport es (r - 1) + b → c ≡ edgeSupport es (r - 1) → (sum + c) + b ≡ allSupport es m v
         grows c a b h k z = omega arith
 
     pub totalling-fits : sum + c < 2 ^ 64
-    totalling-fits = fits (total supportOf (leftFrom es m v (field es 6 (r - 1) 1 + 1))) more (w .small)
+    totalling-fits = fits (total supportOf (leftFrom es m v (edgeTo es (r - 1) + 1))) more (w .small)
       where
         fits : (b : ℕ) → (sum + c) + b ≡ allSupport es m v → allSupport es m v < 2 ^ 32 → sum + c < 2 ^ 64
         fits b h k = omega arith
 
     pub totalling-next : (r' : ℕ) → After vs es v r r' → Totalling vs es m v r' (sum + c)
-    totalling-next r' a = record { fork = w .fork; onward = record { t = field es 6 (r - 1) 1 + 1; next = a .next }; run = more; small = w .small }
+    totalling-next r' a = record { fork = w .fork; onward = record { t = edgeTo es (r - 1) + 1; next = a .next }; run = more; small = w .small }
 
 pub one-fits : {a b : ℕ} → a ≡ b → b < 2 ^ 32 → a + 1 < 2 ^ 64
 one-fits e h = omega arith
@@ -283,12 +284,12 @@ module _ (vs es : List ℕ) (m v t : ℕ) (out₀ : List ℕ) (k₀ : ℕ) where
       head-offer = supportOffers (seenOf es out₀ k₀) t (edgeAt es (r - 1) ∷ [])
 
       abbrev more-edges : List Offer
-      more-edges = supportOffers (seenOf es out₀ k₀) t (leftFrom es m v (field es 6 (r - 1) 1 + 1))
+      more-edges = supportOffers (seenOf es out₀ k₀) t (leftFrom es m v (edgeTo es (r - 1) + 1))
 
       parts : supportOffers (seenOf es out₀ k₀) t (leftFrom es m v (w .onward .t)) ≡ head-offer ++ more-edges
       parts =
           ap (supportOffers (seenOf es out₀ k₀) t) (onward-split vs es m v r (w .fork) (w .onward) ne)
-          ∙ support-cons (seenOf es out₀ k₀) t (edgeAt es (r - 1)) (leftFrom es m v (field es 6 (r - 1) 1 + 1))
+          ∙ support-cons (seenOf es out₀ k₀) t (edgeAt es (r - 1)) (leftFrom es m v (edgeTo es (r - 1) + 1))
 
       sizes : length head-offer + length more-edges ≡ length (supportOffers (seenOf es out₀ k₀) t (leftFrom es m v (w .onward .t)))
       sizes = sym (ap length parts ∙ length-append head-offer more-edges)
@@ -320,7 +321,7 @@ module _ (vs es : List ℕ) (m v t : ℕ) (out₀ : List ℕ) (k₀ : ℕ) where
           = subst (λ (s : List Ends). Grown es m out out' k k' (supportOffers s t (edgeAt es (r - 1) ∷ []))) seen-same g in
           record {
             fork = w .fork;
-            onward = record { t = field es 6 (r - 1) 1 + 1; next = a .next };
+            onward = record { t = edgeTo es (r - 1) + 1; next = a .next };
             small = w .small;
             done = w .done ++ head-offer;
             grown = grown-trans (w .grown) g';

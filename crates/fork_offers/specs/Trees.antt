@@ -16,6 +16,7 @@ use Rattle.threading_tree.specs.Slots.{cols, Slot}
 use Rattle.threading_tree.specs.Cells.{left}
 use Rattle.threading_tree.specs.Take.{Wide, wide-slot}
 use Rattle.threading_tree.specs.Read.{Leads, Readable, BranchAt, leads-one, leads-none, leads-branch}
+use Rattle.fork_offers.specs.Fields.{HasOffer}
 use Rattle.fork_offers.specs.Real.{Fork, nodeEdge, isReal, outsOf, RealEdge}
 use Rattle.fork_offers.specs.Best.{offerOf, one-none, one-some, Chosen, real-bare, real-at, sibling-falls}
 use Rattle.fork_offers.specs.Rows.{Few, seenOf, Offered, Grown, rowPut, append-nil, grown-none, grown-one, grown-trans, grown-seen, grown-many, unseen-none, unseen-yes, unseen-no, unseen-split}
@@ -75,10 +76,10 @@ module _ (vs es : List ℕ) (m : ℕ) (x : List ℕ) (s t v : ℕ) (e : Ends) (o
         new : branchOffer seens outs e x t s ≡ offerOf x t s ∷ []
         new = real ∙ unseen-no seens (offerOf x t s) (mine ∙ z)
 
-        pub adds-room : k * 4 + 4 ≤ length out
+        pub adds-room : HasOffer out k
         adds-room = let a = p .room in let b : length (branchOffer seens outs e x t s) ≡ 1 = ap length new in rooms (length (branchOffer seens outs e x t s)) a b
           where
-            rooms : (l : ℕ) → (k + l) * 4 ≤ length out → l ≡ 1 → k * 4 + 4 ≤ length out
+            rooms : (l : ℕ) → (k + l) * 4 ≤ length out → l ≡ 1 → HasOffer out k
             rooms l a b = omega arith
 
         module _ (c : ℕ) (hc : c ≡ cols x .count s) (out' : List ℕ) (k' : ℕ) (hp : (out' ≡ rowPut out k (r - 1) c t 1) × (k' ≡ k + 1)) where

@@ -15,6 +15,7 @@ ghost use mathlib.Core.Path.{_≡_};
 ghost use Prim.Native.Nat.{_+_, _-_, _*_, _^_, _<_, _≤_};
 ghost use lib.ListN.{length, getD};
 ghost use Rattle.definition.specs.Threading.{eqEnds, leaving};
+ghost use Rattle.assembly.specs.Fields.{HasEdge};
 ghost use Rattle.threading_tree.specs.Ends.{ends};
 ghost use Rattle.threading_tree.specs.Slots.{Slot};
 ghost use Rattle.threading_tree.specs.Read.{Readable};
@@ -29,6 +30,7 @@ ghost use Rattle.fork_offers.specs.Support.{worth, EdgeAdds, supportOffe
 ghost use Rattle.fork_offers.specs.Offers.{Forks, Offers};
 ghost use mathlib.Core.List.{[], _∷_};
 ghost use Rattle.assembly.specs.Store.{edgeAt, edgesOf};
+ghost use Rattle.fork_offers.specs.Fields.{HasOffer};
 
 // The least total that reaches the threshold, which may be below zero.
 pub fn least_total(threshold: i32) -> usize
@@ -250,6 +252,17 @@ fn best_branch(
 
 // ---- the rows of the offers
 
+// A row has the edge's number, the count, the total, and 1 where a tree offers it.
+pub const OFFER: usize = 4;
+
+pub const OFFER_EDGE: usize = 0;
+
+pub const OFFER_COUNT: usize = 1;
+
+pub const OFFER_TOTAL: usize = 2;
+
+pub const OFFER_GUIDED: usize = 3;
+
 // Whether one of the first k rows names the edge.
 fn offered(out: &[u32], k: usize, edge: usize) -> bool
     requires { ⌜ k * 4 ≤ length (now out) ⌝ }
@@ -257,7 +270,7 @@ fn offered(out: &[u32], k: usize, edge: usize) -> bool
 {
     let mut i: usize = 0;
     while i < k {
-        if wide(out[i * 4 + 0]) == edge {
+        if wide(out[i * OFFER + OFFER_EDGE]) == edge {
             return true;
         }
         i += 1;
@@ -267,13 +280,13 @@ fn offered(out: &[u32], k: usize, edge: usize) -> bool
 
 // The row k; the answer is the next row.
 fn put_offer(out: &mut [u32], k: usize, edge: usize, count: u32, total: usize, guided: u32) -> usize
-    requires { ⌜ (k * 4 + 4 ≤ length (now out)) × (edge < 2 ^ 32) × (total < 2 ^ 32) ⌝ }
+    requires { ⌜ (HasOffer (now out) k) × (edge < 2 ^ 32) × (total < 2 ^ 32) ⌝ }
     ensures { λ r. ⌜ (now (out .exit) ≡ rowPut (now (out .entry)) k edge count total guided) × (r ≡ k + 1) ⌝ }
 {
-    out[k * 4 + 0] = edge as u32;
-    out[k * 4 + 1] = count;
-    out[k * 4 + 2] = total as u32;
-    out[k * 4 + 3] = guided;
+    out[k * OFFER + OFFER_EDGE] = edge as u32;
+    out[k * OFFER + OFFER_COUNT] = count;
+    out[k * OFFER + OFFER_TOTAL] = total as u32;
+    out[k * OFFER + OFFER_GUIDED] = guided;
     k + 1
 }
 
@@ -401,7 +414,7 @@ fn offer_edge(
 
 // The out-edge of v after that of number r - 1, in vertex order: its number plus 1, or 0.
 fn out_after(vertices: &[u32], edges: &[u32], m: usize, v: usize, r: usize) -> usize
-    requires { ⌜ Fork (now vertices) (now edges) m v × ((r - 1) * 6 + 6 ≤ length (now edges)) × (r ≡ 0 → ⊥) ⌝ }
+    requires { ⌜ Fork (now vertices) (now edges) m v × (HasEdge (now edges) (r - 1)) × (r ≡ 0 → ⊥) ⌝ }
     ensures { λ s. ⌜ After (now (vertices .entry)) (now (edges .entry)) v r s ⌝ }
 {
     next_out(vertices, edges, v, assembly::edge_to(edges, r - 1) + 1)

@@ -10,6 +10,7 @@ use Rattle.definition.specs.Threading.{threaded, withSymbolic}
 use Rattle.definition.specs.Evidence.{nodes, evidence}
 use Rattle.definition.specs.Building.{Built, built}
 use Rattle.definition.specs.Calls.{GraphOutcome, graphOf, writtenAt, flat, edgeRow, nodeRow}
+use Rattle.assembly.specs.Fields.{HasVertex}
 use Rattle.assembly.specs.Table.{length-table}
 use Rattle.assembly.specs.Store.{edgeAt, edgesOf}
 use Rattle.assembly.specs.Sorted.{Orders}
@@ -28,7 +29,7 @@ use Rattle.graph_call.specs.Outcome.{outcome, refusedAnswer}
 -- ---- the rows
 
 pub record Writes (wv we wx wo es ns : List ℕ) (b : Raise) (cap : ℕ) : Type 0 where
-  pub sink-in : b .sink * 12 + 12 ≤ length wv
+  pub sink-in : HasVertex wv (b .sink)
   pub few : b .edges + 1 ≤ 8192
   pub many : b .nodes ≤ 16384
   pub orders : Orders (linked wv (b .sink) (b .edges)) we es (b .edges + 1)

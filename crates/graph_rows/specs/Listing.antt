@@ -6,9 +6,11 @@ use Prim.Native.Nat.{ℕ, _+_, _-_, _*_, _<_, _≤_}
 use native.Mathlib.Omega.{arith}
 use native.Mathlib.Decide.{decLt}
 use lib.ListN.{length, length-append}
-use Rattle.laws.specs.Records.{field, putFrom, length-putFrom}
+use Rattle.laws.specs.Records.{putFrom, length-putFrom}
+use Rattle.laws.specs.ListLaws.{length-nil}
 use Rattle.definition.specs.Threading.{Edge}
 use Rattle.definition.specs.Calls.{writtenAt, flat, edgeRow}
+use Rattle.assembly.specs.Fields.{HasVertex, outEdge, HasEdges, HasEdge, edgeTo}
 use Rattle.assembly.specs.Table.{length-table}
 use Rattle.assembly.specs.Store.{edgeAt, edgesOf}
 use Rattle.assembly.specs.Outs.{Nexts, Slots, Names}
@@ -27,15 +29,11 @@ edge-long : (e : Edge) → length (edgeRow e) ≡ 6
 unfolding edgeRow
 edge-long e = refl
 
-length-nil : (l : List Edge) → length l ≡ 0 → l ≡ []
-length-nil [] h = refl
-length-nil (x ∷ l) h = absurd (omega arith)
-
 pub list-start : (es out : List ℕ) (m : ℕ) → Listing es out out m 0 0 0
 unfolding flat
 list-start es out m = record { done = []; rows = refl; run = rest-start es m; so-far = refl; same = refl }
 
-module _ {vs es out : List ℕ} {m : ℕ} (x : Orders vs es out m × (m * 6 ≤ length out)) where
+module _ {vs es out : List ℕ} {m : ℕ} (x : Orders vs es out m × (HasEdges out m)) where
   length-all : length (edgesOf es m) ≡ m
   unfolding edgesOf
   length-all = length-table (edgeAt es) m (x .0 .distinct)
@@ -53,14 +51,14 @@ module _ {vs es out : List ℕ} {m : ℕ} (x : Orders vs es out m × (m * 6 ≤ 
 
     module _ (l : p < m) where
       -- while edges are left there is a vertex to look at
-      pub list-v : v * 12 + 12 ≤ length vs
+      pub list-v : HasVertex vs v
       list-v = go (decLt (length vs) (v * 12 + 12))
         where
-          go : Dec (length vs < v * 12 + 12) → v * 12 + 12 ≤ length vs
+          go : Dec (length vs < v * 12 + 12) → HasVertex vs v
           go (yes h) = absurd (let e = ap length (rest-end es m v t (λ i k. (let z = x .0 .from-in i k in omega arith))) in let w = fits in omega arith)
           go (no h) = omega arith
 
-      pub list-names : (v * 12 + 12 ≤ length vs) × ((c : ℕ) → c < 8 → Names es (field vs 12 v c))
+      pub list-names : (HasVertex vs v) × ((c : ℕ) → c < 8 → Names es (outEdge vs v c))
       list-names = (list-v, λ c h z. (let w = x .0 .slots v list-v .full c h z .0 in let r = x .0 .room-e in omega arith))
 
       module _ {r : ℕ} (nexts : (k : ℕ) → Slots vs es k v → Nexts es k v t r) where
@@ -76,19 +74,19 @@ module _ {vs es out : List ℕ} {m : ℕ} (x : Orders vs es out m × (m * 6 ≤ 
           pos : 0 < r
           pos = omega arith
 
-          e : rest v t (edgesOf es m) ≡ edgeAt es (r - 1) ∷ rest v (field es 6 (r - 1) 1 + 1) (edgesOf es m)
+          e : rest v t (edgesOf es m) ≡ edgeAt es (r - 1) ∷ rest v (edgeTo es (r - 1) + 1) (edgesOf es m)
           e = rest-take es m v t r (x .0 .distinct) nx pos
 
           pub list-in : r - 1 < m
           list-in = let w = nx .there pos .0 in let q = pos in omega arith
 
-          pub list-room : (r - 1) * 6 + 6 ≤ length es
+          pub list-room : HasEdge es (r - 1)
           list-room = let w = list-in in let q = x .0 .room-e in omega arith
 
-          pub list-asks : ((r - 1) * 6 + 6 ≤ length es) × (p * 6 + 6 ≤ length out')
+          pub list-asks : (HasEdge es (r - 1)) × (HasEdge out' p)
           list-asks = (list-room, (let q = x .1 in let u = b .same in omega arith))
 
-          pub list-take : (o : List ℕ) (u : ℕ) → o ≡ putFrom out' 6 p 0 (edgeRow (edgeAt es (r - 1))) → u ≡ field es 6 (r - 1) 1 → Listing es out o m v (u + 1) (p + 1)
+          pub list-take : (o : List ℕ) (u : ℕ) → o ≡ putFrom out' 6 p 0 (edgeRow (edgeAt es (r - 1))) → u ≡ edgeTo es (r - 1) → Listing es out o m v (u + 1) (p + 1)
           list-take o u h k =
               let E : Edge = edgeAt es (r - 1) in
               let rl = edge-long E in
@@ -99,7 +97,7 @@ module _ {vs es out : List ℕ} {m : ℕ} (x : Orders vs es out m × (m * 6 ≤ 
               record {
                 done = b .done ++ E ∷ [];
                 rows = length-append (b .done) (E ∷ []) ∙ ap (λ (i : ℕ). i + 1) n;
-                run = rw (k, append-assoc (b .done) (E ∷ []) (rest v (field es 6 (r - 1) 1 + 1) (edgesOf es m)), ← e) (b .run);
+                run = rw (k, append-assoc (b .done) (E ∷ []) (rest v (edgeTo es (r - 1) + 1) (edgesOf es m)), ← e) (b .run);
                 so-far =
                     h ∙ ap (λ (y : List ℕ). putFrom y 6 p 0 (edgeRow E)) (b .so-far)
                     ∙ front-row xs out 6 p 0 (edgeRow E) (omega arith) (omega arith)

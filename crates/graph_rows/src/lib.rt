@@ -8,6 +8,7 @@ ghost use lib.Dec.{eqb};
 ghost use lib.ListN.{length, replicate};
 ghost use Rattle.laws.specs.Records.{putFrom};
 ghost use Rattle.definition.specs.Calls.{writtenAt, flat, edgeRow};
+ghost use Rattle.assembly.specs.Fields.{HasEdges, HasEdge};
 ghost use Rattle.assembly.specs.Store.{edgeAt, edgesOf};
 ghost use Rattle.assembly.specs.Sorted.{Orders};
 
@@ -37,7 +38,7 @@ fn flag(mark: u32) -> u32
 
 // The edge in row i of the table becomes row p of `out`.
 fn copy_row(edges: &[u32], i: usize, out: &mut [u32], p: usize)
-    requires { ⌜ (i * 6 + 6 ≤ length (now edges)) × (p * 6 + 6 ≤ length (now out)) ⌝ }
+    requires { ⌜ (HasEdge (now edges) i) × (HasEdge (now out) p) ⌝ }
     ensures { λ _. ⌜ now (out .exit) ≡ putFrom (now (out .entry)) 6 p 0 (edgeRow (edgeAt (now (edges .entry)) i)) ⌝ }
 {
     let mark = flag(edges[i * EDGE + MARK]);
@@ -51,7 +52,7 @@ fn copy_row(edges: &[u32], i: usize, out: &mut [u32], p: usize)
 
 // The rows of the m edges in the order of their ends: vertex by vertex, each time the out-edge of least target.
 pub fn write_edges(vertices: &[u32], edges: &[u32], m: usize, out: &mut [u32])
-    requires { ⌜ Orders (now vertices) (now edges) (now out) m × (m * 6 ≤ length (now out)) ⌝ }
+    requires { ⌜ Orders (now vertices) (now edges) (now out) m × (HasEdges (now out) m) ⌝ }
     ensures { λ _. ⌜ now (out .exit) ≡ writtenAt 0 (flat edgeRow (edgesOf (now (edges .entry)) m)) (now (out .entry)) ⌝ }
 {
     let mut v: usize = 0;

@@ -13,7 +13,7 @@ use Rattle.definition.specs.Limits.{Sample, GraphMaxima, graphMaximaFit}
 use Rattle.definition.specs.Evidence.{evidence, nodes}
 use Rattle.definition.specs.Building.{built, builtOf}
 use Rattle.definition.specs.Threading.{threaded, numberOf, withSymbolic}
-use Rattle.laws.specs.Records.{field}
+use Rattle.assembly.specs.Fields.{HasVertices, kmerPlace, HasEdge}
 use Rattle.assembly.specs.Store.{kmersOf}
 use Rattle.assembly.specs.Moves.{addedE}
 use Rattle.assembly.specs.Kmers.{part}
@@ -53,11 +53,11 @@ module _ {s : Sample} {v e : ℕ} {vs es : List ℕ} (x : Builds s v e vs es) (v
     came : CameG (s .k) (textOf s) vs' es' (mostOf v e) t (2 * length (textOf s)) (threaded s)
     came = rw d at h
 
-    pub answer-asks : (length (s .reference) - s .k + s .k ≤ length (textOf s)) × (t .vertices * 12 ≤ length vs') × ((u : ℕ) → u < t .vertices → field vs' 12 u 8 + s .k ≤ length (textOf s))
+    pub answer-asks : (length (s .reference) - s .k + s .k ≤ length (textOf s)) × (HasVertices vs' (t .vertices)) × ((u : ℕ) → u < t .vertices → kmerPlace vs' u + s .k ≤ length (textOf s))
     answer-asks = sink-asks x came
 
     module _ (le : length es' ≡ length es) (sink : ℕ) (hs : sink ≡ numberOf (kmersOf (s .k) (textOf s) vs' (t .vertices)) (part (s .k) (textOf s) (length (s .reference) - s .k))) where
-      pub answer-symbolic : (t .edges * 6 + 6 ≤ length es') × (sink < 2 ^ 32) × (t .vertices < 2 ^ 32) × (length (s .reference) - s .k < 2 ^ 32)
+      pub answer-symbolic : (HasEdge es' (t .edges)) × (sink < 2 ^ 32) × (t .vertices < 2 ^ 32) × (length (s .reference) - s .k < 2 ^ 32)
       answer-symbolic = symbolic-asks x came le sink hs
 
       pub answer-done : (fs : List ℕ) → fs ≡ addedE es' (t .edges) (symbolic sink (t .vertices) (length (s .reference) - s .k)) 1 → BuiltAt s v e vs' fs (t .vertices) (t .edges) sink

@@ -13,15 +13,16 @@ use borrow.Author.Tests.{leb-true, eqb-true, le-leb, lt-leb}
 use Rattle.laws.specs.Lists.{all, lastOr}
 use Rattle.laws.specs.ListLaws.{and-left, and-right, clash}
 use Rattle.laws.specs.Numbers.{within}
-use Rattle.laws.specs.Records.{field}
+use Rattle.laws.specs.Rows.{rows-none}
 use Rattle.definition.specs.Refusal.{Rule, firstBroken}
 use Rattle.definition.specs.Limits.{Sample, kFits, referenceFits, isBase, referenceBases, rising, endsFit, readsFit, sampleRules}
 use Rattle.definition.specs.Stretch.{kmers, stretches}
 use Rattle.definition.specs.Threading.{Graph, put, numberOf, thread, threadAll, threaded, lastPlace, sinkOf, symbolicOf, withSymbolic}
+use Rattle.assembly.specs.Fields.{HasVertices, vertexNumbers, kmerPlace, HasEdges, HasEdge, edgeNumbers, edgeFrom, edgeTo, edgeSupport}
 use Rattle.assembly.specs.Table.{table-0, length-table}
 use Rattle.assembly.specs.Store.{edgeAt, edgesOf, kmersOf, graphOf, Good, good-distinct}
 use Rattle.assembly.specs.Moves.{addedE, addedE-row}
-use Rattle.assembly.specs.Kmers.{part, rows-0, length-of}
+use Rattle.assembly.specs.Kmers.{part, length-of}
 use Rattle.assembly.specs.Symbolic.{symbolic, symbolic-put, symbolic-front, symbolic-from, symbolic-to, symbolic-good}
 use Rattle.junction_tree_graph.specs.declared.Most.{Most}
 use Rattle.junction_tree_graph.specs.declared.At.{At}
@@ -91,8 +92,8 @@ fits-of s h =
 pub record Begins (s : Sample) (vs es : List ℕ) (most : Most) : Type 0 where
   pub fits : Fits s
   pub zero-v : (i : ℕ) → getD vs i 0 ≡ 0
-  pub room-v : most .vertices * 12 ≤ length vs
-  pub room-e : most .edges * 6 ≤ length es
+  pub room-v : HasVertices vs (most .vertices)
+  pub room-e : HasEdges es (most .edges)
   pub few-v : most .vertices ≤ 4096
   pub few-e : most .edges ≤ 8192
 
@@ -148,7 +149,7 @@ module _ {s : Sample} {vs es : List ℕ} {most : Most} (x : Begins s vs es most)
   -- nothing is a graph without vertices
   nothing : graphOf (s .k) (textOf s) vs 0 es 0 ≡ record { kmers = []; edges = [] }
   unfolding graphOf kmersOf edgesOf
-  nothing = rw (rows-0, table-0)
+  nothing = rw (rows-none, table-0)
 
   the-stretch : stretchAt (textOf s) 0 (length (s .reference)) 0 0 ≡ record { sequence = 0; place = 0; bytes = s .reference }
   the-stretch = rw (take-append-seam (s .reference) (s .bases))
@@ -192,8 +193,8 @@ pub record Builds (s : Sample) (v e : ℕ) (vs es : List ℕ) : Type 0 where
   pub rules : firstBroken (sampleRules s) ≡ 0
   pub vertices-in : within 2 4096 v ≡ true
   pub edges-in : within 1 8192 e ≡ true
-  pub length-v : length vs ≡ v * 12
-  pub length-e : length es ≡ e * 6
+  pub length-v : length vs ≡ vertexNumbers v
+  pub length-e : length es ≡ edgeNumbers e
   pub zero-v : (i : ℕ) → getD vs i 0 ≡ 0
 
 -- the test of the definition's `builtOf`
@@ -210,9 +211,9 @@ pub record BuiltAt (s : Sample) (v e : ℕ) (vs es : List ℕ) (n m sink : ℕ) 
   pub vertices-fit : n < v
   pub edges-fit : m < e
   pub good : Good (s .k) (s .reference ++ s .bases) vs n es m
-  pub from : field es 6 m 0 ≡ sink
-  pub to : field es 6 m 1 ≡ n
-  pub supports : (i : ℕ) → i < m → field es 6 i 2 ≤ 2 * length (s .reference ++ s .bases)
+  pub from : edgeFrom es m ≡ sink
+  pub to : edgeTo es m ≡ n
+  pub supports : (i : ℕ) → i < m → edgeSupport es i ≤ 2 * length (s .reference ++ s .bases)
 
 pub record NotBuilt (s : Sample) (v e r : ℕ) : Type 0 where
   pub eight : r ≡ 8
@@ -291,7 +292,7 @@ module _ {s : Sample} {v e : ℕ} {vs es : List ℕ} (x : Builds s v e vs es) wh
         (thread-has (s .k) true (textOf s) 0 (length (s .reference)) 0 0 (record { kmers = []; edges = [] }) (let a = fits-s .k-low in omega arith) (fits-s .low)
         (let y = length-append (s .reference) (s .bases) in omega arith) (spelled-empty (s .k)))))
 
-    pub sink-asks : (length (s .reference) - s .k + s .k ≤ length (textOf s)) × (t .vertices * 12 ≤ length vs') × ((u : ℕ) → u < t .vertices → field vs' 12 u 8 + s .k ≤ length (textOf s))
+    pub sink-asks : (length (s .reference) - s .k + s .k ≤ length (textOf s)) × (HasVertices vs' (t .vertices)) × ((u : ℕ) → u < t .vertices → kmerPlace vs' u + s .k ≤ length (textOf s))
     sink-asks = (place-in, (let a = g .fine .room-v in let b = g .fine .vertices in omega arith), g .fine .good .fits)
 
     module _ (le : length es' ≡ length es) (sink : ℕ) (hs : sink ≡ numberOf (kmersOf (s .k) (textOf s) vs' (t .vertices)) (part (s .k) (textOf s) (length (s .reference) - s .k))) where
@@ -302,10 +303,10 @@ module _ {s : Sample} {v e : ℕ} {vs es : List ℕ} (x : Builds s v e vs es) wh
       sink-in : sink < t .vertices
       sink-in = let z = number-in (threaded s) (part (s .k) (textOf s) (length (s .reference) - s .k)) has-last in let y = count-v in let u : sink ≡ numberOf (threaded s .kmers) (part (s .k) (textOf s) (length (s .reference) - s .k)) = rw kmers-are hs in omega arith
 
-      room-m : t .edges * 6 + 6 ≤ length es'
+      room-m : HasEdge es' (t .edges)
       room-m = let a = g .fine .edges in let b = x .length-e in let c = es-in .0 in omega arith
 
-      pub symbolic-asks : (t .edges * 6 + 6 ≤ length es') × (sink < 2 ^ 32) × (t .vertices < 2 ^ 32) × (length (s .reference) - s .k < 2 ^ 32)
+      pub symbolic-asks : (HasEdge es' (t .edges)) × (sink < 2 ^ 32) × (t .vertices < 2 ^ 32) × (length (s .reference) - s .k < 2 ^ 32)
       symbolic-asks =
           let a = g .fine .vertices in
           let b = g .fine .few-v in

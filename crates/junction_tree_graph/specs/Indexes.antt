@@ -4,6 +4,7 @@ use mathlib.Core.List.{List}
 use Prim.Native.Nat.{ℕ, _+_, _-_, _*_, _^_, _<_, _≤_}
 use native.Mathlib.Omega.{arith}
 use lib.ListN.{length, getD}
+use Rattle.laws.specs.Rows.{rows-none}
 use Rattle.definition.specs.Threading.{numberOf}
 use Rattle.junction_tree_graph.specs.declared.Most.{Most}
 use Rattle.junction_tree_graph.specs.declared.At.{At}
@@ -11,7 +12,7 @@ use Rattle.junction_tree_graph.specs.declared.Step.{Step}
 use Rattle.junction_tree_graph.specs.declared.Step.the-variants.{Next, Refused}
 use Rattle.assembly.specs.Store.{kmersOf, code, code-lt}
 use Rattle.assembly.specs.Moves.{addedV, kmers-added}
-use Rattle.assembly.specs.Kmers.{part, born, kmers-born, length-of, rows-0}
+use Rattle.assembly.specs.Kmers.{part, born, kmers-born, length-of}
 use Rattle.assembly.specs.Index.{sizeOf, Indexed, Finds, Finding, bucketOf, bucket-lt, entered, length-entered, entered-at, index-empty}
 use Rattle.junction_tree_graph.specs.Steps.{Gets}
 
@@ -76,7 +77,7 @@ index-edge k text vs idx most r t h e vs' from b to m d =
 pub index-start : (k : ℕ) (text vs idx : List ℕ) (most : Most) → Fresh (most .vertices + 1) idx → Indexes k text vs idx most 0
 unfolding kmersOf
 index-start k text vs idx most f =
-    record { room = (let z = f .size in omega arith); indexed = rw (rows-0 _) (index-empty k idx (f .zero)) }
+    record { room = (let z = f .size in omega arith); indexed = rw (rows-none _) (index-empty k idx (f .zero)) }
 
 -- ---- the whole
 pub fresh-one : (v : ℕ) (idx : List ℕ) → 1 ≤ v → Fresh v idx → Fresh (v - 1 + 1) idx

@@ -5,6 +5,7 @@ pub mod Starts
 pub mod Stretches
 pub mod Spelling
 pub mod Runs
+pub mod Ahead
 pub mod Reads
 pub mod Usable
 pub mod Bounds

@@ -6,14 +6,11 @@ use mathlib.Core.Option.{Option, none, some}
 use mathlib.Core.List.{List, [], _∷_, _++_}
 use Prim.Native.Nat.{ℕ, zero, suc, _+_, _-_, _*_, _<_, _≤_}
 use native.Mathlib.Omega.{arith}
-use native.Mathlib.Numerals.{add-one}
 use native.Mathlib.Decide.{ℕ-discrete}
-use lib.Dec.{leb}
 use lib.ListN.{length, getD, take, drop, length-append, length-drop}
-use lib.Seq.{drop-cons, drop-drop, length-take-le, drop-append-add, getD-append-add, drop-length}
-use borrow.Author.Tests.{leb-true}
+use lib.Seq.{length-take-le, drop-append-add, drop-length}
 use Rattle.laws.specs.Lists.{lastOr, sole}
-use Rattle.laws.specs.ListLaws.{and-left, and-right}
+use Rattle.junction_tree_graph.specs.Ahead.{from-nil, from-cons, NextEnd, next-end, later, run-inside, run-base}
 use Rattle.definition.specs.Limits.{isBase, rising}
 use Rattle.definition.specs.Stretch.{Stretch, usable, runs, stretchesFrom, kmers}
 use Rattle.definition.specs.Threading.{Edge, Graph, entering, oneStep, put, backward, numberOf, startAt, steps, threadKmers, thread, threadAll}
@@ -161,10 +158,6 @@ module _ {k : ℕ} {text vs es : List ℕ} {most : Most} {s : At} {a len pl : �
   run-done sq l vs' es' (Refused n) c = rw (run-long k (stretchAt text a len sq pl) (graphOf k text vs (s .vertices) es (s .edges)) (rw bytes l)) c
 
 -- ---- a read, from `start` to e of the bases
-pub usable-base : (least b q : ℕ) → usable least b q ≡ true → isBase b ≡ true
-unfolding usable
-usable-base least b q h = and-left (isBase b) (leb least q) h
-
 pub record ReadThreads (k : ℕ) (reference bases quals vs es : List ℕ) (most : Most) (s : At) (start e : ℕ) : Type 0 where
   pub fine : Fine k (reference ++ bases) vs es most s
   pub some : 0 < k
@@ -220,25 +213,16 @@ module _ {k : ℕ} {reference bases quals vs₁ es₁ : List ℕ} {most : Most} 
         }
 
     module _ (l : p < e) {q : ℕ} (r : RunEnd (usable least) bases quals p e q) where
-      inside : length reference + p + (q - p) ≤ length (reference ++ bases)
-      inside = let z = length-append reference bases in let y = r .to in let u = x .in-b in let v = r .from in omega arith
-
-      base-at : (i : ℕ) → i < q - p → isBase (getD (reference ++ bases) (length reference + p + i) 0) ≡ true
-      base-at i h =
-          let z : length reference + p + i ≡ length reference + (p + i) = omega arith in
-          rw (z, getD-append-add reference bases (p + i) 0)
-          (usable-base least (getD bases (p + i) 0) (getD quals (p + i) 0) (r .all (p + i) (omega arith) (let y = r .from in omega arith)))
-
       pub read-run : RunThreads k (reference ++ bases) vs es most s (length reference + p) (q - p) (p - start)
       read-run =
           record {
             fine = b .fine;
             some = x .some;
-            inside = inside;
+            inside = run-inside least reference r (x .in-b);
             small = x .small;
-            bases = base-at;
+            bases = run-base least reference r;
             place = omega arith;
-            steps = (let z = b .counted in let y = inside in omega arith);
+            steps = (let z = b .counted in let y = run-inside least reference r (x .in-b) in omega arith);
           }
 
       -- the run as the text has it is the run as the read has it
@@ -279,24 +263,6 @@ module _ {k : ℕ} {reference bases quals vs₁ es₁ : List ℕ} {most : Most} 
           rw d (over-on most n after whole (rw (← turn) (all-grow k (longOf k (runsAt (usable least) sq start e bases quals (q + 1))) after)) o)
 
 -- ---- all reads
-from-nil : (good : ℕ → ℕ → Bool) (k sq start : ℕ) (bs qs : List ℕ) → stretchesFrom good k sq start [] bs qs ≡ []
-unfolding stretchesFrom
-from-nil good k sq start bs qs = refl
-
-from-cons : (good : ℕ → ℕ → Bool) (k sq start e : ℕ) (es bs qs : List ℕ)
-    → stretchesFrom good k sq start (e ∷ es) bs qs
-    ≡ longOf k (runs good sq 0 (take (e - start) bs) (take (e - start) qs)) ++ stretchesFrom good k (suc sq) e es (drop (e - start) bs) (drop (e - start) qs)
-unfolding stretchesFrom
-from-cons good k sq start e es bs qs = refl
-
-rising-cons : (n e : ℕ) (es : List ℕ) → rising n (e ∷ es) ≡ true → (n ≤ e) × (rising e es ≡ true)
-unfolding rising
-rising-cons n e es h = (leb-true n e (and-left (leb n e) (rising e es) h), and-right (leb n e) (rising e es) h)
-
-rising-last : (n : ℕ) (es : List ℕ) → rising n es ≡ true → n ≤ lastOr n es
-rising-last n [] h = omega arith
-rising-last n (e ∷ es) h = let w = rising-cons n e es h in let y = w .0 in let z = rising-last e es (w .1) in omega arith
-
 pub record ReadsThread (k : ℕ) (reference ends bases quals vs es : List ℕ) (most : Most) (s : At) : Type 0 where
   pub fine : Fine k (reference ++ bases) vs es most s
   pub some : 0 < k
@@ -344,52 +310,40 @@ module _ {k : ℕ} {reference ends bases quals vs₁ es₁ : List ℕ} {most : M
         }
 
     module _ (l : j < length ends) (e : ℕ) (he : e ≡ getD ends j 0) where
-      split : drop j ends ≡ e ∷ drop (j + 1) ends
-      split = rw (add-one j, he) (drop-cons ends j 0 l)
+      next : NextEnd ends (length bases) start j e
+      next = next-end ends (length bases) start j e (b .rises) (b .last) l he
 
-      rises : (start ≤ e) × (rising (e) (drop (j + 1) ends) ≡ true)
-      rises = rising-cons start (e) (drop (j + 1) ends) (rw split at (b .rises))
-
-      last : lastOr (e) (drop (j + 1) ends) ≡ length bases
-      last = rw split at (b .last)
-
-      pub reads-inside : e ≤ length bases
-      reads-inside = let z = rising-last (e) (drop (j + 1) ends) (rises .1) in let y = last in omega arith
-
-      pub reads-read : ReadThreads k reference bases quals vs es most s start (e)
+      pub reads-read : ReadThreads k reference bases quals vs es most s start e
       reads-read =
           record {
             fine = b .fine;
             some = x .some;
-            order = rises .0;
-            in-b = reads-inside;
-            in-q = (let z = x .quals-b in let y = reads-inside in omega arith);
+            order = next .order;
+            in-b = next .inside;
+            in-q = (let z = x .quals-b in let y = next .inside in omega arith);
             small = x .small;
             steps = b .counted;
           }
 
       abbrev read : Graph
-      read = threadAll k (readOf k least bases quals (j + 1) start (e)) (graphOf k (reference ++ bases) vs (s .vertices) es (s .edges))
+      read = threadAll k (readOf k least bases quals (j + 1) start e) (graphOf k (reference ++ bases) vs (s .vertices) es (s .edges))
 
-      later : (q : List ℕ) → drop (e - start) (drop start q) ≡ drop (e) q
-      later q = drop-drop (e - start) start q ∙ ap (λ (n : ℕ). drop n q) (let z : start + (e - start) ≡ e = (let y = rises .0 in omega arith) in z)
-
-      onward : threadAll k (stretchesFrom (usable least) k (j + 1 + 1) (e) (drop (j + 1) ends) (drop (e) bases) (drop (e) quals)) read ≡ all-of
+      onward : threadAll k (stretchesFrom (usable least) k (j + 1 + 1) e (drop (j + 1) ends) (drop e bases) (drop e quals)) read ≡ all-of
       onward =
           let n : j + 1 + 1 ≡ suc (j + 1) = omega arith in
-          rw (n, ← later bases, ← later quals)
-          (sym (all-append k (readOf k least bases quals (j + 1) start (e)) (stretchesFrom (usable least) k (suc (j + 1)) (e) (drop (j + 1) ends) (drop (e - start) (drop start bases)) (drop (e - start) (drop start quals))) (graphOf k (reference ++ bases) vs (s .vertices) es (s .edges)))
-          ∙ ap (λ (l : List Stretch). threadAll k l (graphOf k (reference ++ bases) vs (s .vertices) es (s .edges))) (sym (from-cons (usable least) k (j + 1) start (e) (drop (j + 1) ends) (drop start bases) (drop start quals)))
-          ∙ (rw split at (b .run)))
+          rw (n, ← later start e bases (next .order), ← later start e quals (next .order))
+          (sym (all-append k (readOf k least bases quals (j + 1) start e) (stretchesFrom (usable least) k (suc (j + 1)) e (drop (j + 1) ends) (drop (e - start) (drop start bases)) (drop (e - start) (drop start quals))) (graphOf k (reference ++ bases) vs (s .vertices) es (s .edges)))
+          ∙ ap (λ (l : List Stretch). threadAll k l (graphOf k (reference ++ bases) vs (s .vertices) es (s .edges))) (sym (from-cons (usable least) k (j + 1) start e (drop (j + 1) ends) (drop start bases) (drop start quals)))
+          ∙ (rw (next .split) at (b .run)))
 
       pub reads-next : (vs' es' : List ℕ) (s' : At) (a : Step) → Threaded k (reference ++ bases) vs' es' most (2 * (length reference + e)) a read → a ≡ Next s' → length vs' ≡ length vs → length es' ≡ length es
-          → ReadsLeft k least reference ends bases quals most vs₁ es₁ s₁ vs' es' s' (e) (j + 1)
+          → ReadsLeft k least reference ends bases quals most vs₁ es₁ s₁ vs' es' s' e (j + 1)
       reads-next vs' es' s' a c d lv le =
           let u : CameG k (reference ++ bases) vs' es' most s' (2 * (length reference + e)) read = rw d at c in
           record {
             within = omega arith;
-            rises = rises .1;
-            last = last;
+            rises = next .rises;
+            last = next .last;
             counted = u .counted;
             same-v = lv ∙ b .same-v;
             same-e = le ∙ b .same-e;
@@ -401,4 +355,4 @@ module _ {k : ℕ} {reference ends bases quals vs₁ es₁ : List ℕ} {most : M
           → Threaded k (reference ++ bases) vs' es' most c' a all-of
       reads-stop vs' es' n a c' c d =
           let o : OverG most n read = rw d at c in
-          rw d (over-on most n read all-of (rw (← onward) (all-grow k (stretchesFrom (usable least) k (j + 1 + 1) (e) (drop (j + 1) ends) (drop (e) bases) (drop (e) quals)) read)) o)
+          rw d (over-on most n read all-of (rw (← onward) (all-grow k (stretchesFrom (usable least) k (j + 1 + 1) e (drop (j + 1) ends) (drop e bases) (drop e quals)) read)) o)

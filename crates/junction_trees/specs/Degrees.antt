@@ -1,7 +1,7 @@
 -- What the eight slots of a vertex say of its out-edges: how many there are, and whether a target has two or more in-edges. Assumes nothing.
 use mathlib.Core.Path.{_≡_, refl, sym, ap, _∙_}
 use mathlib.Core.Logic.{_≢_}
-use mathlib.Core.Bool.{Bool, true, false, _&&_, _||_, cond}
+use mathlib.Core.Bool.{Bool, true, false, _&&_, cond, or-false}
 use mathlib.Core.Option.{none, some}
 use mathlib.Core.List.{List, [], _∷_}
 use Prim.Native.Nat.{ℕ, zero, suc, _+_, _-_, _/_, _%_, _<_, _≤_}
@@ -13,9 +13,9 @@ use lib.ListN.{length}
 use borrow.Author.Tests.{eqb-true, eq-eqb, ne-eqb, lt-ltb, le-ltb, le-leb, lt-leb}
 use Rattle.laws.specs.Lists.{find}
 use Rattle.laws.specs.ListLaws.{clash}
-use Rattle.laws.specs.Records.{field}
 use Rattle.definition.specs.Threading.{Edge, leaving, entering, follow}
 use Rattle.definition.specs.Evidence.{opens}
+use Rattle.assembly.specs.Fields.{vertexField, outEdge, incomingCount, edgeFrom, edgeTo}
 use Rattle.assembly.specs.Table.{count, count-0, count-more, length-keep}
 use Rattle.assembly.specs.Store.{edgeAt, edgesOf, graphOf, lastOf, code, code-lt, Good, good-distinct, follow-some, in-degree}
 
@@ -61,7 +61,7 @@ tally-one p (suc c) e l h u = go (ℕ-discrete e c) (λ k. tally-one p c e k h (
 
 -- ---- the slots of v that name an edge, among the first c
 pub slotsFull : List ℕ → ℕ → ℕ → ℕ
-slotsFull vs v c = tallyTo (λ d. ltb 0 (field vs 12 v d)) c
+slotsFull vs v c = tallyTo (λ d. ltb 0 (vertexField vs v d)) c
 
 -- after c slots
 pub record Counted (vs : List ℕ) (v c n : ℕ) : Type 0 where
@@ -74,24 +74,24 @@ module _ (vs : List ℕ) (v : ℕ) where
   unfolding slotsFull tallyTo
   counted-start = record { within = omega arith; few = omega arith; is = refl }
 
-  pub counted-yes : (c n x n' : ℕ) → Counted vs v c n → c < 8 → x ≡ field vs 12 v c → 0 < x → n' ≡ n + 1 → Counted vs v (c + 1) n'
+  pub counted-yes : (c n x n' : ℕ) → Counted vs v c n → c < 8 → x ≡ outEdge vs v c → 0 < x → n' ≡ n + 1 → Counted vs v (c + 1) n'
   unfolding slotsFull tallyTo
   counted-yes c n x n' k l e h w =
       let i = k .is in
       let f = k .few in
-      record { within = omega arith; few = omega arith; is = rw (add-one c, lt-ltb 0 (field vs 12 v c) (omega arith)) (omega arith) }
+      record { within = omega arith; few = omega arith; is = rw (add-one c, lt-ltb 0 (outEdge vs v c) (omega arith)) (omega arith) }
 
-  pub counted-no : (c n x n' : ℕ) → Counted vs v c n → c < 8 → x ≡ field vs 12 v c → x ≤ 0 → n' ≡ n → Counted vs v (c + 1) n'
+  pub counted-no : (c n x n' : ℕ) → Counted vs v c n → c < 8 → x ≡ outEdge vs v c → x ≤ 0 → n' ≡ n → Counted vs v (c + 1) n'
   unfolding slotsFull tallyTo
   counted-no c n x n' k l e h w =
       let i = k .is in
       let f = k .few in
-      record { within = omega arith; few = omega arith; is = rw (add-one c, le-ltb 0 (field vs 12 v c) (omega arith)) (omega arith) }
+      record { within = omega arith; few = omega arith; is = rw (add-one c, le-ltb 0 (outEdge vs v c) (omega arith)) (omega arith) }
 
 -- ---- counted edge by edge: the slots that name one of the first j edges
 module _ {k : ℕ} {text vs : List ℕ} {n : ℕ} {es : List ℕ} {m : ℕ} (g : Good k text vs n es m) (v : ℕ) (hv : v < n) where
   abbrev at : ℕ → ℕ
-  at d = field vs 12 v d
+  at d = vertexField vs v d
 
   abbrev upTo : ℕ → ℕ → Bool
   upTo j d = ltb 0 (at d) && leb (at d) j
@@ -109,25 +109,25 @@ module _ {k : ℕ} {text vs : List ℕ} {n : ℕ} {es : List ℕ} {m : ℕ} (g :
 
   -- edge j is named by just one slot of v where it leaves v, and by none where it does not
   hits : (j : ℕ) → j < m → tallyTo (hit j) 8 ≡ cond (eqb (edgeAt es j .ends .from) v) 1 0
-  hits j h = go (eqb (field es 6 j 0) v) refl
+  hits j h = go (eqb (edgeFrom es j) v) refl
     where
-      low : (d : ℕ) → d < 8 → hit j d ≡ true → (field es 6 j 0 ≡ v) × (code (lastOf k text vs n (field es 6 j 1)) ≡ d)
+      low : (d : ℕ) → d < 8 → hit j d ≡ true → (edgeFrom es j ≡ v) × (code (lastOf k text vs n (edgeTo es j)) ≡ d)
       low d l e =
           let a : at d ≡ suc j = eqb-true (at d) (suc j) e in
           let w = g .full v d hv l (omega arith) in
           let z : at d - 1 ≡ j = omega arith in
           (rw z at (w .1), rw z at (w .2))
 
-      none-of : (d : ℕ) → d < 8 → eqb (field es 6 j 0) v ≡ false → (b : Bool) → hit j d ≡ b → b ≡ false
-      none-of d l f true e = clash (sym (eq-eqb (field es 6 j 0) v (low d l e .0)) ∙ f)
+      none-of : (d : ℕ) → d < 8 → eqb (edgeFrom es j) v ≡ false → (b : Bool) → hit j d ≡ b → b ≡ false
+      none-of d l f true e = clash (sym (eq-eqb (edgeFrom es j) v (low d l e .0)) ∙ f)
       none-of d l f false e = refl
 
-      go : (b : Bool) → eqb (field es 6 j 0) v ≡ b → tallyTo (hit j) 8 ≡ cond b 1 0
+      go : (b : Bool) → eqb (edgeFrom es j) v ≡ b → tallyTo (hit j) 8 ≡ cond b 1 0
       go true f =
-          let w : field es 6 j 0 ≡ v = eqb-true (field es 6 j 0) v f in
-          let s : at (code (lastOf k text vs n (field es 6 j 1))) ≡ j + 1 = rw w at (g .slot j h) in
-          tally-one (hit j) 8 (code (lastOf k text vs n (field es 6 j 1))) (code-lt (lastOf k text vs n (field es 6 j 1)))
-          (eq-eqb (at (code (lastOf k text vs n (field es 6 j 1)))) (suc j) (omega arith)) (λ d l e. sym (low d l e .1))
+          let w : edgeFrom es j ≡ v = eqb-true (edgeFrom es j) v f in
+          let s : at (code (lastOf k text vs n (edgeTo es j))) ≡ j + 1 = rw w at (g .slot j h) in
+          tally-one (hit j) 8 (code (lastOf k text vs n (edgeTo es j))) (code-lt (lastOf k text vs n (edgeTo es j)))
+          (eq-eqb (at (code (lastOf k text vs n (edgeTo es j)))) (suc j) (omega arith)) (λ d l e. sym (low d l e .1))
       go false f = tally-none (hit j) 8 (λ d l. none-of d l f (hit j d) refl)
 
   so-far : (j : ℕ) → j ≤ m → tallyTo (upTo j) 8 ≡ count (λ d. eqb (d .from) v) (edgeAt es) j
@@ -166,14 +166,14 @@ find-only t (x ∷ []) a e h = go (t x) refl
     go false u = let y : none ≡ some a = rw (u, find) at e in let z : _≡_ {A = ℕ} 0 1 = cc in absurd (omega arith)
 
 -- edge i leaves v, which has no other
-only-edge : {k : ℕ} {text vs : List ℕ} {n : ℕ} {es : List ℕ} {m : ℕ} → Good k text vs n es m → (v i : ℕ) → i < m → field es 6 i 0 ≡ v → length (leaving (edgesOf es m) v) ≤ 1
+only-edge : {k : ℕ} {text vs : List ℕ} {n : ℕ} {es : List ℕ} {m : ℕ} → Good k text vs n es m → (v i : ℕ) → i < m → edgeFrom es i ≡ v → length (leaving (edgesOf es m) v) ≤ 1
     → leaving (edgesOf es m) v ≡ edgeAt es i ∷ []
 unfolding follow graphOf
 only-edge {k = k} {text = text} {vs = vs} {n = n} {es = es} {m = m} g v i h e l =
-    let b = lastOf k text vs n (field es 6 i 1) in
-    let s : field vs 12 v (code b) ≡ i + 1 = rw e at (g .slot i h) in
+    let b = lastOf k text vs n (edgeTo es i) in
+    let s : outEdge vs v (code b) ≡ i + 1 = rw e at (g .slot i h) in
     let z : i + 1 - 1 ≡ i = omega arith in
-    let f = follow-some g v b (rw (← e) (g .from-in i h)) (g .base (field es 6 i 1) (g .to-in i h)) (omega arith) in
+    let f = follow-some g v b (rw (← e) (g .from-in i h)) (g .base (edgeTo es i) (g .to-in i h)) (omega arith) in
     find-only _ (leaving (edgesOf es m) v) (edgeAt es i) (rw (s, z) at f) l
 
 -- ---- what the code answers, whatever graph the tables hold
@@ -189,30 +189,26 @@ counted-end vs v c r k h =
 
 -- edge i leaves v, which has `outs` out-edges, and enters `to`
 pub record Warrants (vs : List ℕ) (outs to : ℕ) (r : Bool) : Type 0 where
-  pub is : {k : ℕ} {text : List ℕ} {n : ℕ} {es : List ℕ} {m : ℕ} → Good k text vs n es m → (v i : ℕ) → i < m → field es 6 i 0 ≡ v → field es 6 i 1 ≡ to
+  pub is : {k : ℕ} {text : List ℕ} {n : ℕ} {es : List ℕ} {m : ℕ} → Good k text vs n es m → (v i : ℕ) → i < m → edgeFrom es i ≡ v → edgeTo es i ≡ to
       → outs ≡ length (leaving (edgesOf es m) v) → r ≡ opens (edgesOf es m) v
 
 pub warrants-many : (vs : List ℕ) (outs to : ℕ) → 1 < outs → Warrants vs outs to true
 unfolding opens
 warrants-many vs outs to h = record { is = λ {k} {text} {n} {es} {m} g v i l e f o. rw (lt-ltb 1 (length (leaving (edgesOf es m) v)) (omega arith)) }
 
-or-false : (b : Bool) → b ≡ (b || false)
-or-false true = refl
-or-false false = refl
-
 few-is : (es : List Edge) (v : ℕ) (x : Edge) → leaving es v ≡ x ∷ [] → (ins : ℕ) → ins ≡ length (entering es (x .ends .to)) → ltb 1 ins ≡ opens es v
 unfolding opens
-few-is es v x h ins e = rw (h, e) (or-false (ltb 1 (length (entering es (x .ends .to)))))
+few-is es v x h ins e = rw (h, e) (sym (or-false (ltb 1 (length (entering es (x .ends .to))))))
 
-pub warrants-few : (vs : List ℕ) (outs to ins : ℕ) → outs ≤ 1 → ins ≡ field vs 12 to 9 → Warrants vs outs to (ltb 1 ins)
+pub warrants-few : (vs : List ℕ) (outs to ins : ℕ) → outs ≤ 1 → ins ≡ incomingCount vs to → Warrants vs outs to (ltb 1 ins)
 warrants-few vs outs to ins h e = record { is = go }
   where
-    go : {k : ℕ} {text : List ℕ} {n : ℕ} {es : List ℕ} {m : ℕ} → Good k text vs n es m → (v i : ℕ) → i < m → field es 6 i 0 ≡ v → field es 6 i 1 ≡ to
+    go : {k : ℕ} {text : List ℕ} {n : ℕ} {es : List ℕ} {m : ℕ} → Good k text vs n es m → (v i : ℕ) → i < m → edgeFrom es i ≡ v → edgeTo es i ≡ to
         → outs ≡ length (leaving (edgesOf es m) v) → ltb 1 ins ≡ opens (edgesOf es m) v
     go {es = es} {m = m} g v i l f t o =
-        few-is (edgesOf es m) v (edgeAt es i) (only-edge g v i l f (omega arith)) ins (e ∙ sym (ap (λ (u : ℕ). field vs 12 u 9) t) ∙ sym (in-degree g (field es 6 i 1) (g .to-in i l)))
+        few-is (edgesOf es m) v (edgeAt es i) (only-edge g v i l f (omega arith)) ins (e ∙ sym (ap (λ (u : ℕ). incomingCount vs u) t) ∙ sym (in-degree g (edgeTo es i) (g .to-in i l)))
 
 -- the slot for the base at a place
-pub next-edge-is : (vs : List ℕ) (v r b y : ℕ) → r ≡ field vs 12 v (b / 2 % 8) → b ≡ y → (z : ℕ) → y ≡ z → r ≡ field vs 12 v (code z)
+pub next-edge-is : (vs : List ℕ) (v r b y : ℕ) → r ≡ vertexField vs v (b / 2 % 8) → b ≡ y → (z : ℕ) → y ≡ z → r ≡ outEdge vs v (code z)
 unfolding code
-next-edge-is vs v r b y h e z f = h ∙ ap (λ (t : ℕ). field vs 12 v (t / 2 % 8)) (e ∙ f)
+next-edge-is vs v r b y h e z f = h ∙ ap (λ (t : ℕ). vertexField vs v (t / 2 % 8)) (e ∙ f)

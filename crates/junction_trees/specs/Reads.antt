@@ -4,20 +4,19 @@ use mathlib.Core.Bool.{Bool, true, false}
 use mathlib.Core.List.{List, [], _∷_, _++_}
 use Prim.Native.Nat.{ℕ, suc, _+_, _-_, _^_, _<_, _≤_}
 use native.Mathlib.Omega.{arith}
-use native.Mathlib.Numerals.{add-one}
 use lib.Dec.{leb}
 use lib.ListN.{length, getD, take, drop, length-append, length-drop}
-use lib.Seq.{drop-cons, drop-drop, length-take-le, drop-append-add, getD-append-add, drop-length}
-use borrow.Author.Tests.{leb-true, leb-false}
+use lib.Seq.{length-take-le, drop-append-add, drop-length}
+use borrow.Author.Tests.{leb-false}
 use Rattle.laws.specs.Lists.{lastOr}
-use Rattle.laws.specs.ListLaws.{and-left, and-right}
-use Rattle.definition.specs.Limits.{isBase, rising}
+use Rattle.definition.specs.Limits.{rising}
 use Rattle.definition.specs.Stretch.{Stretch, usable, runs, stretchesFrom}
 use Rattle.definition.specs.Threading.{Ends, Graph}
 use Rattle.definition.specs.Evidence.{Tree, walkStretch, walkAll, nodes}
 use Rattle.junction_tree_graph.specs.Stretches.{stretchAt}
 use Rattle.junction_tree_graph.specs.Runs.{longOf, runsAt, runsAt-start, RunEnd, run-ahead}
-use Rattle.junction_tree_graph.specs.Reads.{usable-base, readOf, readsOf}
+use Rattle.junction_tree_graph.specs.Reads.{readOf, readsOf}
+use Rattle.junction_tree_graph.specs.Ahead.{from-nil, from-cons, NextEnd, next-end, later, run-inside, run-base}
 use Rattle.threading_tree.specs.Grows.{all-grows}
 use Rattle.junction_trees.specs.declared.Ground.{Ground}
 use Rattle.junction_trees.specs.declared.Evidence.{Evidence}
@@ -149,13 +148,7 @@ module _ {d : Ground} {reference bases quals vs₁ es x₁ op₁ : List ℕ} {st
 
     module _ (l : p < e) {q : ℕ} (r : RunEnd (usable least) bases quals p e q) where
       inside : length reference + p + (q - p) ≤ length (reference ++ bases)
-      inside = let z = length-append reference bases in let u = r .to in let w = y .in-b in let v = r .from in omega arith
-
-      base-at : (i : ℕ) → i < q - p → isBase (getD (reference ++ bases) (length reference + p + i) 0) ≡ true
-      base-at i h =
-          let z : length reference + p + i ≡ length reference + (p + i) = omega arith in
-          rw (z, getD-append-add reference bases (p + i) 0)
-          (usable-base least (getD bases (p + i) 0) (getD quals (p + i) 0) (r .all (p + i) (omega arith) (let u = r .from in omega arith)))
+      inside = run-inside least reference r (y .in-b)
 
       pub read-fits : length reference + p < 2 ^ 64
       read-fits = let z = inside in let u = y .sound .small in omega arith
@@ -170,7 +163,7 @@ module _ {d : Ground} {reference bases quals vs₁ es x₁ op₁ : List ℕ} {st
             trees = b 0 .walked (y .trees);
             state = state-more (length reference + p) (b 0 .low) (b 0 .is (y .trees) (y .state));
             inside = inside;
-            bases = base-at;
+            bases = run-base least reference r;
           }
 
       graph-now : groundOf d (reference ++ bases) vs es ≡ groundOf d (reference ++ bases) vs₁ es
@@ -224,24 +217,6 @@ module _ {d : Ground} {reference bases quals vs₁ es x₁ op₁ : List ℕ} {st
                 omega arith
 
 -- ---- all reads
-from-nil : (good : ℕ → ℕ → Bool) (k sq start : ℕ) (bs qs : List ℕ) → stretchesFrom good k sq start [] bs qs ≡ []
-unfolding stretchesFrom
-from-nil good k sq start bs qs = refl
-
-from-cons : (good : ℕ → ℕ → Bool) (k sq start e : ℕ) (es bs qs : List ℕ)
-    → stretchesFrom good k sq start (e ∷ es) bs qs
-    ≡ longOf k (runs good sq 0 (take (e - start) bs) (take (e - start) qs)) ++ stretchesFrom good k (suc sq) e es (drop (e - start) bs) (drop (e - start) qs)
-unfolding stretchesFrom
-from-cons good k sq start e es bs qs = refl
-
-rising-cons : (n e : ℕ) (es : List ℕ) → rising n (e ∷ es) ≡ true → (n ≤ e) × (rising e es ≡ true)
-unfolding rising
-rising-cons n e es h = (leb-true n e (and-left (leb n e) (rising e es) h), and-right (leb n e) (rising e es) h)
-
-rising-last : (n : ℕ) (es : List ℕ) → rising n es ≡ true → n ≤ lastOr n es
-rising-last n [] h = omega arith
-rising-last n (e ∷ es) h = let w = rising-cons n e es h in let y = w .0 in let z = rising-last e es (w .1) in omega arith
-
 pub record ReadsWalk (d : Ground) (reference ends bases quals vs es x op : List ℕ) (count : ℕ) : Type 0 where
   pub sound : Sound d (reference ++ bases) vs es
   pub trees : List Tree
@@ -307,17 +282,8 @@ module _ {d : Ground} {reference ends bases quals vs₁ es x₁ op₁ : List ℕ
             ∙ (rw f at (b .run ts))
 
     module _ (l : j < length ends) (e : ℕ) (he : e ≡ getD ends j 0) where
-      split : drop j ends ≡ e ∷ drop (j + 1) ends
-      split = rw (add-one j, he) (drop-cons ends j 0 l)
-
-      rises : (start ≤ e) × (rising e (drop (j + 1) ends) ≡ true)
-      rises = rising-cons start e (drop (j + 1) ends) (rw split at (b .rises))
-
-      last : lastOr e (drop (j + 1) ends) ≡ length bases
-      last = rw split at (b .last)
-
-      reads-inside : e ≤ length bases
-      reads-inside = let z = rising-last e (drop (j + 1) ends) (rises .1) in let u = last in omega arith
+      next : NextEnd ends (length bases) start j e
+      next = next-end ends (length bases) start j e (b .rises) (b .last) l he
 
       pub reads-read : ReadWalks d reference bases quals vs es x op start e c
       reads-read =
@@ -325,9 +291,9 @@ module _ {d : Ground} {reference ends bases quals vs₁ es x₁ op₁ : List ℕ
             sound = sound-kept (b .frame .kept) (y .sound);
             trees = b .walked (y .trees);
             state = b .is (y .trees) (y .state);
-            order = rises .0;
-            in-b = reads-inside;
-            in-q = (let z = y .quals-b in let u = reads-inside in omega arith);
+            order = next .order;
+            in-b = next .inside;
+            in-q = (let z = y .quals-b in let u = next .inside in omega arith);
           }
 
       graph-there : groundOf d (reference ++ bases) vs es ≡ groundOf d (reference ++ bases) vs₁ es
@@ -336,17 +302,14 @@ module _ {d : Ground} {reference ends bases quals vs₁ es x₁ op₁ : List ℕ
       abbrev read : List Tree → List Tree
       read ts = walksOf d (reference ++ bases) vs es (readOf (d .k) least bases quals (j + 1) start e) ts
 
-      later : (q : List ℕ) → drop (e - start) (drop start q) ≡ drop e q
-      later q = drop-drop (e - start) start q ∙ ap (λ (n : ℕ). drop n q) (let z : start + (e - start) ≡ e = (let u = rises .0 in omega arith) in z)
-
       onward : (ts : List Tree)
           → walksOf d (reference ++ bases) vs₁ es (stretchesFrom (usable least) (d .k) (j + 1 + 1) e (drop (j + 1) ends) (drop e bases) (drop e quals)) (read (b .walked ts)) ≡ all-of ts
       onward ts =
           let n : j + 1 + 1 ≡ suc (j + 1) = omega arith in
-          rw (graph-there, n, ← later bases, ← later quals)
+          rw (graph-there, n, ← later start e bases (next .order), ← later start e quals (next .order))
           (sym (all-append (d .k) G' (d .sink) (symbolicEnds d) (readOf (d .k) least bases quals (j + 1) start e) (stretchesFrom (usable least) (d .k) (suc (j + 1)) e (drop (j + 1) ends) (drop (e - start) (drop start bases)) (drop (e - start) (drop start quals))) (b .walked ts))
           ∙ ap (λ (l : List Stretch). walksOf d (reference ++ bases) vs₁ es l (b .walked ts)) (sym (from-cons (usable least) (d .k) (j + 1) start e (drop (j + 1) ends) (drop start bases) (drop start quals)))
-          ∙ (rw split at (b .run ts)))
+          ∙ (rw (next .split) at (b .run ts)))
 
       module _ (vs' x' op' : List ℕ) (a : Evidence)
           (k : (q : ℕ) → Walking (walksOf d (reference ++ bases) vs es (readOf (d .k) least bases quals q start e)) d (length reference + start) (length reference + e) c vs vs' x x' op op' a) where
@@ -355,8 +318,8 @@ module _ {d : Ground} {reference ends bases quals vs₁ es x₁ op₁ : List ℕ
             let k' : Walking (walksOf d (reference ++ bases) vs es (readOf (d .k) least bases quals (j + 1) start e)) d (length reference + start) (length reference + e) c vs vs' x x' op op' (Trees c') = rw f at (k (j + 1)) in
             record {
               within = omega arith;
-              rises = rises .1;
-              last = last;
+              rises = next .rises;
+              last = next .last;
               frame = frame-on (b .frame) (k' .frame);
               size-x = lx ∙ b .size-x;
               size-op = lo ∙ b .size-op;

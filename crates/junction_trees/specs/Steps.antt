@@ -9,9 +9,9 @@ use native.Mathlib.Decide.{ℕ-discrete}
 use lib.Dec.{eqb}
 use lib.ListN.{length}
 use borrow.Author.Tests.{eq-eqb, ne-eqb}
-use Rattle.laws.specs.Records.{field, putField}
 use Rattle.definition.specs.Threading.{Ends, Graph, leaving}
 use Rattle.definition.specs.Evidence.{Walk, takeEdge, pass, walkBases, nodes}
+use Rattle.assembly.specs.Fields.{HasVertex, treeRoot, putTreeRoot, HasEdges, HasEdge, edgeFrom, edgeTo}
 use Rattle.assembly.specs.Store.{edgeAt, edgesOf, Good}
 use Rattle.threading_tree.specs.Ends.{ends}
 use Rattle.threading_tree.specs.Slots.{cols, told, Beyond}
@@ -19,8 +19,8 @@ use Rattle.threading_tree.specs.Good.{slot-live}
 use Rattle.threading_tree.specs.All.{grownRefusal, Walking as Asks, TookAll}
 use Rattle.threading_tree.specs.Join.{joinedRefusal}
 use Rattle.threading_tree.specs.Held.{HeldWalk, held-under, held-few, held-walking, held-takes, held-full}
-use Rattle.threading_tree.specs.Grows.{many, open-many, take-many, bound-step}
-use Rattle.threading_tree.specs.Pass.{openWhere, takeUnless, pass-is, Stepping, Steps, passing}
+use Rattle.threading_tree.specs.Grows.{many, take-many, bound-step}
+use Rattle.threading_tree.specs.Pass.{openWhere, takeUnless, pass-is, Stepping, Steps, passing, where-many}
 use Rattle.threading_tree.specs.declared.ThreadingState.{ThreadingState}
 use Rattle.threading_tree.specs.declared.Grown.{Grown}
 use Rattle.threading_tree.specs.declared.Grown.the-variants.{Nodes as Many, Refused as Stopped}
@@ -37,8 +37,8 @@ use Rattle.junction_trees.specs.Roots.{rootOf, Kept, kept-self, kept-on,
 pub record Sound (d : Ground) (text vs es : List ℕ) : Type 0 where
   pub good : Good (d .k) text vs (d .vertices) es (d .edges)
   pub some : 0 < d .k
-  pub room-v : d .vertices * 12 + 12 ≤ length vs
-  pub room-e : d .edges * 6 ≤ length es
+  pub room-v : HasVertex vs (d .vertices)
+  pub room-e : HasEdges es (d .edges)
   pub few : d .vertices < 2 ^ 16
   pub sink : d .sink < d .vertices
   pub small : length text ≤ 33792
@@ -92,7 +92,7 @@ pub record Passing (d : Ground) (s : Way) (i : ℕ) (vs es x op : List ℕ) : Ty
   pub state : State d walk steps (s .nodes) (s .groups) vs x op
   pub low : steps ≤ 33792
   pub edge : i < d .edges
-  pub from : field es 6 i 0 ≡ s .here
+  pub from : edgeFrom es i ≡ s .here
 
 abbrev pub walkedRefusal : Walked → ℕ
 walkedRefusal (Next t) = 0
@@ -106,7 +106,7 @@ PassedTo d i w p vs es x op (Next t) = State d (passOf d es i w) (suc p) (t .nod
 PassedTo d i w p vs es x op (Refused r) = (r ≡ 9) × (d .most < many (passOf d es i w))
 
 abbrev pub Arrives : List ℕ → ℕ → Walked → Type 0
-Arrives es i (Next t) = t .here ≡ field es 6 i 1
+Arrives es i (Next t) = t .here ≡ edgeTo es i
 Arrives es i (Refused r) = Unit {0}
 
 pub record Passed (d : Ground) (s : Way) (i : ℕ) (vs vs' es x x' op op' : List ℕ) (r : Walked) : Type 0 where
@@ -119,29 +119,24 @@ unfolding takeUnless
 unless-many true e w = refl
 unless-many false e w = take-many e w
 
-where-many : (o : Bool) (v : ℕ) (w : Walk) → length (openWhere o v w .opened) ≤ length (w .opened) + 1
-unfolding openWhere
-where-many true v w = let a = open-many v w in omega arith
-where-many false v w = omega arith
-
 module _ {d : Ground} {s : Way} {i : ℕ} {vs es x op : List ℕ} (q : Passing d s i vs es x op) where
   here-in : s .here < d .vertices
   here-in = rw (← q .from) (q .sound .good .from-in i (q .edge))
 
-  pub pass-row : s .here * 12 + 12 ≤ length vs
+  pub pass-row : HasVertex vs (s .here)
   pass-row = let a = here-in in let b = q .sound .room-v in omega arith
 
-  pub pass-edge-in : i * 6 + 6 ≤ length es
+  pub pass-edge-in : HasEdge es i
   pass-edge-in = let a = q .edge in let b = q .sound .room-e in omega arith
 
   pub pass-here-fits : s .here < 2 ^ 32
   pass-here-fits = let a = here-in in let b = q .sound .few in omega arith
 
-  module _ (to : ℕ) (ht : to ≡ field es 6 i 1) where
+  module _ (to : ℕ) (ht : to ≡ edgeTo es i) where
     to-in : to < d .vertices
     to-in = rw ht (q .sound .good .to-in i (q .edge))
 
-    pub pass-to-row : to * 12 + 12 ≤ length vs
+    pub pass-to-row : HasVertex vs to
     pass-to-row = let a = to-in in let b = q .sound .room-v in omega arith
 
     pub pass-to-fits : to < 2 ^ 32
@@ -150,7 +145,7 @@ module _ {d : Ground} {s : Way} {i : ℕ} {vs es x op : List ℕ} (q : Passing d
     ends-are : edgeAt es i .ends ≡ ends (s .here) to
     ends-are = rw (ht, q .from)
 
-    module _ (root : ℕ) (hr : root ≡ field vs 12 (s .here) 11) where
+    module _ (root : ℕ) (hr : root ≡ treeRoot vs (s .here)) where
       abbrev told-of : ThreadingState
       told-of = record { nodes = s .nodes; groups = s .groups; root = root }
 
@@ -185,10 +180,10 @@ module _ {d : Ground} {s : Way} {i : ℕ} {vs es x op : List ℕ} (q : Passing d
 
         -- the walk has gone on, whatever is kept as the root
         module _ (h : ThreadingState) (e : r ≡ Holds h) where
-          went : (w : Walk) (p : ℕ) → State d w p (s .nodes) (s .groups) vs x op → State d (passOf d es i w) (suc p) (h .nodes) (h .groups) (putField vs 12 (s .here) 11 (h .root)) x' op'
+          went : (w : Walk) (p : ℕ) → State d w p (s .nodes) (s .groups) vs x op → State d (passOf d es i w) (suc p) (h .nodes) (h .groups) (putTreeRoot vs (s .here) (h .root)) x' op'
           went w p st =
               let k' : Steps (λ u. takeUnless (eqb outs 1) (ends (s .here) to) (openWhere o (s .here) u)) passing (d .most) (s .here) told-of x x' op op' (Holds h) = rw e at k in
-              let c = k' .is w (p * suc p) (rootOf vs) (st .held) (sym hr) (rootOf (putField vs 12 (s .here) 11 (h .root))) (root-same vs (s .here) (h .root) pass-row)
+              let c = k' .is w (p * suc p) (rootOf vs) (st .held) (sym hr) (rootOf (putTreeRoot vs (s .here) (h .root))) (root-same vs (s .here) (h .root) pass-row)
               (λ u z. root-other vs (s .here) (h .root) u z) in
               let f = st .few in
               let b = bound-step p (p * suc p) (length (w .opened)) (omega arith) f in
@@ -202,14 +197,14 @@ module _ {d : Ground} {s : Way} {i : ℕ} {vs es x op : List ℕ} (q : Passing d
               let g = went (q .walk) (q .steps) (q .state) .held in
               let y = root-same vs (s .here) (h .root) pass-row in
               go (ℕ-discrete (h .root) 0) y (g .room) (g .wide .few)
-              (λ z. slot-live (cols x') (cols x') (h .nodes) 0 (ends 0 0) (rootOf (putField vs 12 (s .here) 11 (h .root)) (s .here)) (g .good) (g .rooted (s .here) z))
+              (λ z. slot-live (cols x') (cols x') (h .nodes) 0 (ends 0 0) (rootOf (putTreeRoot vs (s .here) (h .root)) (s .here)) (g .good) (g .rooted (s .here) z))
             where
-              go : Dec (h .root ≡ 0) → rootOf (putField vs 12 (s .here) 11 (h .root)) (s .here) ≡ h .root → h .nodes ≤ d .most → d .most < 2 ^ 32
-                  → ((rootOf (putField vs 12 (s .here) 11 (h .root)) (s .here) ≡ 0 → ⊥) → rootOf (putField vs 12 (s .here) 11 (h .root)) (s .here) ≤ h .nodes) → h .root < 2 ^ 32
+              go : Dec (h .root ≡ 0) → rootOf (putTreeRoot vs (s .here) (h .root)) (s .here) ≡ h .root → h .nodes ≤ d .most → d .most < 2 ^ 32
+                  → ((rootOf (putTreeRoot vs (s .here) (h .root)) (s .here) ≡ 0 → ⊥) → rootOf (putTreeRoot vs (s .here) (h .root)) (s .here) ≤ h .nodes) → h .root < 2 ^ 32
               go (yes z) y a b c = omega arith
               go (no z) y a b c = let l = c (λ v. z (sym y ∙ v)) in omega arith
 
-          pub pass-next : (vs' : List ℕ) → vs' ≡ putField vs 12 (s .here) 11 (h .root) → Passed d s i vs vs' es x x' op op' (Next (record { here = to; nodes = h .nodes; groups = h .groups }))
+          pub pass-next : (vs' : List ℕ) → vs' ≡ putTreeRoot vs (s .here) (h .root) → Passed d s i vs vs' es x x' op op' (Next (record { here = to; nodes = h .nodes; groups = h .groups }))
           pass-next vs' f =
               rw f
               (record {

@@ -4,17 +4,17 @@ use mathlib.Core.Path.{_≡_, refl, sym, ap, _∙_}
 use mathlib.Core.Bool.{true}
 use mathlib.Core.Option.{none, some}
 use mathlib.Core.List.{List, [], _∷_, _++_}
-use Prim.Native.Nat.{ℕ, suc, _+_, _-_, _*_, _^_, _<_, _≤_}
+use Prim.Native.Nat.{ℕ, suc, _+_, _-_, _^_, _<_, _≤_}
 use native.Mathlib.Omega.{arith}
 use native.Mathlib.Decide.{decLt}
 use lib.ListN.{length, getD, take, drop, length-drop, length-append, drop-of-length-le}
 use lib.Seq.{take-take, drop-cons, getD-take, getD-drop, length-take-le}
 use borrow.Author.Tests.{lt-ltb, le-ltb}
-use Rattle.laws.specs.Records.{field}
 use Rattle.definition.specs.Limits.{isBase}
 use Rattle.definition.specs.Stretch.{Stretch}
 use Rattle.definition.specs.Threading.{Ends, Edge, Graph, follow, numberOf}
 use Rattle.definition.specs.Evidence.{Tree, Walk, pass, walkBases, walkStretch, nodes}
+use Rattle.assembly.specs.Fields.{HasVertices, HasVertex, outEdge, kmerPlace, edgeFrom, edgeTo}
 use Rattle.assembly.specs.Store.{edgeAt, kmersOf, graphOf, code, code-lt, follow-none, follow-some}
 use Rattle.assembly.specs.Kmers.{part, number-le}
 use Rattle.junction_tree_graph.specs.Stretches.{stretchAt}
@@ -101,7 +101,7 @@ module _ (d : Ground) (text es : List ℕ) (a len first count : ℕ) (vs₁ x₁
 
 -- what the search for the first kmer asks
 pub walk-find : {d : Ground} {text vs es x op : List ℕ} {a len count : ℕ} → Walks d text vs es x op a len count → d .k < len
-    → (a + d .k ≤ length text) × (d .vertices * 12 ≤ length vs) × ((v : ℕ) → v < d .vertices → field vs 12 v 8 + d .k ≤ length text)
+    → (a + d .k ≤ length text) × (HasVertices vs (d .vertices)) × ((v : ℕ) → v < d .vertices → kmerPlace vs v + d .k ≤ length text)
 walk-find q long = ((let z = q .inside in omega arith), (let z = q .sound .room-v in omega arith), q .sound .good .fits)
 
 module _ {d : Ground} {text vs₁ es x₁ op₁ : List ℕ} {a len count : ℕ} (q : Walks d text vs₁ es x₁ op₁ a len count) (long : d .k < len)
@@ -144,7 +144,7 @@ module _ {d : Ground} {text vs₁ es x₁ op₁ : List ℕ} {a len count : ℕ} 
     low : a + j ≤ 33792
     low = let z = q .inside in let y = q .sound .small in let u = b .within in omega arith
 
-    pub left-row : s .here * 12 + 12 ≤ length vs
+    pub left-row : HasVertex vs (s .here)
     left-row = let z = b .here in let y = sound-now .room-v in omega arith
 
     -- ---- the end
@@ -191,7 +191,7 @@ module _ {d : Ground} {text vs₁ es x₁ op₁ : List ℕ} {a len count : ℕ} 
       pub left-fits : a + d .k + j < 2 ^ 64
       left-fits = let z = left-place in let y = q .sound .small in omega arith
 
-      pub left-asks : (r t : List ℕ) → text ≡ r ++ t → (a + d .k + j < length r + length t) × (s .here * 12 + 12 ≤ length vs)
+      pub left-asks : (r t : List ℕ) → text ≡ r ++ t → (a + d .k + j < length r + length t) × (HasVertex vs (s .here))
       left-asks r t e = (let z = left-place in let y : length text ≡ length r + length t = rw e (length-append r t) in omega arith, left-row)
 
       base-here : isBase (getD text (a + d .k + j) 0) ≡ true
@@ -210,7 +210,7 @@ module _ {d : Ground} {text vs₁ es x₁ op₁ : List ℕ} {a len count : ℕ} 
               let z : a + (d .k + j) ≡ a + d .k + j = omega arith in
               rw (getD-take, getD-drop, z)
 
-      module _ (sl : ℕ) (hs : sl ≡ field vs 12 (s .here) (code (getD text (a + d .k + j) 0))) where
+      module _ (sl : ℕ) (hs : sl ≡ outEdge vs (s .here) (code (getD text (a + d .k + j) 0))) where
         -- no edge fits: the walk stops
         pub left-none : sl ≡ 0 → Walking (walkOf d text vs₁ es a len) d a (a + len) count vs₁ vs x₁ x op₁ op (Trees (s .nodes))
         left-none z =
@@ -231,10 +231,10 @@ module _ {d : Ground} {text vs₁ es x₁ op₁ : List ℕ} {a len count : ℕ} 
               go (yes h) = h
               go (no h) = absurd (p (hs ∙ sound-now .good .zeros (s .here) (code (getD text (a + d .k + j) 0)) (omega arith) (let y = code-lt (getD text (a + d .k + j) 0) in omega arith)))
 
-          pos : 0 < field vs 12 (s .here) (code (getD text (a + d .k + j) 0))
+          pos : 0 < outEdge vs (s .here) (code (getD text (a + d .k + j) 0))
           pos = omega arith
 
-          full : (sl ≤ d .edges) × (field es 6 (sl - 1) 0 ≡ s .here)
+          full : (sl ≤ d .edges) × (edgeFrom es (sl - 1) ≡ s .here)
           full = let w = sound-now .good .full (s .here) (code (getD text (a + d .k + j) 0)) here-in (code-lt (getD text (a + d .k + j) 0)) pos in (rw hs (w .0), rw hs (w .1))
 
           pub left-passing : Passing d s (sl - 1) vs es x op
@@ -246,7 +246,7 @@ module _ {d : Ground} {text vs₁ es x₁ op₁ : List ℕ} {a len count : ℕ} 
           found = rw (← graph-now, hs) (follow-some (sound-now .good) (s .here) (getD text (a + d .k + j) 0) here-in base-here pos)
 
           turn : (ts : List Tree)
-              → walkBases (groundOf d text vs₁ es) (d .sink) (symbolicEnds d) (field es 6 (sl - 1) 1) (drop (d .k + (j + 1)) (take len (drop a text))) (passOf d es (sl - 1) (b .walked ts))
+              → walkBases (groundOf d text vs₁ es) (d .sink) (symbolicEnds d) (edgeTo es (sl - 1)) (drop (d .k + (j + 1)) (take len (drop a text))) (passOf d es (sl - 1) (b .walked ts))
               ≡ wholeWalk d text es a len first count vs₁ x₁ op₁ ts
           unfolding graphOf
           turn ts =
@@ -282,7 +282,7 @@ module _ {d : Ground} {text vs₁ es x₁ op₁ : List ℕ} {a len count : ℕ} 
               where
                 over : (ts : List Tree) → d .most < many (passOf d es (sl - 1) (b .walked ts)) → d .most < length (nodes (walkOf d text vs₁ es a len ts))
                 over ts h =
-                    let g = walk-grows (groundOf d text vs₁ es) (d .sink) (symbolicEnds d) (field es 6 (sl - 1) 1) (drop (d .k + (j + 1)) (take len (drop a text))) (passOf d es (sl - 1) (b .walked ts)) in
-                    let z : many (walkBases (groundOf d text vs₁ es) (d .sink) (symbolicEnds d) (field es 6 (sl - 1) 1) (drop (d .k + (j + 1)) (take len (drop a text))) (passOf d es (sl - 1) (b .walked ts))) ≡ length (nodes (walkOf d text vs₁ es a len ts))
+                    let g = walk-grows (groundOf d text vs₁ es) (d .sink) (symbolicEnds d) (edgeTo es (sl - 1)) (drop (d .k + (j + 1)) (take len (drop a text))) (passOf d es (sl - 1) (b .walked ts)) in
+                    let z : many (walkBases (groundOf d text vs₁ es) (d .sink) (symbolicEnds d) (edgeTo es (sl - 1)) (drop (d .k + (j + 1)) (take len (drop a text))) (passOf d es (sl - 1) (b .walked ts))) ≡ length (nodes (walkOf d text vs₁ es a len ts))
                     = ap many (turn ts) ∙ ap (λ (l : List Tree). length (nodes l)) (whole-is ts) in
                     omega arith

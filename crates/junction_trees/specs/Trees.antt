@@ -17,6 +17,7 @@ use Rattle.definition.specs.Limits.{Sample, sampleRules}
 use Rattle.definition.specs.Stretch.{stretches}
 use Rattle.definition.specs.Threading.{Graph, threaded, symbolicOf, withSymbolic}
 use Rattle.definition.specs.Evidence.{evidence, nodes}
+use Rattle.assembly.specs.Fields.{HasVertices, vertexNumbers, edgeNumbers}
 use Rattle.assembly.specs.Store.{graphOf}
 use Rattle.assembly.specs.Kmers.{length-of}
 use Rattle.junction_tree_graph.specs.declared.Built.{Built}
@@ -39,8 +40,8 @@ pub record Gathers (s : Sample) (vs es x op : List ℕ) (b : Built) (most : ℕ)
   pub vertices : ℕ
   pub edges : ℕ
   pub vertices-in : within 2 4096 vertices ≡ true
-  pub length-v : length vs ≡ vertices * 12
-  pub length-e : length es ≡ edges * 6
+  pub length-v : length vs ≡ vertexNumbers vertices
+  pub length-e : length es ≡ edgeNumbers edges
   pub built : BuiltAt s vertices edges vs es (b .vertices) (b .edges) (b .sink)
   pub few : most < 2 ^ 32
   pub room : told most ≤ length x
@@ -108,7 +109,7 @@ module _ {s : Sample} {vs es x op : List ℕ} {b : Built} {most : ℕ} (q : Gath
   small : length (s .reference ++ s .bases) ≤ 33792
   small = let z = length-append (s .reference) (s .bases) in let a = fits .high in let c = fits .many in omega arith
 
-  pub gather-room : b .vertices * 12 ≤ length vs
+  pub gather-room : HasVertices vs (b .vertices)
   gather-room = let z = q .length-v in let y = q .built .vertices-fit in omega arith
 
   sound : Sound (groundFor s b most) (s .reference ++ s .bases) vs es

@@ -1,6 +1,8 @@
 // Evidence: each read stretch longer than k is walked again over the graph as it was before the symbolic edge, and the walk counts in the trees that it
 // has opened. The trees and the active trees of a walk are the tables of `threading_tree`; the slot of a vertex's root is field 11 of its record, which
 // the graph does not use.
+use assembly::ROOT;
+use assembly::VERTEX;
 use assembly::byte_at;
 use assembly::edge_to;
 use assembly::find_kmer;
@@ -19,9 +21,10 @@ use threading_tree::joined_refusal;
 use threading_tree::pass_edge;
 ghost use mathlib.Core.Path.{_≡_};
 ghost use mathlib.Core.List.{_++_};
-ghost use Prim.Native.Nat.{ℕ, _+_, _*_, _^_, _<_, _≤_};
+ghost use Prim.Native.Nat.{ℕ, _+_, _*_, _^_, _<_};
 ghost use lib.ListN.{length, getD};
-ghost use Rattle.laws.specs.Records.{field, putField};
+ghost use Rattle.laws.specs.Records.{field};
+ghost use Rattle.assembly.specs.Fields.{HasVertices, HasVertex, outEdge, treeRoot, putTreeRoot};
 ghost use Rattle.assembly.specs.Store.{code};
 ghost use Rattle.junction_tree_graph.specs.Reads.{readOf, readsOf};
 ghost use Rattle.junction_tree_graph.specs.Built.{sampleOf};
@@ -33,29 +36,25 @@ ghost use Rattle.junction_trees.specs.Stretches.{Walks, Walking, walkOf}
 ghost use Rattle.junction_trees.specs.Reads.{ReadWalks, ReadsWalk, walksOf};
 ghost use Rattle.junction_trees.specs.Trees.{Gathers, Gathered};
 
-const VERTEX: usize = 12;
-
-const ROOT: usize = 11;
-
 // ---- the slot of a vertex's root, 0 where it has no tree
 
 pub fn root_slot(vertices: &[u32], v: usize) -> usize
-    requires { ⌜ v * 12 + 12 ≤ length (now vertices) ⌝ }
-    ensures { λ r. ⌜ r ≡ field (now (vertices .entry)) 12 v 11 ⌝ }
+    requires { ⌜ HasVertex (now vertices) v ⌝ }
+    ensures { λ r. ⌜ r ≡ treeRoot (now (vertices .entry)) v ⌝ }
 {
     wide(vertices[v * VERTEX + ROOT])
 }
 
 fn keep_root(vertices: &mut [u32], v: usize, slot: usize)
-    requires { ⌜ (v * 12 + 12 ≤ length (now vertices)) × (slot < 2 ^ 32) ⌝ }
-    ensures { λ _. ⌜ now (vertices .exit) ≡ putField (now (vertices .entry)) 12 v 11 slot ⌝ }
+    requires { ⌜ (HasVertex (now vertices) v) × (slot < 2 ^ 32) ⌝ }
+    ensures { λ _. ⌜ now (vertices .exit) ≡ putTreeRoot (now (vertices .entry)) v slot ⌝ }
 {
     vertices[v * VERTEX + ROOT] = slot as u32;
 }
 
 // No vertex has a tree yet; building the graph leaves open what field 11 holds.
 fn clear_roots(vertices: &mut [u32], n: usize)
-    requires { ⌜ n * 12 ≤ length (now vertices) ⌝ }
+    requires { ⌜ HasVertices (now vertices) n ⌝ }
     ensures { λ _. ⌜ Cleared (now (vertices .entry)) n (now (vertices .exit)) n ⌝ }
 {
     let mut v: usize = 0;
@@ -69,7 +68,7 @@ fn clear_roots(vertices: &mut [u32], n: usize)
 
 // How many edges leave v: its slots that name one.
 fn out_degree(vertices: &[u32], v: usize) -> usize
-    requires { ⌜ v * 12 + 12 ≤ length (now vertices) ⌝ }
+    requires { ⌜ HasVertex (now vertices) v ⌝ }
     ensures { λ r. ⌜ OutDegree (now (vertices .entry)) v r ⌝ }
 {
     let mut n: usize = 0;
@@ -86,7 +85,7 @@ fn out_degree(vertices: &[u32], v: usize) -> usize
 // Whether leaving a vertex by an edge to `to` opens the vertex's tree: it has two or more out-edges, or a target has two or more in-edges. Where it has
 // just one out-edge `to` is the only target.
 fn vertex_warrants_junction_tree(vertices: &[u32], outs: usize, to: usize) -> bool
-    requires { ⌜ to * 12 + 12 ≤ length (now vertices) ⌝ }
+    requires { ⌜ HasVertex (now vertices) to ⌝ }
     ensures { λ r. ⌜ Warrants (now (vertices .entry)) outs to r ⌝ }
 {
     if outs > 1 {
@@ -136,8 +135,8 @@ pub enum Evidence {
 
 // The out-edge of v whose target ends in the base at place q of the text: its number plus 1, or 0.
 fn next_edge(reference: &[u8], bases: &[u8], vertices: &[u32], v: usize, q: usize) -> usize
-    requires { ⌜ (q < length (now reference) + length (now bases)) × (v * 12 + 12 ≤ length (now vertices)) ⌝ }
-    ensures { λ r. ⌜ r ≡ field (now (vertices .entry)) 12 v (code (getD (now (reference .entry) ++ now (bases .entry)) q 0)) ⌝ }
+    requires { ⌜ (q < length (now reference) + length (now bases)) × (HasVertex (now vertices) v) ⌝ }
+    ensures { λ r. ⌜ r ≡ outEdge (now (vertices .entry)) v (code (getD (now (reference .entry) ++ now (bases .entry)) q 0)) ⌝ }
 {
     let b = wide_byte(byte_at(reference, bases, q));
     out_edge(vertices, v, b / 2 % 8)

@@ -2,7 +2,7 @@
 use mathlib.Core.Path.{_≡_, refl, sym, ap, _∙_}
 use Prim.Native.Nat.{ℕ, _+_, _<_, _≤_}
 use native.Mathlib.Numerals.{add-one}
-use mathlib.Core.Bool.{Bool, true, false, _&&_}
+use mathlib.Core.Bool.{Bool, true, false, _&&_, and-false}
 use mathlib.Core.List.{List, _∷_}
 use lib.ListN.{length, drop, getD, drop-of-length-le}
 use lib.Seq.{drop-cons}
@@ -38,13 +38,9 @@ entry x y h = go (le x y && le y sixteen) refl
     regroup true b c = refl
     regroup false b c = refl
 
-    none : (a : Bool) → (a && false) ≡ false
-    none true = refl
-    none false = refl
-
     go : (t : Bool) → (le x y && le y sixteen) ≡ t → (isFinite y && le x y && le y sixteen) ≡ (le x y && le y sixteen)
     go true e = regroup (isFinite y) (le x y) (le y sixteen) ∙ (rw (e, finite-between x y h e))
-    go false e = regroup (isFinite y) (le x y) (le y sixteen) ∙ (rw (e, none (isFinite y)))
+    go false e = regroup (isFinite y) (le x y) (le y sixteen) ∙ (rw (e, and-false (isFinite y)))
 
 -- ---- the loop
 

@@ -11,6 +11,12 @@ use lib.ListN.{length, take, drop}
 use lib.Seq.{take-take}
 use Rattle.laws.specs.Lists.{keep, find, findLast, sole, total}
 
+-- ---- lists of length 0
+
+pub length-nil : {A : Type 0} (l : List A) → length l ≡ 0 → l ≡ []
+length-nil [] h = refl
+length-nil (x ∷ l) h = absurd (omega arith)
+
 -- ---- Booleans
 
 pub clash : {A : Type 0} → true ≡ false → A

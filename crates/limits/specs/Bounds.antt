@@ -59,7 +59,7 @@ settings-most asked g s e =
 
 -- ---- products of two settings
 
-max-le : (a b c : ℕ) → a ≤ c → b ≤ c → max a b ≤ c
+pub max-le : (a b c : ℕ) → a ≤ c → b ≤ c → max a b ≤ c
 max-le a b c h k = omega arith
 
 module _ (asked : ℕ) (g : GraphMaxima) (s : SearchMaxima) (most : InLimits asked g s) where

@@ -11,7 +11,7 @@ use lib.ListN.{length, take, length-map, length-append}
 use lib.Seq.{length-take-le}
 use lib.Ieee.{Float}
 use borrow.Author.Tests.{ne-eqb, eq-eqb}
-use Rattle.laws.specs.Records.{field, field-other}
+use Rattle.laws.specs.Records.{field-other}
 use Rattle.definition.specs.Refusal.{Result, ok, firstBroken}
 use Rattle.definition.specs.Limits.{Input, basesStride, sampleRules}
 use Rattle.definition.specs.Score.{columnScoring}
@@ -23,6 +23,7 @@ use Rattle.definition.proofs.Walks.{GoodState, Numbered}
 use Rattle.definition.proofs.Turns.{lastOf, search-reached}
 use Rattle.definition.proofs.Bounds.{Counted, search-counted}
 use Rattle.definition.proofs.Checks.{Checked, k-some, some-pushes}
+use Rattle.assembly.specs.Fields.{kmerPlace, edgeNumbers}
 use Rattle.limits.specs.Workspaces.{vertexTable, pathTable, pathScores, activeNodes, waitingQueue, closedPaths, pivotalOrder, pivotalMarks, pathWalks, openTrees}
 use Rattle.limits.specs.Bounds.{InLimits, settings-most}
 use Rattle.assembly.specs.Symbolic.{linked, length-linked}
@@ -59,7 +60,7 @@ pub record Searches (i : Input) (o : Outputs) (w : Tables) (b : Raise) : Type 0 
   pub outs : Outs i o
   pub some : 0 < i .asked
   pub raised : RaisedAt (i .sample) (i .graphMaxima) (w .vertices) (w .edges) (w .nodes) (w .walks) b
-  pub rows : length (w .edges) ≡ (b .edges + 1) * 6
+  pub rows : length (w .edges) ≡ edgeNumbers (b .edges + 1)
   pub vertices : length (w .vertices) ≡ vertexTable (i .graphMaxima)
   pub index : length (w .index) ≡ i .graphMaxima .vertices
   pub targets : length (w .targets) ≡ b .edges + 1
@@ -247,7 +248,7 @@ module _ {i : Input} {o : Outputs} {w : Tables} {b : Raise} (q : Searches i o w 
             let n = there .holds .pushes in
             record { closed = omega arith; pushes = omega arith; mark = omega arith }
 
-        kept : (u : ℕ) → u < b .vertices → field vs₁ 12 u 8 ≡ field (w .vertices) 12 u 8
+        kept : (u : ℕ) → u < b .vertices → kmerPlace vs₁ u ≡ kmerPlace (w .vertices) u
         unfolding linked
         kept u h = rw (k .vertices) (field-other (w .vertices) 12 (b .sink) 4 (b .edges + 1) u 8 (omega arith) (omega arith) (omega arith))
 

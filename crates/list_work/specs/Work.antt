@@ -2,7 +2,7 @@
 use mathlib.Core.Path.{_≡_, ap, _∙_}
 use mathlib.Core.Logic.{_≢_}
 use mathlib.Core.List.{List}
-use Prim.Native.Nat.{ℕ, _+_, _*_, _<_, _≤_, max}
+use Prim.Native.Nat.{ℕ, _+_, _<_, _≤_, max}
 use native.Mathlib.Omega.{arith}
 use lib.ListN.{length, take}
 use lib.Seq.{length-take-le}
@@ -11,6 +11,7 @@ use Rattle.definition.specs.Limits.{Input}
 use Rattle.definition.specs.Score.{columnScoring}
 use Rattle.definition.specs.Building.{Built, built}
 use Rattle.definition.specs.Listing.{afterBuild}
+use Rattle.assembly.specs.Fields.{edgeNumbers}
 use Rattle.limits.specs.Workspaces.{openTrees}
 use Rattle.limits.specs.Bounds.{settings-most}
 use Rattle.search_ground.specs.Exact.{built-exact}
@@ -30,7 +31,7 @@ max-first a b n e = omega arith
 -- the parts of the tables that the search is handed; es, idx and to are the lengths of those tables
 pub record Parts (i : Input) (es idx to : ℕ) (b : Raise) : Type 0 where
   pub few : b .edges + 1 ≤ 8192
-  pub rows : (b .edges + 1) * 6 ≤ es
+  pub rows : edgeNumbers (b .edges + 1) ≤ es
   pub index : i .graphMaxima .vertices ≤ idx
   pub targets : b .edges + 1 ≤ to
 
@@ -72,14 +73,14 @@ module _ {i : Input} {o : Outputs} {w : Tables} (q : Works i o w) where
 
       module _ (idx : List ℕ) (lv : length vs ≡ length (w .vertices)) (le : length es ≡ length (w .edges)) (li : length idx ≡ length (w .index)) where
         pub work-searches : 0 < i .asked → length op ≡ length (w .walks)
-            → Searches i o (tablesOf vs (take ((b .edges + 1) * 6) es) (take (i .graphMaxima .vertices) idx) x (take (b .edges + 1) (w .targets)) (w .paths) (w .scores) (w .active) (w .queue) (w .closed) (w .order) (w .marks) op) b
+            → Searches i o (tablesOf vs (take (edgeNumbers (b .edges + 1)) es) (take (i .graphMaxima .vertices) idx) x (take (b .edges + 1) (w .targets)) (w .paths) (w .scores) (w .active) (w .queue) (w .closed) (w .order) (w .marks) op) b
         work-searches some lo =
             record {
               checks = q .checks;
               outs = q .outs;
               some = some;
               raised = record { at = built-exact es (b .edges) (raised .at); there = raised .there };
-              rows = length-take-le ((b .edges + 1) * 6) es (work-parts le li .rows);
+              rows = length-take-le (edgeNumbers (b .edges + 1)) es (work-parts le li .rows);
               vertices = lv ∙ q .vertices;
               index = length-take-le (i .graphMaxima .vertices) idx (work-parts le li .index);
               targets = length-take-le (b .edges + 1) (w .targets) (work-parts le li .targets);

@@ -1,4 +1,5 @@
 // The work of the call for the list: the graph, its trees, the search and the list in columns, over tables of just the lengths told.
+use assembly::EDGE;
 use graph_work::Raise;
 use graph_work::Raised;
 use graph_work::raise_graph;
@@ -172,7 +173,7 @@ pub fn work(
         };
     }
     let all = b.edges + 1;
-    let rows = all * 6;
+    let rows = all * EDGE;
     search_list(
         a,
         b,

@@ -14,11 +14,12 @@ use lib.Seq.{getD-set-same, getD-set-other}
 use lib.Ieee.{Float}
 use Rattle.laws.specs.Lists.{any}
 use Rattle.laws.specs.ListLaws.{All, nil, cons, all-append}
-use Rattle.laws.specs.Records.{field, row-step, place-row}
+use Rattle.laws.specs.Records.{row-step, place-row}
 use Rattle.definition.specs.Refusal.{ok, refused}
 use Rattle.definition.specs.Evidence.{Branches, hasBranch}
 use Rattle.definition.specs.Search.{SearchInput, joinTree}
 use Rattle.definition.proofs.Counts.{Small}
+use Rattle.assembly.specs.Fields.{HasVertex, treeRoot}
 use Rattle.threading_tree.specs.Slots.{cols, Slot}
 use Rattle.threading_tree.specs.Take.{wide-slot}
 use Rattle.threading_tree.specs.Read.{leads-has}
@@ -85,15 +86,15 @@ pub record TreeAdded (g : Setting) (vs x only to t : List ℕ) (sc : List Float)
 
 -- r is the slot of the root of v's tree where that has a branch, else 0
 pub record Rooted (vs x : List ℕ) (v r : ℕ) : Type 0 where
-  pub none : r ≡ 0 → (field vs 12 v 11 ≡ 0) ⊎ ((field vs 12 v 11 ≡ 0 → ⊥) × (cols x .kid (field vs 12 v 11) ≡ 0))
-  pub some : (r ≡ 0 → ⊥) → (r ≡ field vs 12 v 11) × (cols x .kid (field vs 12 v 11) ≡ 0 → ⊥)
+  pub none : r ≡ 0 → (treeRoot vs v ≡ 0) ⊎ ((treeRoot vs v ≡ 0 → ⊥) × (cols x .kid (treeRoot vs v) ≡ 0))
+  pub some : (r ≡ 0 → ⊥) → (r ≡ treeRoot vs v) × (cols x .kid (treeRoot vs v) ≡ 0 → ⊥)
 
 -- what the code asks of the tables at v
 pub record Rootable (vs x : List ℕ) (v : ℕ) : Type 0 where
-  pub inside : v * 12 + 12 ≤ length vs
-  pub slot : (field vs 12 v 11 ≡ 0 → ⊥) → Slot (field vs 12 v 11) x
+  pub inside : HasVertex vs v
+  pub slot : (treeRoot vs v ≡ 0 → ⊥) → Slot (treeRoot vs v) x
 
-module _ (vs x : List ℕ) (v s : ℕ) (e : s ≡ field vs 12 v 11) where
+module _ (vs x : List ℕ) (v s : ℕ) (e : s ≡ treeRoot vs v) where
   pub rooted-none : s ≡ 0 → Rooted vs x v 0
   rooted-none z = record { none = λ _. inl (sym e ∙ z); some = λ h. absurd (h refl) }
 
@@ -158,7 +159,7 @@ module _ (f : SearchInput) (g : Setting) (vs es x only to : List ℕ) (bs : ℕ 
   pub joined-none : Rooted vs x (taken .vertex) 0 → Joined f g es x only to bs t sc n taken t sc ac
   joined-none k = go (k .none refl)
     where
-      go : (field vs 12 v 11 ≡ 0) ⊎ ((field vs 12 v 11 ≡ 0 → ⊥) × (cols x .kid (field vs 12 v 11) ≡ 0)) → Joined f g es x only to bs t sc n taken t sc ac
+      go : (treeRoot vs v ≡ 0) ⊎ ((treeRoot vs v ≡ 0 → ⊥) × (cols x .kid (treeRoot vs v) ≡ 0)) → Joined f g es x only to bs t sc n taken t sc ac
       go (inl z) = left (join-none only to t sc n r v T (J .known) f (nameOf es) (bs r) (J .ground .no-tree v joining-vertex z))
       go (inr (ne, z)) =
           let w = J .ground .tree v joining-vertex ne in
@@ -167,10 +168,10 @@ module _ (f : SearchInput) (g : Setting) (vs es x only to : List ℕ) (bs : ℕ 
 
   -- ---- a tree that has a branch, in the slot s
   module _ (s : ℕ) (k : Rooted vs x (taken .vertex) s) (ne : s ≡ 0 → ⊥) where
-    at-root : s ≡ field vs 12 v 11
+    at-root : s ≡ treeRoot vs v
     at-root = k .some ne .0
 
-    tree : TreeIn f x (g .nodes) (field vs 12 v 11) v
+    tree : TreeIn f x (g .nodes) (treeRoot vs v) v
     tree = J .ground .tree v joining-vertex (λ z. ne (at-root ∙ z))
 
     has : hasBranch (tree .below) ≡ true
@@ -253,7 +254,7 @@ module _ (f : SearchInput) (g : Setting) (vs es x only to : List ℕ) (bs : ℕ 
         unfolding ac′
         actives-own =
             let l = joining-place in
-            let z : getD ac′ place 0 ≡ field vs 12 v 11 = getD-set-same ac place s 0 l ∙ at-root in
+            let z : getD ac′ place 0 ≡ treeRoot vs v = getD-set-same ac place s 0 l ∙ at-root in
             let e : r * g .active + treesOf t′ r ≡ place + 1 = let q = trees-own in omega arith in
             let before : Actives (g .cap) (g .nodes) x ac′ (r * g .active) place (bs r) =
             actives-kept (g .cap) (g .nodes) x ac ac′ (r * g .active) place (bs r) (length-set ac place s) (λ i a b. getD-set-other ac place i s 0 (omega arith))

@@ -3,19 +3,19 @@ use mathlib.Core.Path.{_≡_, refl, sym, ap, subst, _∙_}
 use mathlib.Core.Bool.{Bool, true, false, not}
 use mathlib.Core.List.{List, [], _∷_, map}
 use mathlib.Core.Option.{Option, none, some}
-use Prim.Native.Nat.{ℕ, zero, suc, _+_, _-_, _*_, _<_, _≤_}
+use Prim.Native.Nat.{ℕ, zero, suc, _+_, _-_, _<_}
 use native.Mathlib.Omega.{arith}
 use lib.Dec.{eqb}
 use lib.ListN.{length, length-map}
 use lib.Ieee.{Float, isNan, binary64, add}
 use Rattle.laws.specs.Lists.{keep}
-use Rattle.laws.specs.Records.{field}
 use Rattle.definition.specs.Refusal.{Result, ok, refused, andThen}
 use Rattle.definition.specs.Limits.{columnFits}
 use Rattle.definition.specs.Score.{columnPenalty, columnScoring}
 use Rattle.definition.specs.Evidence.{Branches}
 use Rattle.definition.specs.Search.{SearchInput, Path, extend, repeatRule}
 use Rattle.definition.proofs.Column.{column-keeps}
+use Rattle.fork_offers.specs.Fields.{HasOffer, offerEdge, offerCount, offerTotal, offerGuided}
 use Rattle.kbest_haplotype.specs.declared.Penalty.{Penalty}
 use Rattle.kbest_haplotype.specs.Penalties.{penaltyOf, penaltyRefusal, priced}
 use Rattle.fork_offers.specs.Rows.{offerAt}
@@ -41,19 +41,19 @@ plusPenalty none s = none
 plusPenalty (some d) s = some (add binary64 s d)
 
 abbrev pub offerScore : List Float → List ℕ → ℕ → Float → Option Float
-offerScore column out j s = plusPenalty (columnPenalty column (field out 4 j 1) (field out 4 j 2)) s
+offerScore column out j s = plusPenalty (columnPenalty column (offerCount out j) (offerTotal out j)) s
 
-pub no-score : (column : List Float) (out : List ℕ) (j : ℕ) (s : Float) (p : Penalty) → penaltyOf p ≡ priced (columnPenalty column (field out 4 j 1) (field out 4 j 2)) → (n : ℕ) → p ≡ Penalty.Refused n
+pub no-score : (column : List Float) (out : List ℕ) (j : ℕ) (s : Float) (p : Penalty) → penaltyOf p ≡ priced (columnPenalty column (offerCount out j) (offerTotal out j)) → (n : ℕ) → p ≡ Penalty.Refused n
     → penaltyOf p ≡ priced (offerScore column out j s)
-no-score column out j s p h n e = go (columnPenalty column (field out 4 j 1) (field out 4 j 2)) h
+no-score column out j s p h n e = go (columnPenalty column (offerCount out j) (offerTotal out j)) h
   where
     go : (o : Option Float) → penaltyOf p ≡ priced o → penaltyOf p ≡ priced (plusPenalty o s)
     go none k = k
     go (some d) k = let y : refused n ≡ ok d = ap penaltyOf (sym e) ∙ k in let z : _≡_ {A = ℕ} 0 1 = cc in absurd (omega arith)
 
-pub some-score : (column : List Float) (out : List ℕ) (j : ℕ) (s s′ : Float) (p : Penalty) (d : Float) → penaltyOf p ≡ priced (columnPenalty column (field out 4 j 1) (field out 4 j 2)) → p ≡ Penalty.Of d
+pub some-score : (column : List Float) (out : List ℕ) (j : ℕ) (s s′ : Float) (p : Penalty) (d : Float) → penaltyOf p ≡ priced (columnPenalty column (offerCount out j) (offerTotal out j)) → p ≡ Penalty.Of d
     → s′ ≡ s → ok (add binary64 s′ d) ≡ priced (offerScore column out j s)
-some-score column out j s s′ p d h e z = go (columnPenalty column (field out 4 j 1) (field out 4 j 2)) (ap penaltyOf (sym e) ∙ h)
+some-score column out j s s′ p d h e z = go (columnPenalty column (offerCount out j) (offerTotal out j)) (ap penaltyOf (sym e) ∙ h)
   where
     go : (o : Option Float) → ok d ≡ priced o → ok (add binary64 s′ d) ≡ priced (plusPenalty o s)
     go none k = let y : _≡_ {A = ℕ} 0 1 = cc in absurd (omega arith)
@@ -69,8 +69,8 @@ pub record OfferStands (g : Setting) (es x only to : List ℕ) (column : List Fl
   pub stands : Stands g es x only to t sc ac n taken
   pub place : Place g t sc ac n
   pub fits : columnFits column ≡ true
-  pub room : row * 4 + 4 ≤ length out
-  pub edge : field out 4 row 0 < g .edges
+  pub room : HasOffer out row
+  pub edge : offerEdge out row < g .edges
 
 -- the same for some table of sole edges, which the extension itself does not read
 pub record Offering (g : Setting) (es x to : List ℕ) (column : List Float) (t : List ℕ) (sc : List Float) (ac out : List ℕ) (n : ℕ) (taken : Taken) (row : ℕ) : Type 0 where
@@ -89,32 +89,32 @@ tried column es out row f p = andThen (extended column es out row f p) (λ q. ok
 
 -- the way on that the row j offers
 abbrev pub wayOf : List ℕ → ℕ → Float → Way
-wayOf out j s = record { edge = field out 4 j 0; score = s; guided = not (eqb (field out 4 j 3) 0); free = false }
+wayOf out j s = record { edge = offerEdge out j; score = s; guided = not (eqb (offerGuided out j) 0); free = false }
 
 module _ (column : List Float) (es out : List ℕ) (j : ℕ) (f : SearchInput) (p : Path Float) where
   extend-refused : (n : ℕ) → priced (offerScore column out j (p .score)) ≡ refused n → extended column es out j f p ≡ refused n
   unfolding extend columnScoring
-  extend-refused n h = go (columnPenalty column (field out 4 j 1) (field out 4 j 2)) refl h
+  extend-refused n h = go (columnPenalty column (offerCount out j) (offerTotal out j)) refl h
     where
-      go : (o : Option Float) → columnPenalty column (field out 4 j 1) (field out 4 j 2) ≡ o → priced (plusPenalty o (p .score)) ≡ refused n → extended column es out j f p ≡ refused n
+      go : (o : Option Float) → columnPenalty column (offerCount out j) (offerTotal out j) ≡ o → priced (plusPenalty o (p .score)) ≡ refused n → extended column es out j f p ≡ refused n
       go none e k = let y : 10 ≡ n = cc in rw (e, extend) (ap (λ (i : ℕ). refused i) y)
       go (some d) e k = let z : _≡_ {A = ℕ} 0 1 = cc in absurd (omega arith)
 
   extend-is : (s : Float) → offerScore column out j (p .score) ≡ some s → offered column es out j f p ≡ lengthened es (wayOf out j s) f p
   unfolding extend columnScoring
-  extend-is s h = go (columnPenalty column (field out 4 j 1) (field out 4 j 2)) refl h
+  extend-is s h = go (columnPenalty column (offerCount out j) (offerTotal out j)) refl h
     where
-      go : (o : Option Float) → columnPenalty column (field out 4 j 1) (field out 4 j 2) ≡ o → plusPenalty o (p .score) ≡ some s → offered column es out j f p ≡ lengthened es (wayOf out j s) f p
+      go : (o : Option Float) → columnPenalty column (offerCount out j) (offerTotal out j) ≡ o → plusPenalty o (p .score) ≡ some s → offered column es out j f p ≡ lengthened es (wayOf out j s) f p
       go none e k = let z : _≡_ {A = ℕ} 0 1 = cc in absurd (omega arith)
       go (some d) e k = let y : add binary64 (p .score) d ≡ s = cc in rw (e, extend, ← y)
 
 score-fine : (column : List Float) (out : List ℕ) (j : ℕ) (s₀ s : Float) → columnFits column ≡ true → isNan s₀ ≡ false → offerScore column out j s₀ ≡ some s → isNan s ≡ false
 unfolding columnScoring
-score-fine column out j s₀ s c h k = go (columnPenalty column (field out 4 j 1) (field out 4 j 2)) refl k
+score-fine column out j s₀ s c h k = go (columnPenalty column (offerCount out j) (offerTotal out j)) refl k
   where
-    go : (o : Option Float) → columnPenalty column (field out 4 j 1) (field out 4 j 2) ≡ o → plusPenalty o s₀ ≡ some s → isNan s ≡ false
+    go : (o : Option Float) → columnPenalty column (offerCount out j) (offerTotal out j) ≡ o → plusPenalty o s₀ ≡ some s → isNan s ≡ false
     go none e k = let z : _≡_ {A = ℕ} 0 1 = cc in absurd (omega arith)
-    go (some d) e k = let y : add binary64 s₀ d ≡ s = cc in rw (← y) (column-keeps column c .plus-fine s₀ d (field out 4 j 1) (field out 4 j 2) h e)
+    go (some d) e k = let y : add binary64 s₀ d ≡ s = cc in rw (← y) (column-keeps column c .plus-fine s₀ d (offerCount out j) (offerTotal out j) h e)
 
 module _ {g : Setting} {es x to : List ℕ} {column : List Float} {t : List ℕ} {sc : List Float} {ac out : List ℕ} {n : ℕ} {taken : Taken} {row : ℕ}
     (O : Offering g es x to column t sc ac out n taken row) where

@@ -15,13 +15,14 @@ use lib.Seq.{getD-set-same, getD-set-other}
 use lib.Ieee.{Float, nan, isNan}
 use Rattle.laws.specs.Lists.{isEmpty}
 use Rattle.laws.specs.ListLaws.{All}
-use Rattle.laws.specs.Records.{field, row-step}
+use Rattle.laws.specs.Records.{row-step}
 use Rattle.definition.specs.Refusal.{Result, ok, refused, andThen}
 use Rattle.definition.specs.Threading.{Ends}
 use Rattle.definition.specs.Evidence.{Branches}
 use Rattle.definition.specs.Search.{SearchInput, Path, walkTrees, lengthen}
 use Rattle.definition.specs.Search as defs
 use Rattle.definition.proofs.Counts.{Small, small-walk}
+use Rattle.assembly.specs.Fields.{HasEdge, edgeFrom, edgeTo}
 use Rattle.threading_tree.specs.Ends.{ends}
 use Rattle.fork_offers.specs.Actives.{Actives, actives-kept, actives-many}
 use Rattle.fork_offers.specs.Walks.{Walkable, Walked}
@@ -184,7 +185,7 @@ module _ (g : Setting) (es x only to t : List ℕ) (sc : List Float) (ac : List 
       pub walk-asks : Walkable (g .cap) (g .nodes) x ac i (i + k) j
       walk-asks = rw (ei, ek, ej) asks
 
-      module _ (w : Way) (he : w .edge < g .edges) (hs : isNan (w .score) ≡ false) (a b : ℕ) (ha : a ≡ field es 6 (w .edge) 0) (hb : b ≡ field es 6 (w .edge) 1) (ad : List ℕ) (r : ℕ)
+      module _ (w : Way) (he : w .edge < g .edges) (hs : isNan (w .score) ≡ false) (a b : ℕ) (ha : a ≡ edgeFrom es (w .edge)) (hb : b ≡ edgeTo es (w .edge)) (ad : List ℕ) (r : ℕ)
           (W : Walked (g .cap) (g .nodes) x ac ad i (i + k) j (ends a b) r) (long : length ad ≡ length ac) (since : ℕ)
           (hd : since ≡ decisions r (w .guided) (w .free) (sinceOf t (taken .path))) where
         walked : List Branches
@@ -334,7 +335,7 @@ module _ {g : Setting} {es x to t : List ℕ} {sc : List Float} {ac : List ℕ} 
   pub new-product : {p : ℕ} → p ≡ n → p * g .active < 18446744073709551616
   new-product {p} e = product p (g .active) (let k = L .place .number in omega arith) (there .ground .active-fits)
 
-  pub edge-inside : {e : ℕ} → e ≡ w .edge → e * 6 + 6 ≤ length es
+  pub edge-inside : {e : ℕ} → e ≡ w .edge → HasEdge es e
   edge-inside {e} h = let a = L .edge in let b = there .ground .linked .room in omega arith
 
   module _ {row : PathRecord} (hr : row ≡ pathAt t sc (taken .path)) where
@@ -350,7 +351,7 @@ module _ {g : Setting} {es x to t : List ℕ} {sc : List Float} {ac : List ℕ} 
           walk-asks g es x only to t sc ac n taken (L .place) (L .stands .input) (L .stands .trees) there (p * g .active) k (m * g .active) (ap (λ (i : ℕ). i * g .active) hp) many-trees
           (ap (λ (i : ℕ). i * g .active) hm)
 
-      module _ {a b e : ℕ} (he : e ≡ w .edge) (ha : a ≡ field es 6 e 0) (hb : b ≡ field es 6 e 1) {ad : List ℕ} {r : ℕ}
+      module _ {a b e : ℕ} (he : e ≡ w .edge) (ha : a ≡ edgeFrom es e) (hb : b ≡ edgeTo es e) {ad : List ℕ} {r : ℕ}
           (W : Walked (g .cap) (g .nodes) x ac ad (p * g .active) (p * g .active + k) (m * g .active) (ends a b) r) where
         pub few-trees : r ≤ 64
         few-trees =
@@ -370,11 +371,11 @@ module _ {g : Setting} {es x to t : List ℕ} {sc : List Float} {ac : List ℕ} 
 
         module _ (long : length ad ≡ length ac) {since : ℕ} (hd : since ≡ decisions r (w .guided) (w .free) (row .since)) {answer : PathAnswer} {t′ : List ℕ} {sc′ : List Float}
             (G : Grown t sc n (extendedRow t to taken (record { edge = w .edge; score = w .score; since = since; trees = r })) (g .most) answer t′ sc′) where
-          source-is : a ≡ field es 6 (w .edge) 0
-          source-is = ha ∙ ap (λ (i : ℕ). field es 6 i 0) he
+          source-is : a ≡ edgeFrom es (w .edge)
+          source-is = ha ∙ ap (λ (i : ℕ). edgeFrom es i) he
 
-          target-is : b ≡ field es 6 (w .edge) 1
-          target-is = hb ∙ ap (λ (i : ℕ). field es 6 i 1) he
+          target-is : b ≡ edgeTo es (w .edge)
+          target-is = hb ∙ ap (λ (i : ℕ). edgeTo es i) he
 
           since-by : since ≡ decisions r (w .guided) (w .free) (sinceOf t (taken .path))
           since-by = hd ∙ ap (λ (y : PathRecord). decisions r (w .guided) (w .free) (y .since)) hr

@@ -9,13 +9,13 @@ use lib.ListN.{length}
 use lib.Ieee.{Float}
 use Rattle.laws.specs.Lists.{keep, total}
 use Rattle.laws.specs.Rows.{length-rows}
-use Rattle.laws.specs.Records.{field}
 use Rattle.definition.specs.Refusal.{Result, ok, refused, andThen, each}
 use Rattle.definition.specs.Limits.{columnFits}
 use Rattle.definition.specs.Score.{Scoring, columnScoring}
 use Rattle.definition.specs.Threading.{Ends, Edge, leaving, supportOf}
 use Rattle.definition.specs.Evidence.{Branches}
 use Rattle.definition.specs.Search.{SearchInput, Path, Offer, offers, extend, repeatRule, extensions}
+use Rattle.assembly.specs.Fields.{HasVertex, outEdge, HasEdge, edgeTo}
 use Rattle.assembly.specs.Store.{edgeAt, edgesOf}
 use Rattle.assembly.specs.Outs.{Slots, Names, Nexts, outFrom}
 use Rattle.threading_tree.specs.Ends.{ends}
@@ -203,7 +203,7 @@ module _ {g : Setting} {vs es x only to : List ℕ} {column : List Float} {t : L
       pub outs-here : outs.Here vs es (g .edges) v
       outs-here = vertex-here (E .taking) hv
 
-      pub first-asks : (v * 12 + 12 ≤ length vs) × ((c : ℕ) → c < 8 → Names es (field vs 12 v c))
+      pub first-asks : (HasVertex vs v) × ((c : ℕ) → c < 8 → Names es (outEdge vs v c))
       first-asks = next-asks outs-here
 
       module _ {first : ℕ} (all : (m : ℕ) → Slots vs es m v → Nexts es m v 0 first) where
@@ -228,21 +228,21 @@ module _ {g : Setting} {vs es x only to : List ℕ} {column : List Float} {t : L
           some-first : 0 < first
           some-first = omega arith
 
-          pub first-row : (first - 1) * 6 + 6 ≤ length es
+          pub first-row : HasEdge es (first - 1)
           first-row = next-row outs-here nexts some-first
 
           pub first-low : first - 1 < 8192
           first-low = let a = next-in outs-here nexts some-first in let b = E .taking .ground .linked .few in omega arith
 
-          begins : leaving (edgesOf es (g .edges)) v ≡ edgeAt es (first - 1) ∷ outFrom (edgesOf es (g .edges)) v (field es 6 (first - 1) 1 + 1)
+          begins : leaving (edgesOf es (g .edges)) v ≡ edgeAt es (first - 1) ∷ outFrom (edgesOf es (g .edges)) v (edgeTo es (first - 1) + 1)
           begins = sym (leaving-from (edgesOf es (g .edges)) v) ∙ next-some outs-here nexts some-first
 
-          module _ {w : ℕ} (hw : w ≡ field es 6 (first - 1) 1) where
+          module _ {w : ℕ} (hw : w ≡ edgeTo es (first - 1)) where
             pub target-fits : w + 1 ≤ length vs
             target-fits = next-fits outs-here nexts some-first hw
 
             module _ {second : ℕ} (again : (m : ℕ) → Slots vs es m v → Nexts es m v (w + 1) second) where
-              later : Nexts es (g .edges) v (field es 6 (first - 1) 1 + 1) second
+              later : Nexts es (g .edges) v (edgeTo es (first - 1) + 1) second
               later = next-again outs-here nexts some-first hw again
 
               module _ (h : second ≡ 0) where
@@ -263,7 +263,7 @@ module _ {g : Setting} {vs es x only to : List ℕ} {column : List Float} {t : L
 
               module _ (h : second ≡ 0 → ⊥) where
                 two-edges : {f : SearchInput} {bs : ℕ → List Branches} → Taking g vs es x only to t sc ac n taken f bs
-                    → leaving (f .edges) (taken .vertex) ≡ edgeAt es (first - 1) ∷ edgeAt es (second - 1) ∷ outFrom (edgesOf es (g .edges)) v (field es 6 (second - 1) 1 + 1)
+                    → leaving (f .edges) (taken .vertex) ≡ edgeAt es (first - 1) ∷ edgeAt es (second - 1) ∷ outFrom (edgesOf es (g .edges)) v (edgeTo es (second - 1) + 1)
                 two-edges H = sym (leaving-is H hv) ∙ begins ∙ ap (λ (l : List Edge). edgeAt es (first - 1) ∷ l) (next-some outs-here later (omega arith))
 
                 module _ {k : ℕ} {out′ : List ℕ} (L : Listed g vs es x t sc ac taken out′ k) where
@@ -276,7 +276,7 @@ module _ {g : Setting} {vs es x only to : List ℕ} {column : List Float} {t : L
                       ap (λ (os : List Offer). andThen (each (extend (columnScoring column) f p (chainOf f p)) os) (λ qs. ok (keep (repeatRule f) qs))) (L .is only to n f bs H)
                       ∙ sym
                       (extensions-fork (columnScoring column) f p (chainOf f p) (taken .vertex) (leaving (f .edges) (taken .vertex)) (edgeAt es (first - 1)) (edgeAt es (second - 1))
-                      (outFrom (edgesOf es (g .edges)) v (field es 6 (second - 1) 1 + 1)) (two-edges H)))
+                      (outFrom (edgesOf es (g .edges)) v (edgeTo es (second - 1) + 1)) (two-edges H)))
 
     pub lists-of : Lists g vs es x t sc ac out taken
     lists-of = record { only = only; to = to; records = n; input = E .input; trees = E .trees; taking = E .taking; rows = E .rows }

@@ -1,6 +1,14 @@
 // The paths that a taken path is extended to, all made before any is pushed. (Rust: process_vertex, junction_kbest.rs)
+use assembly::EDGE;
+use assembly::FROM;
+use assembly::TO;
 use assembly::edge_to;
 use assembly::next_out;
+use fork_offers::OFFER;
+use fork_offers::OFFER_COUNT;
+use fork_offers::OFFER_EDGE;
+use fork_offers::OFFER_GUIDED;
+use fork_offers::OFFER_TOTAL;
 use fork_offers::applicable_next_edges;
 use fork_offers::walk_trees;
 use kbest_haplotype::Penalty;
@@ -20,7 +28,8 @@ ghost use mathlib.Core.Path.{_≡_};
 ghost use mathlib.Core.List.{List};
 ghost use Prim.Native.Nat.{ℕ, _+_, _*_, _<_, _≤_};
 ghost use lib.ListN.{length};
-ghost use Rattle.laws.specs.Records.{field};
+ghost use Rattle.assembly.specs.Fields.{HasEdge, edgeField};
+ghost use Rattle.fork_offers.specs.Fields.{HasOffer};
 ghost use Rattle.kbest_haplotype.specs.Penalties.{penaltyOf, priced};
 ghost use Rattle.path_store.specs.Cells.{scoreOf};
 ghost use Rattle.path_store.specs.Path.{Table};
@@ -45,12 +54,12 @@ struct Way {
     pub free: bool,
 }
 
-// The number at place j of the edge i: 0 for its source, 1 for its target.
+// The number at place j of the edge i, its source or its target.
 fn edge_end(edges: &[u32], i: usize, j: usize) -> u32
-    requires { ⌜ (i * 6 + 6 ≤ length (now edges)) × (j < 6) ⌝ }
-    ensures { λ r. ⌜ r ≡ field (now (edges .entry)) 6 i j ⌝ }
+    requires { ⌜ (HasEdge (now edges) i) × (j < 6) ⌝ }
+    ensures { λ r. ⌜ r ≡ edgeField (now (edges .entry)) i j ⌝ }
 {
-    edges[i * 6 + j]
+    edges[i * EDGE + j]
 }
 
 // The decisions since guidance of an extension with this many trees left, by those of its parent.
@@ -91,8 +100,8 @@ fn extend_with_edges(
     let width = g.active;
     let at = wide(taken.path) * width;
     let slot = wide(n) * width;
-    let a = edge_end(edges, edge, 0);
-    let b = edge_end(edges, edge, 1);
+    let a = edge_end(edges, edge, FROM);
+    let b = edge_end(edges, edge, TO);
     let left = walk_trees(
         nodes,
         g.nodes,
@@ -119,10 +128,14 @@ fn extend_with_edges(
 
 // The score of the path with the penalty of the offer in a row, if its counts have a place in the column.
 fn offer_score(column: &[f64], scores: &[f64], offers: &[u32], path: u32, row: usize) -> Penalty
-    requires { ⌜ (path < length (now scores)) × (row * 4 + 4 ≤ length (now offers)) ⌝ }
+    requires { ⌜ (path < length (now scores)) × (HasOffer (now offers) row) ⌝ }
     ensures { λ r. ⌜ penaltyOf r ≡ priced (offerScore (now (column .entry)) (now (offers .entry)) row (scoreOf (now (scores .entry)) path)) ⌝ }
 {
-    let p = log_penalty(column, offers[row * 4 + 1], offers[row * 4 + 2]);
+    let p = log_penalty(
+        column,
+        offers[row * OFFER + OFFER_COUNT],
+        offers[row * OFFER + OFFER_TOTAL],
+    );
     let Penalty::Of(penalty) = p else {
         return p;
     };
@@ -152,9 +165,9 @@ fn extend_by_offer(
         return Extended::Refused(penalty_refusal(p));
     };
     let way = Way {
-        edge: offers[row * 4 + 0],
+        edge: offers[row * OFFER + OFFER_EDGE],
         score: score,
-        guided: offers[row * 4 + 3] != 0,
+        guided: offers[row * OFFER + OFFER_GUIDED] != 0,
         free: false,
     };
     extend_with_edges(edges, nodes, to, paths, scores, active, g, taken, n, way)

@@ -8,7 +8,6 @@ use lib.ListN.{length, getD, take}
 use lib.Seq.{getD-take, length-take-le}
 use lib.Ieee.{Float}
 use Rattle.laws.specs.ListLaws.{All, nil, cons}
-use Rattle.laws.specs.Records.{field}
 use Rattle.laws.specs.Sorting.{same-or}
 use Rattle.definition.specs.Limits.{Sample}
 use Rattle.definition.specs.Threading.{Edge, threaded, withSymbolic}
@@ -16,6 +15,7 @@ use Rattle.definition.specs.Evidence.{Branches}
 use Rattle.definition.specs.Search.{SearchInput, Closed, State, endFrom}
 use Rattle.definition.specs.Building.{Built}
 use Rattle.definition.proofs.Walks.{Linked, GoodClosed, GoodState, Numbered}
+use Rattle.assembly.specs.Fields.{HasVertices, kmerPlace, edgeFrom, edgeTo}
 use Rattle.assembly.specs.Table.{Distinct}
 use Rattle.assembly.specs.Store.{edgeAt, edgesOf, graphOf}
 use Rattle.assembly.specs.Moves.{kmers-same}
@@ -52,18 +52,18 @@ module _ (shut : List ℕ) (count records : ℕ) (room : count ≤ length shut) 
 
 -- ---- no closed path takes the symbolic edge: nothing leaves its far end, and a closed path ends at the sink
 
-module _ (E : List Edge) (es : List ℕ) (n m sink : ℕ) (from-in : (e : ℕ) → e < suc m → field es 6 e 0 < n) (far : field es 6 m 1 ≡ n) (inside : sink < n) where
+module _ (E : List Edge) (es : List ℕ) (n m sink : ℕ) (from-in : (e : ℕ) → e < suc m → edgeFrom es e < n) (far : edgeTo es m ≡ n) (inside : sink < n) where
   walk-real : (w : List ℕ) (v : ℕ) → All (λ e. e < suc m) w → Linked E v (map (nameOf es) w) → endFrom v (map (nameOf es) w) ≡ sink → All (λ e. e < m) w
   unfolding endFrom
   walk-real [] v nil l e = nil
-  walk-real (d ∷ w) v (cons h a) l e = go (λ k. walk-real w (field es 6 d 1) a k e) (same-or d m h)
+  walk-real (d ∷ w) v (cons h a) l e = go (λ k. walk-real w (edgeTo es d) a k e) (same-or d m h)
     where
-      stuck : (w : List ℕ) → All (λ e. e < suc m) w → Linked E (field es 6 d 1) (map (nameOf es) w) → endFrom (field es 6 d 1) (map (nameOf es) w) ≡ sink → field es 6 d 1 ≡ n → ⊥
+      stuck : (w : List ℕ) → All (λ e. e < suc m) w → Linked E (edgeTo es d) (map (nameOf es) w) → endFrom (edgeTo es d) (map (nameOf es) w) ≡ sink → edgeTo es d ≡ n → ⊥
       stuck [] nil l e z = omega arith
-      stuck (c ∷ w) (cons k a) l e z = let q = from-in c k in let p : field es 6 c 0 ≡ field es 6 d 1 = l .1 in omega arith
+      stuck (c ∷ w) (cons k a) l e z = let q = from-in c k in let p : edgeFrom es c ≡ edgeTo es d = l .1 in omega arith
 
-      go : (Linked E (field es 6 d 1) (map (nameOf es) w) → All (λ e. e < m) w) → (d ≡ m) ⊎ (d < m) → All (λ e. e < m) (d ∷ w)
-      go up (inl z) = absurd (stuck w a (l .2) e (ap (λ x. field es 6 x 1) z ∙ far))
+      go : (Linked E (edgeTo es d) (map (nameOf es) w) → All (λ e. e < m) w) → (d ≡ m) ⊎ (d < m) → All (λ e. e < m) (d ∷ w)
+      go up (inl z) = absurd (stuck w a (l .2) e (ap (λ x. edgeTo es x) z ∙ far))
       go up (inr k) = cons k (up (l .2))
 
   pub closed-real : {Fine : Float → Type 0} (f : SearchInput) → f .sink ≡ sink → f .edges ≡ E → (only to t : List ℕ) (sc : List Float) (closing : ℕ → ℕ) (shut : List ℕ) (count records : ℕ)
@@ -84,15 +84,15 @@ module _ (E : List Edge) (es : List ℕ) (n m sink : ℕ) (from-in : (e : ℕ) �
 -- ---- the graph built, once its vertices' records have gained the symbolic edge and the roots of the trees
 
 module _ (s : Sample) (v e : ℕ) (vs₀ es : List ℕ) (n m sink : ℕ) (B : BuiltAt s v e vs₀ es n m sink) (vs : List ℕ)
-    (kept : (u : ℕ) → u < n → field vs 12 u 8 ≡ field vs₀ 12 u 8) where
+    (kept : (u : ℕ) → u < n → kmerPlace vs u ≡ kmerPlace vs₀ u) where
   pub graph-kept : graphOf (s .k) (s .reference ++ s .bases) vs n es m ≡ threaded s
   unfolding graphOf
   graph-kept = ap (λ (x : List (List ℕ)). record { kmers = x; edges = edgesOf es m }) (kmers-same (s .k) (s .reference ++ s .bases) vs₀ vs n kept) ∙ B .graph
 
-  pub ends-in : (d : ℕ) → d < suc m → field es 6 d 0 < n
+  pub ends-in : (d : ℕ) → d < suc m → edgeFrom es d < n
   ends-in d h = go (same-or d m h)
     where
-      go : (d ≡ m) ⊎ (d < m) → field es 6 d 0 < n
+      go : (d ≡ m) ⊎ (d < m) → edgeFrom es d < n
       go (inl z) = rw z (let a = B .from in let b = B .inside in omega arith)
       go (inr l) = B .good .from-in d l
 
@@ -127,7 +127,7 @@ module _ (s : Sample) (v e : ℕ) (vs₀ es : List ℕ) (n m sink : ℕ) (B : Bu
 
 -- ---- the state that a search ends in, over the tables of the graph built
 
-module _ (s : Sample) (v e : ℕ) (vs₀ es : List ℕ) (n m sink : ℕ) (B : BuiltAt s v e vs₀ es n m sink) (vs : List ℕ) (kept : (u : ℕ) → u < n → field vs 12 u 8 ≡ field vs₀ 12 u 8)
+module _ (s : Sample) (v e : ℕ) (vs₀ es : List ℕ) (n m sink : ℕ) (B : BuiltAt s v e vs₀ es n m sink) (vs : List ℕ) (kept : (u : ℕ) → u < n → kmerPlace vs u ≡ kmerPlace vs₀ u)
     (f : SearchInput) (g : Setting) (x only to : List ℕ) (G : Ground f g vs es x only to) (ge : g .edges ≡ m + 1) (gs : g .sink ≡ sink)
     (bs : ℕ → List Branches) (closing : ℕ → ℕ) (t : List ℕ) (sc : List Float) (ac queue shut order marks : List ℕ) (p : Progress) (st : State Float)
     (H : Holds f g es x only to bs closing t sc ac queue shut order marks p st) {Fine : Float → Type 0} (good : GoodState Fine f st) where
@@ -148,7 +148,7 @@ module _ (s : Sample) (v e : ℕ) (vs₀ es : List ℕ) (n m sink : ℕ) (B : Bu
       shows-of s v e vs₀ es n m sink B vs kept f (G .sink ∙ gs) the-edges only to t sc closing shut (p .closed) (p .records) (H .shut-room) (H .shut-known) (H .records .held .table)
       the-size (st .closed) (H .closed) (good .closed) b bg be (rw ge at (G .linked .distinct)) numbered
 
-  pub ended-listable : 0 < s .k → length (s .reference ++ s .bases) < 2 ^ 32 → n * 12 ≤ length vs → p .closed ≤ 128
+  pub ended-listable : 0 < s .k → length (s .reference ++ s .bases) < 2 ^ 32 → HasVertices vs n → p .closed ≤ 128
       → (walks rank scored closings lengths spellings sequences places : ℕ) → p .closed * g .most ≤ walks → p .closed ≤ rank → p .closed ≤ scored → p .closed ≤ closings → p .closed ≤ lengths
       → p .closed * (s .k + g .most) ≤ spellings → p .closed * g .most ≤ sequences → p .closed * g .most ≤ places
       → Listable (s .reference ++ s .bases) vs es only to t sc shut (s .k) (g .most) (p .closed) walks rank scored closings lengths spellings sequences places

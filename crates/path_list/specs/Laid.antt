@@ -8,9 +8,8 @@ use native.Mathlib.Numerals.{add-one}
 use native.Mathlib.Omega.{arith}
 use lib.ListN.{length, take, drop, length-drop, take-append-drop}
 use lib.Seq.{sets, sets-eq, length-sets, take-append-le, drop-append-le, take-append-seam, drop-at, length-take-le}
-use Rattle.laws.specs.Rows.{rows, length-rows, rows-more}
+use Rattle.laws.specs.Rows.{rows, length-rows, rows-more, rows-none}
 use Rattle.laws.specs.Sorting.{same-or}
-use Rattle.assembly.specs.Kmers.{rows-0}
 use Rattle.definition.specs.Calls.{writtenAt, writtenRows}
 
 -- i rows of i come before the row i
@@ -72,7 +71,7 @@ pub record Laid (stride : ℕ) (row : ℕ → List ℕ) (old : List ℕ) (i : �
 
 module _ (stride : ℕ) (row : ℕ → List ℕ) (old : List ℕ) where
   pub laid-start : Laid stride row old 0 old
-  laid-start = record { is = sym (ap (λ (l : List (List ℕ)). writtenRows stride 0 l old) (rows-0 row) ∙ none-written stride old); size = refl }
+  laid-start = record { is = sym (ap (λ (l : List (List ℕ)). writtenRows stride 0 l old) (rows-none row) ∙ none-written stride old); size = refl }
 
   rows-next : (i : ℕ) → writtenRows stride 0 (rows row (suc i)) old ≡ writtenAt (i * stride) (row i) (writtenRows stride 0 (rows row i) old)
   rows-next i =

@@ -7,7 +7,6 @@ use native.Mathlib.Omega.{arith}
 use lib.ListN.{length, getD, take, drop, length-map, length-drop}
 use lib.Seq.{getD-take, length-take-le}
 use lib.Ieee.{Float, nan}
-use Rattle.laws.specs.Records.{field}
 use Rattle.laws.specs.Rows.{rows}
 use Rattle.definition.specs.Score.{columnScoring}
 use Rattle.definition.specs.Limits.{Input, basesStride}
@@ -17,6 +16,7 @@ use Rattle.definition.specs.Building.{Built}
 use Rattle.definition.specs.Listing.{Row, rowOf, listOrder}
 use Rattle.definition.specs.Calls.{pathRow, writtenAt, writtenRows, ListSlices, listedSlices}
 use Rattle.definition.specs.Calls as defs
+use Rattle.assembly.specs.Fields.{HasVertices, HasEdges, edgeTo}
 use Rattle.assembly.specs.Store.{edgeAt}
 use Rattle.assembly.specs.Paths.{Spells}
 use Rattle.path_store.specs.Cells.{countOf}
@@ -38,8 +38,8 @@ pub record Listable (text vs es only to t : List ℕ) (sc : List Float) (shut : 
   pub drawn : Drawn text vs es only to t shut k count vertices real
   pub some : 0 < k
   pub small : length text < 2 ^ 32
-  pub vertices-room : vertices * 12 ≤ length vs
-  pub edges-room : real * 6 ≤ length es
+  pub vertices-room : HasVertices vs vertices
+  pub edges-room : HasEdges es real
   pub few : count ≤ 128
   pub rank-room : count ≤ rank
   pub scored-room : count ≤ scored
@@ -91,7 +91,7 @@ module _ (text vs es only to t : List ℕ) (sc : List Float) (shut : List ℕ) (
           first-fits = L .drawn .fits 0 (L .drawn .vertex);
           edge-room = λ x m. (let a = walked-edge i x h m in omega arith);
           to-room = λ x m. (let a = L .drawn .to-in (getD (drop (i * most) walks) x 0) (walked-edge i x h m) in omega arith);
-          to-fits = λ x m. L .drawn .fits (field es 6 (getD (drop (i * most) walks) x 0) 1) (L .drawn .to-in (getD (drop (i * most) walks) x 0) (walked-edge i x h m));
+          to-fits = λ x m. L .drawn .fits (edgeTo es (getD (drop (i * most) walks) x 0)) (L .drawn .to-in (getD (drop (i * most) walks) x 0) (walked-edge i x h m));
         }
 
     pub ready-of : Ready (lists text vs es t sc shut walks k most) count

@@ -9,10 +9,10 @@ use native.Mathlib.Decide.{decLt}
 use lib.ListN.{length, getD, set, take, drop, length-set, length-drop, length-map, length-append, List·getD-append}
 use lib.Seq.{sets, getD-set-same, getD-set-other, getD-append-add, getD-drop, ext-getD, length-take-le, take-all, paste}
 use lib.Ieee.{Float, nan}
-use Rattle.laws.specs.Records.{field}
 use Rattle.laws.specs.Rows.{rows, length-rows, getD-rows}
 use Rattle.laws.specs.Sorting.{same-or}
 use Rattle.definition.specs.Calls.{writtenAt}
+use Rattle.assembly.specs.Fields.{HasEdge, edgeField}
 use Rattle.assembly.specs.Paths.{Spells, basesOf, bases-length}
 use Rattle.path_store.specs.Cells.{countOf, scoreOf, Inside}
 use Rattle.path_list.specs.Laid.{Laid, row-low, laid-next, laid-sets}
@@ -200,12 +200,12 @@ pub record Filed (es t : List ℕ) (sc : List Float) (shut walks : List ℕ) (mo
   pub records : Known t sc shut count
   pub short : (i : ℕ) → i < count → countOf t (recordAt shut i) ≤ most
   pub walks-room : count * most ≤ length walks
-  pub edge-room : (i x : ℕ) → i < count → x < countOf t (recordAt shut i) → getD (drop (i * most) walks) x 0 * 6 + 6 ≤ length es
+  pub edge-room : (i x : ℕ) → i < count → x < countOf t (recordAt shut i) → HasEdge es (getD (drop (i * most) walks) x 0)
 
 -- field j of the edges of row r
 abbrev pub fieldsAt : List ℕ → List ℕ → List ℕ → List ℕ → ℕ → ℕ → List ℕ → ℕ → List ℕ
 fieldsAt es t shut walks most j rank r =
-    map (λ e. field es 6 e j) (take (countOf t (recordAt shut (getD rank r 0))) (drop (getD rank r 0 * most) walks))
+    map (λ e. edgeField es e j) (take (countOf t (recordAt shut (getD rank r 0))) (drop (getD rank r 0 * most) walks))
 
 module _ (es t : List ℕ) (sc : List Float) (shut walks : List ℕ) (most count : ℕ) (F : Filed es t sc shut walks most count) where
   -- the edges from the row of the path i on, as the code hands them on
@@ -239,13 +239,13 @@ module _ (es t : List ℕ) (sc : List Float) (shut walks : List ℕ) (most count
         (in-walks, (λ x m. (let z = F .edge-room (getD rank r 0) x (P .known r h) m in omega arith)), omega arith)
 
     pub filed-next : (j : ℕ) (old out out′ : List ℕ) (i n : ℕ) → i ≡ getD rank r 0 → n ≡ countOf t (recordAt shut (getD rank r 0)) → count * most ≤ length old
-        → Laid most (fieldsAt es t shut walks most j rank) old r out → out′ ≡ sets out (r * most) (map (λ e. field es 6 e j) (take n (part i)))
+        → Laid most (fieldsAt es t shut walks most j rank) old r out → out′ ≡ sets out (r * most) (map (λ e. edgeField es e j) (take n (part i)))
         → Laid most (fieldsAt es t shut walks most j rank) old (r + 1) out′
     filed-next j old out out′ i n e f k L w =
         let a = filed-room (length old) k in
         let b = F .short (getD rank r 0) (P .known r h) in
         let c : length (fieldsAt es t shut walks most j rank r) ≡ countOf t (recordAt shut (getD rank r 0)) =
-        length-map (take (countOf t (recordAt shut (getD rank r 0))) (drop (getD rank r 0 * most) walks)) (λ e. field es 6 e j)
+        length-map (take (countOf t (recordAt shut (getD rank r 0))) (drop (getD rank r 0 * most) walks)) (λ e. edgeField es e j)
         ∙ length-take-le (countOf t (recordAt shut (getD rank r 0))) (drop (getD rank r 0 * most) walks) in-walks
         in
         let q : out′ ≡ sets out (r * most) (fieldsAt es t shut walks most j rank r) = rw (e, f, whole (getD rank r 0)) at w in

@@ -2,7 +2,7 @@
 use mathlib.Core.Path.{_≡_, refl, sym, ap, _∙_}
 use mathlib.Core.Bool.{true, false}
 use mathlib.Core.List.{List, [], _∷_, _++_, map}
-use Prim.Native.Nat.{ℕ, zero, suc, _+_, _-_, _*_, _^_, _<_, _≤_, compare, Ordering, Ordering·lt, Ordering·eq, Ordering·gt}
+use Prim.Native.Nat.{ℕ, zero, suc, _+_, _-_, _^_, _<_, _≤_, compare, Ordering, Ordering·lt, Ordering·eq, Ordering·gt}
 use native.Mathlib.Numerals.{add-one}
 use native.Mathlib.Omega.{arith}
 use lib.Dec.{ltb}
@@ -10,8 +10,8 @@ use lib.ListN.{length, getD, take, drop, length-map}
 use lib.Seq.{drop-cons, drop-nil, getD-take, length-take-le}
 use borrow.Author.Tests.{lt-ltb, le-ltb}
 use Rattle.laws.specs.Lists.{lastOr}
-use Rattle.laws.specs.Records.{field}
 use Rattle.laws.specs.Numbers.{compareList, isGt, then, compare-eq, lt-compare, eq-compare, gt-compare}
+use Rattle.assembly.specs.Fields.{HasVertex, kmerPlace, HasEdge, edgeTo}
 use Rattle.assembly.specs.Store.{kmerAt}
 use Rattle.assembly.specs.Kmers.{last-part}
 use Rattle.assembly.specs.Paths.{endBase, Spells}
@@ -21,19 +21,19 @@ use Rattle.assembly.specs.Paths.{endBase, Spells}
 pub record Spelt (k : ℕ) (text vs es : List ℕ) (e : ℕ) : Type 0 where
   pub some : 0 < k
   pub small : length text < 2 ^ 32
-  pub edge-room : e * 6 + 6 ≤ length es
-  pub to-room : field es 6 e 1 * 12 + 12 ≤ length vs
-  pub to-fits : field vs 12 (field es 6 e 1) 8 + k ≤ length text
+  pub edge-room : HasEdge es e
+  pub to-room : HasVertex vs (edgeTo es e)
+  pub to-fits : kmerPlace vs (edgeTo es e) + k ≤ length text
 
 pub spelt-at : (k : ℕ) (text vs es path : List ℕ) (n : ℕ) → Spells k text vs es path n → (i : ℕ) → i < n → Spelt k text vs es (getD path i 0)
 spelt-at k text vs es path n S i h =
     record { some = S .some; small = S .small; edge-room = S .edge-room i h; to-room = S .to-room i h; to-fits = S .to-fits i h }
 
-module _ (k : ℕ) (text vs es : List ℕ) (e : ℕ) (S : Spelt k text vs es e) (v : ℕ) (hv : v ≡ field es 6 e 1) where
-  pub base-room : v * 12 + 12 ≤ length vs
+module _ (k : ℕ) (text vs es : List ℕ) (e : ℕ) (S : Spelt k text vs es e) (v : ℕ) (hv : v ≡ edgeTo es e) where
+  pub base-room : HasVertex vs v
   base-room = rw hv (S .to-room)
 
-  module _ (p : ℕ) (hp : p ≡ field vs 12 v 8) where
+  module _ (p : ℕ) (hp : p ≡ kmerPlace vs v) where
     pub base-fits : p + k ≤ length text
     base-fits = rw (hp, hv) (S .to-fits)
 

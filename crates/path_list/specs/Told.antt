@@ -11,8 +11,7 @@ use lib.Ieee.{Float}
 use borrow.Author.Tests.{eq-eqb}
 use Rattle.laws.specs.Lists.{find}
 use Rattle.laws.specs.ListLaws.{All, nil, cons, all-mono}
-use Rattle.laws.specs.Records.{field}
-use Rattle.laws.specs.Rows.{rows, rows-more, rows-same}
+use Rattle.laws.specs.Rows.{rows, rows-more, rows-same, rows-none}
 use Rattle.laws.specs.Insertion.{insert, sorted, all-sorted}
 use Rattle.laws.specs.Sorting.{insert-map}
 use Rattle.definition.specs.Score.{columnScoring}
@@ -22,9 +21,9 @@ use Rattle.definition.specs.Building.{Built}
 use Rattle.definition.specs.Listing.{Row, rowOf, pathBases, originAt, above, listOrder}
 use Rattle.definition.specs.Calls.{pathRow, writtenAt, writtenRows}
 use Rattle.definition.proofs.Walks.{Numbered, eqEnds-true}
+use Rattle.assembly.specs.Fields.{kmerPlace, edgeFrom, edgeTo}
 use Rattle.assembly.specs.Table.{table, Distinct, find-table-some}
 use Rattle.assembly.specs.Store.{edgeAt, edgesOf, kmerAt, graphOf}
-use Rattle.assembly.specs.Kmers.{rows-0}
 use Rattle.assembly.specs.Paths.{basesOf, bases-is}
 use Rattle.path_rows.specs.Rows.{finished}
 use Rattle.search_state.specs.Ground.{nameOf}
@@ -36,8 +35,8 @@ use Rattle.path_list.specs.Ranks.{Lists, scoreAt, countAt, walkAt, tailA
 -- the closed paths are spelled by the graph of n vertices and m edges: none takes the symbolic edge
 pub record Drawn (text vs es only to t shut : List ℕ) (k count n m : ℕ) : Type 0 where
   pub vertex : 0 < n
-  pub fits : (v : ℕ) → v < n → field vs 12 v 8 + k ≤ length text
-  pub to-in : (e : ℕ) → e < m → field es 6 e 1 < n
+  pub fits : (v : ℕ) → v < n → kmerPlace vs v + k ≤ length text
+  pub to-in : (e : ℕ) → e < m → edgeTo es e < n
   pub real : (i : ℕ) → i < count → All (λ e. e < m) (walkOf only to t shut i)
 
 -- the tables show the graph, its edges with the symbolic one, and the closed paths
@@ -73,7 +72,7 @@ take-from l a (suc n) h =
     ∙ ap (λ (m : List ℕ). getD l a 0 ∷ m) (take-from l (suc a) n (omega arith))
 
 rows-map : {A : Type 0} (f : ℕ → A) (rank : List ℕ) (n : ℕ) → n ≤ length rank → rows (λ r. f (getD rank r 0)) n ≡ map f (take n rank)
-rows-map f rank zero h = rows-0 (λ r. f (getD rank r 0))
+rows-map f rank zero h = rows-none (λ r. f (getD rank r 0))
 rows-map {A} f rank (suc n) h =
     rows-more (λ r. f (getD rank r 0)) (λ r. f (getD rank r 0)) n (f (getD rank n 0)) refl (λ j m. refl)
     ∙ ap (λ (l : List A). l ++ f (getD rank n 0) ∷ []) (rows-map f rank n (omega arith))
@@ -159,7 +158,7 @@ module _ (l : Lists) (only to : List ℕ) (count : ℕ) (b : Built) (closed : Li
   origin-is e h =
       let f : find (λ (d : Edge). eqEnds (nameOf (l .es) e) (d .ends)) (table (edgeAt (l .es)) (S .all)) ≡ some (edgeAt (l .es) e) =
       find-table-some (eqEnds (nameOf (l .es) e)) (edgeAt (l .es)) (S .all) e (let z = S .within in omega arith)
-      (rw (eq-eqb (field (l .es) 6 e 0) (field (l .es) 6 e 0) refl, eq-eqb (field (l .es) 6 e 1) (field (l .es) 6 e 1) refl))
+      (rw (eq-eqb (edgeFrom (l .es) e) (edgeFrom (l .es) e) refl, eq-eqb (edgeTo (l .es) e) (edgeTo (l .es) e) refl))
       (λ j k q. sym (S .distinct e j (let z = S .within in omega arith) k (eqEnds-true (nameOf (l .es) e) (nameOf (l .es) j) q)))
       in
       rw (← S .edges, f, originAt)

@@ -3,6 +3,8 @@ pub mod walks; // walks.rt: the edges of the closed paths, written out
 pub mod order; // order.rt: which of two closed paths stands above the other, and all of them sorted
 pub mod rows; // rows.rt: the rows of the list as columns, and their bases and origins
 
+use assembly::PLACE;
+use assembly::SEQUENCE;
 ghost use mathlib.Core.List.{_++_};
 ghost use Prim.Native.Nat.{_+_};
 ghost use lib.ListN.{length};
@@ -12,11 +14,6 @@ use crate::rows::write_columns;
 use crate::rows::write_origins;
 use crate::rows::write_spellings;
 use crate::walks::write_walks;
-
-// The fields of an edge's record that hold its origin.
-const SEQUENCE: usize = 4;
-
-const PLACE: usize = 5;
 
 // The list of the closed paths, whose records stand in `shut` in the order of closing: the columns of its rows, for path_rows to copy, and beside
 // them the bases and the origins. `walks` and `rank` are workspace: the edges of the closed paths, and their numbers in the list's order.

@@ -18,6 +18,7 @@ use Rattle.definition.specs.Evidence.{Branches}
 use Rattle.definition.specs.Score.{columnScoring}
 use Rattle.definition.specs.Search.{SearchInput, Path, State, made, broken, recover, advance}
 use Rattle.definition.proofs.Counts.{Small}
+use Rattle.assembly.specs.Fields.{edgeFrom}
 use Rattle.path_store.specs.Cells.{countOf, joinedOf, treesOf, scoreOf, Inside, putCells, put-at, put-other, put-trees}
 use Rattle.path_store.specs.Grow.{recoveredRow}
 use Rattle.path_store.specs.Held.{Held, held-recovered, pushed-closed}
@@ -270,30 +271,30 @@ module _ {A : Around} {es only to t : List ℕ} {sc : List Float} {shut order ma
         (bestFor es only to t sc shut p e) best-source z
 
     module _ (b : ℕ) (B : suc b ≡ bestFor es only to t sc shut p e) (l : b < p .records) where
-      gives-lost : kept only to t b (field es 6 e 0) ≡ 0 → recover (columnScoring column) (A .f) (nameOf es e) s ≡ made s []
+      gives-lost : kept only to t b (edgeFrom es e) ≡ 0 → recover (columnScoring column) (A .f) (nameOf es e) s ≡ made s []
       gives-lost z =
           recover-lost (A .f) (nameOf es) only to (R .ground .agrees) column (A .closing) t sc (p .records) (R .holds .records .held .table) e (take (p .closed) shut) s (R .holds .closed)
           b (B ∙ best-source) l z
 
-      module _ (pos : 0 < kept only to t b (field es 6 e 0)) where
-        keeps-low : kept only to t b (field es 6 e 0) ≤ countOf t b
+      module _ (pos : 0 < kept only to t b (edgeFrom es e)) where
+        keeps-low : kept only to t b (edgeFrom es e) ≤ countOf t b
         keeps-low =
             recover-low (A .f) (nameOf es) only to (R .ground .agrees) column (A .closing) t sc (p .records) (R .holds .records .held .table) e (take (p .closed) shut) s (R .holds .closed)
-            b (B ∙ best-source) l (kept only to t b (field es 6 e 0)) refl pos
+            b (B ∙ best-source) l (kept only to t b (edgeFrom es e)) refl pos
 
         module _ (I : Inside t sc (p .records)) (h : e < length to) where
-          gives-over : g .most < kept only to t b (field es 6 e 0) + 1 → recover (columnScoring column) (A .f) (nameOf es e) s ≡ broken 11
+          gives-over : g .most < kept only to t b (edgeFrom es e) + 1 → recover (columnScoring column) (A .f) (nameOf es e) s ≡ broken 11
           gives-over o =
               recover-over (A .f) (nameOf es) only to (R .ground .agrees) column (A .closing) t sc (p .records) (R .holds .records .held .table) e (take (p .closed) shut) s (R .holds .closed)
-              b (B ∙ best-source) l (kept only to t b (field es 6 e 0)) refl pos I h (omega (arith, R .ground .most))
+              b (B ∙ best-source) l (kept only to t b (edgeFrom es e)) refl pos I h (omega (arith, R .ground .most))
 
-          gives-made : kept only to t b (field es 6 e 0) + 1 ≤ g .most
+          gives-made : kept only to t b (edgeFrom es e) + 1 ≤ g .most
               → recover (columnScoring column) (A .f) (nameOf es e) s
               ≡ made s
-              (viewOf (A .f) (nameOf es) only to [] (putCells t (p .records) (recoveredRow only t sc to b (kept only to t b (field es 6 e 0)) e)) (set sc (p .records) (scoreOf sc b)) (p .records) ∷ [])
+              (viewOf (A .f) (nameOf es) only to [] (putCells t (p .records) (recoveredRow only t sc to b (kept only to t b (edgeFrom es e)) e)) (set sc (p .records) (scoreOf sc b)) (p .records) ∷ [])
           gives-made o =
               recover-made (A .f) (nameOf es) only to (R .ground .agrees) column (A .closing) t sc (p .records) (R .holds .records .held .table) e (take (p .closed) shut) s (R .holds .closed)
-              b (B ∙ best-source) l (kept only to t b (field es 6 e 0)) refl pos I h (omega (arith, R .ground .most))
+              b (B ∙ best-source) l (kept only to t b (edgeFrom es e)) refl pos I h (omega (arith, R .ground .most))
 
 -- ---- the next pivotal edge
 
@@ -414,7 +415,7 @@ module _ {es only to t : List ℕ} {sc : List Float} {shut order marks walk : Li
       best = bestFor es only to t sc shut (nextAt p place) (getD order place 0)
 
       abbrev keeps : ℕ
-      keeps = kept only to t (bestFor es only to t sc shut (nextAt p place) (getD order place 0) - 1) (field es 6 (getD order place 0) 0)
+      keeps = kept only to t (bestFor es only to t sc shut (nextAt p place) (getD order place 0) - 1) (edgeFrom es (getD order place 0))
 
       best-low : 0 < best → best - 1 < p .records
       best-low q = best-at step-tries (best - 1) (omega arith)

@@ -4,7 +4,7 @@ use mathlib.Core.Logic.{_⊎_, inl, inr}
 use mathlib.Core.Bool.{Bool, true, false}
 use mathlib.Core.List.{List, [], map}
 use mathlib.Core.Option.{Option, none, some}
-use Prim.Native.Nat.{ℕ, suc, _+_, _-_, _*_, _<_, _≤_}
+use Prim.Native.Nat.{ℕ, suc, _+_, _-_, _<_, _≤_}
 use native.Mathlib.Omega.{arith}
 use lib.Dec.{eqb}
 use lib.ListN.{length, getD, take}
@@ -12,9 +12,9 @@ use lib.Seq.{getD-take, length-take-le}
 use lib.Ieee.{Float, isNan}
 use Rattle.laws.specs.Lists.{any, keep}
 use Rattle.laws.specs.ListLaws.{All, nil, cons, all-keep, all-map}
-use Rattle.laws.specs.Records.{field}
 use Rattle.definition.specs.Score.{Scoring, columnScoring}
 use Rattle.definition.specs.Search.{SearchInput, Closed, greatest, verticesFrom}
+use Rattle.assembly.specs.Fields.{HasEdge, edgeFrom}
 use Rattle.path_store.specs.Cells.{countOf, scoreOf, Inside}
 use Rattle.path_store.specs.Path.{Table, table-front}
 use Rattle.path_store.specs.Link.{Agrees}
@@ -41,16 +41,16 @@ pub record TriesEdge (es only to t : List ℕ) (sc : List Float) (shut walk : Li
   pub room : Inside t sc (p .records)
   pub fits : p .records + 1 < 4294967296
   pub edge : e < length to
-  pub row : e * 6 + 6 ≤ length es
+  pub row : HasEdge es e
 
 -- the number + 1 of the best closed path through the vertex that e leaves
 abbrev pub bestFor : List ℕ → List ℕ → List ℕ → List ℕ → List Float → List ℕ → Progress → ℕ → ℕ
-bestFor es only to t sc shut p e = bestOf only to 0 t sc (field es 6 e 0) (take (p .closed) shut)
+bestFor es only to t sc shut p e = bestOf only to 0 t sc (edgeFrom es e) (take (p .closed) shut)
 
 abbrev pub EdgeTried : List ℕ → List ℕ → List ℕ → List ℕ → List Float → List ℕ → Setting → Progress → ℕ → List ℕ → List Float → Recovery → Type 0
 EdgeTried es only to t sc shut g p e t′ sc′ r =
     ((bestFor es only to t sc shut p e ≡ 0) × (r ≡ recovery.Made p) × Lost t sc p t′ sc′ p)
-    ⊎ ((0 < bestFor es only to t sc shut p e) × Left only to t sc g p (bestFor es only to t sc shut p e - 1) (field es 6 e 0) e t′ sc′ r)
+    ⊎ ((0 < bestFor es only to t sc shut p e) × Left only to t sc g p (bestFor es only to t sc shut p e - 1) (edgeFrom es e) e t′ sc′ r)
 
 -- what holds of all closed paths holds of the greatest
 all-greatest : (𝓢 : Scoring Float) {P : Closed Float → Type 0} {cs : List (Closed Float)} (b : Closed Float) → All P cs → greatest 𝓢 cs ≡ some b → P b
@@ -67,11 +67,11 @@ all-greatest 𝓢 {P} b (cons {x = c} {xs = cs} p ps) t = go (greatest 𝓢 cs) 
         pick false u = let h : some d ≡ some b = rw (e, greatest, u) at t in let same : d ≡ b = cc in subst P same (ih d e)
 
 module _ {es only to t : List ℕ} {sc : List Float} {shut walk : List ℕ} {g : Setting} {p : Progress} {e : ℕ} (T : TriesEdge es only to t sc shut walk g p e) where
-  pub edge-row : (i : ℕ) → i ≡ e → i * 6 + 6 ≤ length es
+  pub edge-row : (i : ℕ) → i ≡ e → HasEdge es i
   edge-row i h = rw h (T .row)
 
-  pub edge-from-is : (i v : ℕ) → i ≡ e → v ≡ field es 6 i 0 → v ≡ field es 6 e 0
-  edge-from-is i v h k = k ∙ ap (λ x. field es 6 x 0) h
+  pub edge-from-is : (i v : ℕ) → i ≡ e → v ≡ edgeFrom es i → v ≡ edgeFrom es e
+  edge-from-is i v h k = k ∙ ap (λ x. edgeFrom es x) h
 
   closed-low : (i : ℕ) → i < p .closed → getD shut i 0 < p .records
   closed-low i h =
@@ -90,7 +90,7 @@ module _ {es only to t : List ℕ} {sc : List Float} {shut walk : List ℕ} {g :
   -- the best closed path is one of the records: by the definition's greatest, where each closed path's number is its record's
   pub best-at : (b : ℕ) → bestFor es only to t sc shut p e ≡ suc b → b < p .records
   best-at b h =
-      let v = field es 6 e 0 in
+      let v = edgeFrom es e in
       let cs = take (p .closed) shut in
       let at = closedAt (T .f) (nameOf es) only to (T .agrees) [] (λ r. r) t sc v in
       let j : bestOf only to (T .f .source) t sc v cs ≡ suc b = rw (T .source) h in
@@ -101,7 +101,7 @@ module _ {es only to t : List ℕ} {sc : List Float} {shut walk : List ℕ} {g :
       all-greatest (columnScoring []) {P = λ c. c .closing < p .records} (at b)
       (all-keep (λ c. any (eqb v) (verticesFrom (T .f .source) (c .edges))) (all-map at (λ r l. l) (T .shut-known))) k
 
-  module _ (v best : ℕ) (v-is : v ≡ field es 6 e 0) (B : best ≡ bestOf only to 0 t sc v (take (p .closed) shut)) where
+  module _ (v best : ℕ) (v-is : v ≡ edgeFrom es e) (B : best ≡ bestOf only to 0 t sc v (take (p .closed) shut)) where
     best-is : best ≡ bestFor es only to t sc shut p e
     best-is = B ∙ ap (λ x. bestOf only to 0 t sc x (take (p .closed) shut)) v-is
 

@@ -11,7 +11,7 @@ use Rattle.definition.specs.Refusal.{firstBroken}
 use Rattle.definition.specs.Limits.{Input, longEnough, listTold, toldBases, toldOrigins, basesStride}
 use Rattle.definition.specs.Text.{Text, textRules, sizeOf}
 use Rattle.limits.specs.Rules.{none-broken}
-use Rattle.limits.specs.Bounds.{k-most}
+use Rattle.limits.specs.Bounds.{k-most, max-le}
 use Rattle.list_work.specs.Works.{inputFor}
 use Rattle.limits.specs.Long.{no-short, none-short}
 use Rattle.list_call.specs.Lent.{toldOf, lentOf}
@@ -105,9 +105,6 @@ lends-arrays o w e1 e2 e3 e4 e5 e6 e7 e8 e9 e10 e11 e12 e13 e14 e15 e16 e17 e18 
       w-marks = omega (arith, e18);
       w-walks = omega (arith, e19);
     }
-
-max-le : (a b c : ℕ) → a ≤ c → b ≤ c → max a b ≤ c
-max-le a b c h k = omega arith
 
 module _ (s : Source) (T E : List ℕ) (c : List Float) (o : Outputs) (w : Tables) (l : Lends o w) (asked-few : s .settings .asked ≤ 8) (k-few : s .settings .k ≤ 128) where
   abbrev i : Input

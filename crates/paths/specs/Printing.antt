@@ -1,7 +1,7 @@
 -- What stands in the buffer at the end.
 use mathlib.Core.Path.{_≡_, refl, sym, ap, _∙_}
 use mathlib.Core.Logic.{_⊎_, inl, inr}
-use mathlib.Core.Bool.{Bool, true, false, _&&_}
+use mathlib.Core.Bool.{and-false}
 use mathlib.Core.List.{List, _++_}
 use mathlib.Core.Option.{Option, none, some}
 use Prim.Native.Nat.{ℕ, _+_, _%_, _<_, _≤_}
@@ -102,10 +102,6 @@ long-text bytes h = rw (lt-leb (length bytes) 8192 h, textOf)
 
 pub longer-text : (bytes : List ℕ) (file : Option (List ℕ)) → 8192 < length bytes → printed (some bytes) file ≡ printed none file
 longer-text bytes file h = sym (prints-no-text (some bytes) file (long-text bytes h)) ∙ prints-no-text none file refl
-
-and-false : (b : Bool) → (b && false) ≡ false
-and-false true = refl
-and-false false = refl
 
 long-column : (bytes : List ℕ) → 8192 < length bytes → columnOf bytes ≡ none
 unfolding columnOf

@@ -1,6 +1,6 @@
 -- The lines behind the first as they are read: pair by pair, each with what is left behind it.
 use mathlib.Core.Path.{_≡_, refl, sym, ap, _∙_}
-use mathlib.Core.Bool.{Bool, true, false, _&&_}
+use mathlib.Core.Bool.{Bool, true, false, _&&_, and-true}
 use mathlib.Core.List.{List, [], _∷_, _++_, append-nil}
 use mathlib.Core.Option.{Option, none, some}
 use Prim.Native.Nat.{ℕ, suc, _+_, _-_, _<_, _≤_}
@@ -203,10 +203,6 @@ ahead-none (r ∷ rs) = ap (inFront r) (ahead-none rs)
 ahead-some : (rs l : List ReadLines) → ahead rs (some l) ≡ some (rs ++ l)
 ahead-some [] l = refl
 ahead-some (r ∷ rs) l = ap (inFront r) (ahead-some rs l)
-
-and-true : (t : Bool) → (t && true) ≡ t
-and-true true = refl
-and-true false = refl
 
 pub all-last : (rs : List ReadLines) (r : ReadLines) → all evenRead (rs ++ r ∷ []) ≡ (all evenRead rs && evenRead r)
 all-last [] r = and-true (evenRead r)

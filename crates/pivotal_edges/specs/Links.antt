@@ -1,17 +1,16 @@
 -- Once the sink's free slot names the symbolic edge, the graph is as the walk asks: where the symbolic vertex has a record. Assumes nothing.
 use mathlib.Core.Path.{_≡_}
 use mathlib.Core.List.{List}
-use Prim.Native.Nat.{ℕ, _+_, _*_, _<_, _≤_}
+use Prim.Native.Nat.{ℕ, _+_, _<_, _≤_}
 use native.Mathlib.Omega.{arith}
 use native.Mathlib.Decide.{ℕ-discrete}
-use lib.ListN.{length}
-use Rattle.laws.specs.Records.{field}
+use Rattle.assembly.specs.Fields.{HasVertex, HasEdges, edgeFrom, edgeTo}
 use Rattle.assembly.specs.Store.{Good}
 use Rattle.assembly.specs.Symbolic.{linked, length-linked, linked-distinct, linked-slots}
 use Rattle.pivotal_edges.specs.Walk.{Linked}
 
-pub linked-of : {k : ℕ} {text vs : List ℕ} {n : ℕ} {es : List ℕ} {m : ℕ} → Good k text vs n es m → (sink : ℕ) → sink < n → field es 6 m 0 ≡ sink → field es 6 m 1 ≡ n
-    → n * 12 + 12 ≤ length vs → (m + 1) * 6 ≤ length es → m + 1 ≤ 8192 → Linked (linked vs sink m) es (m + 1)
+pub linked-of : {k : ℕ} {text vs : List ℕ} {n : ℕ} {es : List ℕ} {m : ℕ} → Good k text vs n es m → (sink : ℕ) → sink < n → edgeFrom es m ≡ sink → edgeTo es m ≡ n
+    → HasVertex vs n → HasEdges es (m + 1) → m + 1 ≤ 8192 → Linked (linked vs sink m) es (m + 1)
 linked-of {vs = vs} {n = n} {es = es} {m = m} g sink hs hf ht room re few =
     record {
       distinct = linked-distinct g sink hs hf ht (omega arith);
@@ -22,6 +21,6 @@ linked-of {vs = vs} {n = n} {es = es} {m = m} g sink hs hf ht room re few =
       few = few;
     }
   where
-    to : (i : ℕ) → i < m + 1 → Dec (i ≡ m) → field es 6 i 1 * 12 + 12 ≤ length vs
-    to i h (yes e) = let y : field es 6 i 1 ≡ n = rw e ht in omega arith
+    to : (i : ℕ) → i < m + 1 → Dec (i ≡ m) → HasVertex vs (edgeTo es i)
+    to i h (yes e) = let y : edgeTo es i ≡ n = rw e ht in omega arith
     to i h (no e) = let y = g .to-in i (omega arith) in omega arith

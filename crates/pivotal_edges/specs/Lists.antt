@@ -11,9 +11,9 @@ use lib.Seq.{take-suc-set, drop-set-lt, drop-drop}
 use borrow.Author.Tests.{lt-ltb, le-ltb, eq-eqb, ne-eqb}
 use Rattle.laws.specs.Lists.{keep}
 use Rattle.laws.specs.ListLaws.{All, nil, cons, all-append}
-use Rattle.laws.specs.Records.{field}
 use Rattle.definition.specs.Threading.{Ends, Edge, leaving, supportOf}
 use Rattle.definition.specs.Search.{among, endsOf, pivotalOf}
+use Rattle.assembly.specs.Fields.{edgeTo, edgeSupport}
 use Rattle.assembly.specs.Store.{edgeAt, edgesOf}
 use Rattle.assembly.specs.Outs.{Slots, Nexts, outFrom}
 use Rattle.pivotal_edges.specs.Queue.{endsAt}
@@ -38,17 +38,17 @@ pub takes-is : (es marks : List ℕ) (i : ℕ) {b t : Bool} → getD marks i 0 �
 unfolding takes
 takes-is es marks i z e f = rw (le-ltb 0 (getD marks i 0) (omega arith)) (sym e ∙ f)
 
-pub counts-one : (es : List ℕ) (i : ℕ) {b : Bool} {s : ℕ} → s ≡ field es 6 i 2 → s ≡ 1 → b ≡ edgeAt es i .isRef → not b ≡ counts (edgeAt es i)
+pub counts-one : (es : List ℕ) (i : ℕ) {b : Bool} {s : ℕ} → s ≡ edgeSupport es i → s ≡ 1 → b ≡ edgeAt es i .isRef → not b ≡ counts (edgeAt es i)
 unfolding supportOf
-counts-one es i {b} g h e = rw (eq-eqb (field es 6 i 2) 1 (sym g ∙ h), e) (go (edgeAt es i .isRef))
+counts-one es i {b} g h e = rw (eq-eqb (edgeSupport es i) 1 (sym g ∙ h), e) (go (edgeAt es i .isRef))
   where
     go : (c : Bool) → not c ≡ not (c && true)
     go true = refl
     go false = refl
 
-pub counts-more : (es : List ℕ) (i : ℕ) {s : ℕ} → s ≡ field es 6 i 2 → (s ≡ 1 → ⊥) → true ≡ counts (edgeAt es i)
+pub counts-more : (es : List ℕ) (i : ℕ) {s : ℕ} → s ≡ edgeSupport es i → (s ≡ 1 → ⊥) → true ≡ counts (edgeAt es i)
 unfolding supportOf
-counts-more es i g h = rw (ne-eqb (field es 6 i 2) 1 (λ e. h (g ∙ e))) (go (edgeAt es i .isRef))
+counts-more es i g h = rw (ne-eqb (edgeSupport es i) 1 (λ e. h (g ∙ e))) (go (edgeAt es i .isRef))
   where
     go : (c : Bool) → true ≡ not (c && false)
     go true = refl
@@ -175,21 +175,21 @@ module _ {vs es : List ℕ} {m v : ℕ} {marks out₀ : List ℕ} {n₀ : ℕ} (
           let x = b .each (p .vis) (p .seen) in
           let q = x .many in
           let f = ap (λ (l : List Edge). length (wanted (p .vis) l)) (next-some (p .here) (b .next) h) in
-          let g = ap length (wanted-yes es marks m (p .vis) (p .seen) (r - 1) i-in (outFrom (edgesOf es m) v (field es 6 (r - 1) 1 + 1)) e) in
+          let g = ap length (wanted-yes es marks m (p .vis) (p .seen) (r - 1) i-in (outFrom (edgesOf es m) v (edgeTo es (r - 1) + 1)) e) in
           let w = wanted-few (p .vis) (leaving (edgesOf es m) v) in
           let u = p .room in
           let y = b .size in
           omega arith
 
-      pub lister-next : {out' : List ℕ} {n' w s : ℕ} → w ≡ field es 6 (r - 1) 1 → ((k : ℕ) → Slots vs es k v → Nexts es k v (w + 1) s) → length out' ≡ length out
+      pub lister-next : {out' : List ℕ} {n' w s : ℕ} → w ≡ edgeTo es (r - 1) → ((k : ℕ) → Slots vs es k v → Nexts es k v (w + 1) s) → length out' ≡ length out
           → OneListed es marks out out' (r - 1) n n' → Lister es m v marks out₀ out' n₀ (w + 1) s n'
       lister-next {out'} {n'} {w} {s} e all len o =
           record { next = next-is (p .here) all; size = len ∙ b .size; each = λ vis z. (rw e (go vis z (takes es marks (r - 1)) refl)) }
         where
           rest : List Edge
-          rest = outFrom (edgesOf es m) v (field es 6 (r - 1) 1 + 1)
+          rest = outFrom (edgesOf es m) v (edgeTo es (r - 1) + 1)
 
-          go : (vis : List Ends) → Seen es m marks vis → (k : Bool) → takes es marks (r - 1) ≡ k → Listing es m v (field es 6 (r - 1) 1 + 1) vis out₀ out' n₀ n'
+          go : (vis : List Ends) → Seen es m marks vis → (k : Bool) → takes es marks (r - 1) ≡ k → Listing es m v (edgeTo es (r - 1) + 1) vis out₀ out' n₀ n'
           go vis z true k =
               let q = o .yes k in
               let x = b .each vis z in

@@ -1,7 +1,7 @@
 -- Marking the out-edges of a vertex: those that were not visited join the visited ones. Assumes nothing.
 use mathlib.Core.Path.{_≡_, refl, sym, ap, _∙_}
 use mathlib.Core.Logic.{_⊎_, inl, inr}
-use mathlib.Core.Bool.{Bool, true, false, not, _&&_, _||_}
+use mathlib.Core.Bool.{Bool, true, false, not, _&&_, _||_, and-false, or-true, or-false}
 use mathlib.Core.List.{List, [], _∷_, _++_}
 use Prim.Native.Nat.{ℕ, _+_, _-_, _<_, _≤_}
 use native.Mathlib.Omega.{arith}
@@ -11,9 +11,9 @@ use lib.ListN.{length, getD, set, drop, length-set}
 use lib.Seq.{getD-set-same, getD-set-other, drop-set-lt}
 use borrow.Author.Tests.{lt-ltb, le-ltb, eq-eqb, eqb-true}
 use Rattle.laws.specs.Lists.{keep, any}
-use Rattle.laws.specs.Records.{field}
 use Rattle.definition.specs.Threading.{Ends, Edge, eqEnds, leaving}
 use Rattle.definition.specs.Search.{among, endsOf}
+use Rattle.assembly.specs.Fields.{edgeFrom, edgeTo}
 use Rattle.assembly.specs.Table.{Distinct, table}
 use Rattle.assembly.specs.Store.{edgeAt, edgesOf}
 use Rattle.assembly.specs.Outs.{Slots, Nexts, has-table}
@@ -91,19 +91,7 @@ pub record Marker (es : List ℕ) (m v : ℕ) (marks₀ marks : List ℕ) (t r :
   pub next : Nexts es m v t r
   pub size : length marks ≡ length marks₀
   pub beyond : drop m marks ≡ drop m marks₀
-  pub each : (i : ℕ) → i < m → ltb 0 (getD marks i 0) ≡ (ltb 0 (getD marks₀ i 0) || (eqb (field es 6 i 0) v && ltb (field es 6 i 1) t))
-
-and-no : (b : Bool) → (b && false) ≡ false
-and-no true = refl
-and-no false = refl
-
-or-no : (b : Bool) → (b || false) ≡ b
-or-no true = refl
-or-no false = refl
-
-or-on : (b : Bool) → (b || true) ≡ true
-or-on true = refl
-or-on false = refl
+  pub each : (i : ℕ) → i < m → ltb 0 (getD marks i 0) ≡ (ltb 0 (getD marks₀ i 0) || (eqb (edgeFrom es i) v && ltb (edgeTo es i) t))
 
 module _ {vs es : List ℕ} {m v : ℕ} {marks₀ : List ℕ} (p : Marks vs es m v marks₀) where
   pub marker-start : {r : ℕ} → ((k : ℕ) → Slots vs es k v → Nexts es k v 0 r) → Marker es m v marks₀ marks₀ 0 r
@@ -112,29 +100,29 @@ module _ {vs es : List ℕ} {m v : ℕ} {marks₀ : List ℕ} (p : Marks vs es m
         next = next-is (p .here) all;
         size = refl;
         beyond = refl;
-        each = λ i h. sym (rw (le-ltb (field es 6 i 1) 0 (omega arith), and-no (eqb (field es 6 i 0) v)) (or-no (ltb 0 (getD marks₀ i 0))));
+        each = λ i h. sym (rw (le-ltb (edgeTo es i) 0 (omega arith), and-false (eqb (edgeFrom es i) v)) (or-false (ltb 0 (getD marks₀ i 0))));
       }
 
   module _ {marks : List ℕ} {t r : ℕ} (b : Marker es m v marks₀ marks t r) where
     marker-seen : r ≤ 0 → (vis : List Ends) → Seen es m marks₀ vis → Seen es m marks (vis ++ endsOf (fresh vis (leaving (edgesOf es m) v)))
     unfolding leaving
     marker-seen h vis s i l =
-        let a : among (endsAt es i) (endsOf (fresh vis (leaving (edgesOf es m) v))) ≡ (not (among (endsAt es i) vis) && (eqb (field es 6 i 0) v && among (endsAt es i) (endsOf (edgesOf es m)))) =
+        let a : among (endsAt es i) (endsOf (fresh vis (leaving (edgesOf es m) v))) ≡ (not (among (endsAt es i) vis) && (eqb (edgeFrom es i) v && among (endsAt es i) (endsOf (edgesOf es m)))) =
         among-keep (endsAt es i) (λ (d : Ends). not (among d vis)) (leaving (edgesOf es m) v)
         ∙ ap (λ (z : Bool). not (among (endsAt es i) vis) && z) (among-keep (endsAt es i) (λ (d : Ends). eqb (d .from) v) (edgesOf es m)) in
         among-two (endsAt es i) vis (endsOf (fresh vis (leaving (edgesOf es m) v)))
-        ∙ ap (λ (z : Bool). among (endsAt es i) vis || z) (a ∙ ap (λ (z : Bool). not (among (endsAt es i) vis) && (eqb (field es 6 i 0) v && z)) (among-all es m i (p .here .linked .distinct) l))
-        ∙ go (among (endsAt es i) vis) (eqb (field es 6 i 0) v) refl
-        ∙ ap (λ (z : Bool). z || (eqb (field es 6 i 0) v && ltb (field es 6 i 1) t)) (s i l)
+        ∙ ap (λ (z : Bool). among (endsAt es i) vis || z) (a ∙ ap (λ (z : Bool). not (among (endsAt es i) vis) && (eqb (edgeFrom es i) v && z)) (among-all es m i (p .here .linked .distinct) l))
+        ∙ go (among (endsAt es i) vis) (eqb (edgeFrom es i) v) refl
+        ∙ ap (λ (z : Bool). z || (eqb (edgeFrom es i) v && ltb (edgeTo es i) t)) (s i l)
         ∙ sym (b .each i l)
       where
-        go : (x y : Bool) → eqb (field es 6 i 0) v ≡ y → (x || (not x && (y && true))) ≡ (x || (y && ltb (field es 6 i 1) t))
+        go : (x y : Bool) → eqb (edgeFrom es i) v ≡ y → (x || (not x && (y && true))) ≡ (x || (y && ltb (edgeTo es i) t))
         go true y e = refl
-        go false true e = sym (low (decLt (field es 6 i 1) t))
+        go false true e = sym (low (decLt (edgeTo es i) t))
           where
-            low : Dec (field es 6 i 1 < t) → ltb (field es 6 i 1) t ≡ true
-            low (yes z) = lt-ltb (field es 6 i 1) t z
-            low (no z) = absurd (let w = b .next .least i l (eqb-true (field es 6 i 0) v e) (omega arith) .0 in omega arith)
+            low : Dec (edgeTo es i < t) → ltb (edgeTo es i) t ≡ true
+            low (yes z) = lt-ltb (edgeTo es i) t z
+            low (no z) = absurd (let w = b .next .least i l (eqb-true (edgeFrom es i) v e) (omega arith) .0 in omega arith)
         go false false e = refl
 
     pub marker-end : r ≤ 0 → Marked es m v marks₀ marks
@@ -147,37 +135,37 @@ module _ {vs es : List ℕ} {m v : ℕ} {marks₀ : List ℕ} (p : Marks vs es m
       pub marker-in : r - 1 < length marks
       marker-in = let a = i-in in let c = p .marks-in in let d = b .size in omega arith
 
-      pub marker-next : {w s : ℕ} → w ≡ field es 6 (r - 1) 1 → ((k : ℕ) → Slots vs es k v → Nexts es k v (w + 1) s) → Marker es m v marks₀ (set marks (r - 1) 1) (w + 1) s
+      pub marker-next : {w s : ℕ} → w ≡ edgeTo es (r - 1) → ((k : ℕ) → Slots vs es k v → Nexts es k v (w + 1) s) → Marker es m v marks₀ (set marks (r - 1) 1) (w + 1) s
       marker-next {w} {s} e all =
           record { next = next-is (p .here) all; size = length-set marks (r - 1) 1 ∙ b .size; beyond = drop-set-lt m marks (r - 1) 1 i-in ∙ b .beyond; each = λ i l. go i l (ℕ-discrete i (r - 1)) }
         where
-          from : field es 6 (r - 1) 0 ≡ v
+          from : edgeFrom es (r - 1) ≡ v
           from = b .next .there h .1
 
-          step : (i : ℕ) → i < m → (i ≡ r - 1 → ⊥) → (c : Bool) → eqb (field es 6 i 0) v ≡ c → (c && ltb (field es 6 i 1) t) ≡ (c && ltb (field es 6 i 1) (w + 1))
+          step : (i : ℕ) → i < m → (i ≡ r - 1 → ⊥) → (c : Bool) → eqb (edgeFrom es i) v ≡ c → (c && ltb (edgeTo es i) t) ≡ (c && ltb (edgeTo es i) (w + 1))
           step i l n false f = refl
-          step i l n true f = one (decLt (field es 6 i 1) t)
+          step i l n true f = one (decLt (edgeTo es i) t)
             where
-              at : field es 6 i 0 ≡ v
-              at = eqb-true (field es 6 i 0) v f
+              at : edgeFrom es i ≡ v
+              at = eqb-true (edgeFrom es i) v f
 
-              one : Dec (field es 6 i 1 < t) → ltb (field es 6 i 1) t ≡ ltb (field es 6 i 1) (w + 1)
-              one (yes z) = lt-ltb (field es 6 i 1) t z ∙ sym (lt-ltb (field es 6 i 1) (w + 1) (let q = b .next .there h .2 in omega arith))
-              one (no z) = le-ltb (field es 6 i 1) t (omega arith) ∙ sym (le-ltb (field es 6 i 1) (w + 1) (two (ℕ-discrete (field es 6 i 1) w)))
+              one : Dec (edgeTo es i < t) → ltb (edgeTo es i) t ≡ ltb (edgeTo es i) (w + 1)
+              one (yes z) = lt-ltb (edgeTo es i) t z ∙ sym (lt-ltb (edgeTo es i) (w + 1) (let q = b .next .there h .2 in omega arith))
+              one (no z) = le-ltb (edgeTo es i) t (omega arith) ∙ sym (le-ltb (edgeTo es i) (w + 1) (two (ℕ-discrete (edgeTo es i) w)))
                 where
-                  two : Dec (field es 6 i 1 ≡ w) → w + 1 ≤ field es 6 i 1
+                  two : Dec (edgeTo es i ≡ w) → w + 1 ≤ edgeTo es i
                   two (yes y) =
                       absurd
                       (n
                       (p .here .linked .distinct i (r - 1) l i-in
-                      (ap (λ (x : ℕ). record { from = x; to = field es 6 i 1 }) (at ∙ sym from) ∙ ap (λ (x : ℕ). record { from = field es 6 (r - 1) 0; to = x }) (y ∙ e))))
+                      (ap (λ (x : ℕ). record { from = x; to = edgeTo es i }) (at ∙ sym from) ∙ ap (λ (x : ℕ). record { from = edgeFrom es (r - 1); to = x }) (y ∙ e))))
                   two (no y) = let q = b .next .least i l at (omega arith) .1 in omega arith
 
-          go : (i : ℕ) → i < m → Dec (i ≡ r - 1) → ltb 0 (getD (set marks (r - 1) 1) i 0) ≡ (ltb 0 (getD marks₀ i 0) || (eqb (field es 6 i 0) v && ltb (field es 6 i 1) (w + 1)))
+          go : (i : ℕ) → i < m → Dec (i ≡ r - 1) → ltb 0 (getD (set marks (r - 1) 1) i 0) ≡ (ltb 0 (getD marks₀ i 0) || (eqb (edgeFrom es i) v && ltb (edgeTo es i) (w + 1)))
           go i l (yes z) =
-              rw (z, getD-set-same marks (r - 1) 1 0 marker-in, eq-eqb (field es 6 (r - 1) 0) v from, lt-ltb (field es 6 (r - 1) 1) (w + 1) (omega arith))
-              (sym (or-on (ltb 0 (getD marks₀ (r - 1) 0))))
+              rw (z, getD-set-same marks (r - 1) 1 0 marker-in, eq-eqb (edgeFrom es (r - 1)) v from, lt-ltb (edgeTo es (r - 1)) (w + 1) (omega arith))
+              (sym (or-true (ltb 0 (getD marks₀ (r - 1) 0))))
           go i l (no z) =
               ap (λ (x : ℕ). ltb 0 x) (getD-set-other marks (r - 1) i 1 0 z)
               ∙ b .each i l
-              ∙ ap (λ (x : Bool). ltb 0 (getD marks₀ i 0) || x) (step i l z (eqb (field es 6 i 0) v) refl)
+              ∙ ap (λ (x : Bool). ltb 0 (getD marks₀ i 0) || x) (step i l z (eqb (edgeFrom es i) v) refl)

@@ -3,7 +3,7 @@
 use mathlib.Core.Path.{_≡_, refl, sym, ap, subst, _∙_}
 use mathlib.Core.Bool.{Bool, true, false}
 use mathlib.Core.List.{List, [], _∷_, _++_, append-assoc}
-use Prim.Native.Nat.{ℕ, zero, suc, _+_, _-_, _*_, _/_, _%_, _<_, _≤_, compare, Ordering, Ordering·lt, Ordering·eq, Ordering·gt}
+use Prim.Native.Nat.{ℕ, zero, suc, _+_, _-_, _/_, _%_, _<_, _≤_, compare, Ordering, Ordering·lt, Ordering·eq, Ordering·gt}
 use native.Mathlib.Omega.{arith}
 use native.Mathlib.Numerals.{add-one}
 use lib.Dec.{ltb}
@@ -13,9 +13,9 @@ use borrow.Author.Tests.{lt-ltb, le-ltb}
 use Rattle.laws.specs.ListLaws.{All, all-head, all-tail}
 use Rattle.laws.specs.Insertion.{insert, insert-past, insert-here}
 use Rattle.laws.specs.Numbers.{isGt, compare-lt, compare-eq, compare-gt, lt-compare, eq-compare, gt-compare}
-use Rattle.laws.specs.Records.{field}
 use Rattle.definition.specs.Threading.{Ends}
 use Rattle.definition.specs.Search.{Queued, earlier}
+use Rattle.assembly.specs.Fields.{HasEdge, edgeFrom, edgeTo}
 use Rattle.assembly.specs.Store.{edgeAt}
 
 -- the ends of edge i
@@ -31,7 +31,7 @@ before es a b = earlier (queuedAt es a) (queuedAt es b)
 
 -- the edge is in the table
 abbrev pub Fits : List ℕ → ℕ → Type 0
-Fits es x = (x % 8192) * 6 + 6 ≤ length es
+Fits es x = HasEdge es (x % 8192)
 
 -- ---- the comparison, way by way
 less-gt : (m n : ℕ) → ltb m n ≡ isGt (compare n m)
@@ -51,11 +51,11 @@ module _ (es : List ℕ) (a b la lb : ℕ) (ha : la ≡ a / 8192) (hb : lb ≡ b
   unfolding before earlier queuedAt
   level-more h = rw (compare-lt (b / 8192) (a / 8192) (omega arith))
 
-  module _ (p : lb ≤ la) (q : la ≤ lb) (i j fa fb : ℕ) (hi : i ≡ a % 8192) (hj : j ≡ b % 8192) (ga : fa ≡ field es 6 i 0) (gb : fb ≡ field es 6 j 0) where
-    fa-is : fa ≡ field es 6 (a % 8192) 0
+  module _ (p : lb ≤ la) (q : la ≤ lb) (i j fa fb : ℕ) (hi : i ≡ a % 8192) (hj : j ≡ b % 8192) (ga : fa ≡ edgeFrom es i) (gb : fb ≡ edgeFrom es j) where
+    fa-is : fa ≡ edgeFrom es (a % 8192)
     fa-is = rw (← hi) ga
 
-    fb-is : fb ≡ field es 6 (b % 8192) 0
+    fb-is : fb ≡ edgeFrom es (b % 8192)
     fb-is = rw (← hj) gb
 
     pub from-less : fa < fb → true ≡ before es a b
@@ -63,24 +63,24 @@ module _ (es : List ℕ) (a b la lb : ℕ) (ha : la ≡ a / 8192) (hb : lb ≡ b
     from-less h =
         let x = fa-is in
         let y = fb-is in
-        rw (compare-eq (b / 8192) (a / 8192) (omega arith), compare-gt (field es 6 (b % 8192) 0) (field es 6 (a % 8192) 0) (omega arith))
+        rw (compare-eq (b / 8192) (a / 8192) (omega arith), compare-gt (edgeFrom es (b % 8192)) (edgeFrom es (a % 8192)) (omega arith))
 
     pub from-more : fb < fa → false ≡ before es a b
     unfolding before earlier queuedAt
     from-more h =
         let x = fa-is in
         let y = fb-is in
-        rw (compare-eq (b / 8192) (a / 8192) (omega arith), compare-lt (field es 6 (b % 8192) 0) (field es 6 (a % 8192) 0) (omega arith))
+        rw (compare-eq (b / 8192) (a / 8192) (omega arith), compare-lt (edgeFrom es (b % 8192)) (edgeFrom es (a % 8192)) (omega arith))
 
-    pub by-to : fb ≤ fa → fa ≤ fb → (ta tb : ℕ) → ta ≡ field es 6 i 1 → tb ≡ field es 6 j 1 → ltb ta tb ≡ before es a b
+    pub by-to : fb ≤ fa → fa ≤ fb → (ta tb : ℕ) → ta ≡ edgeTo es i → tb ≡ edgeTo es j → ltb ta tb ≡ before es a b
     unfolding before earlier queuedAt
     by-to h k ta tb ea eb =
         let x = fa-is in
         let y = fb-is in
-        let u : ta ≡ field es 6 (a % 8192) 1 = rw (← hi) ea in
-        let v : tb ≡ field es 6 (b % 8192) 1 = rw (← hj) eb in
-        rw (compare-eq (b / 8192) (a / 8192) (omega arith), compare-eq (field es 6 (b % 8192) 0) (field es 6 (a % 8192) 0) (omega arith), u, v)
-        (less-gt (field es 6 (a % 8192) 1) (field es 6 (b % 8192) 1))
+        let u : ta ≡ edgeTo es (a % 8192) = rw (← hi) ea in
+        let v : tb ≡ edgeTo es (b % 8192) = rw (← hj) eb in
+        rw (compare-eq (b / 8192) (a / 8192) (omega arith), compare-eq (edgeFrom es (b % 8192)) (edgeFrom es (a % 8192)) (omega arith), u, v)
+        (less-gt (edgeTo es (a % 8192)) (edgeTo es (b % 8192)))
 
 -- ---- a part of the list
 unfoldable pub part : List ℕ → ℕ → ℕ → List ℕ

@@ -9,9 +9,9 @@ use lib.ListN.{length, getD, drop}
 use borrow.Author.Tests.{lt-ltb, le-ltb}
 use Rattle.laws.specs.ListLaws.{All, all-mono}
 use Rattle.laws.specs.Insertion.{insert, insert-past, insert-here, all-insert}
-use Rattle.laws.specs.Records.{field}
 use Rattle.definition.specs.Threading.{Ends, Edge, leaving}
 use Rattle.definition.specs.Search.{among, Queued, earlier, enqueue, enqueueAll}
+use Rattle.assembly.specs.Fields.{HasEdges, edgeTo}
 use Rattle.assembly.specs.Store.{edgeAt, edgesOf}
 use Rattle.assembly.specs.Outs.{Slots, Nexts, outFrom}
 use Rattle.pivotal_edges.specs.Queue.{endsAt, queuedAt, before, part, Known, Enqueued}
@@ -47,7 +47,7 @@ entry-is es l i h =
 pub record QueuesOne (es : List ℕ) (m : ℕ) (marks q : List ℕ) (front tail level i : ℕ) : Type 0 where
   pub i-in : i < m
   pub few : m ≤ 8192
-  pub room : m * 6 ≤ length es
+  pub room : HasEdges es m
   pub marks-in : m ≤ length marks
   pub low : front ≤ tail
   pub high : tail ≤ length q
@@ -160,7 +160,7 @@ module _ {vs es : List ℕ} {m v level : ℕ} {marks q₀ : List ℕ} {front tai
       i-in = next-in (p .here) (b .next) h
 
       rest : List Edge
-      rest = outFrom (edgesOf es m) v (field es 6 (r - 1) 1 + 1)
+      rest = outFrom (edgesOf es m) v (edgeTo es (r - 1) + 1)
 
       high : tail ≤ length q
       high = let x = b .each (p .vis) (p .seen) .many in let u = p .room in let w = b .size in omega arith
@@ -190,7 +190,7 @@ module _ {vs es : List ℕ} {m v level : ℕ} {marks q₀ : List ℕ} {front tai
             entries = b .entries;
           }
 
-      pub queuer-next : {q' : List ℕ} {tail' w s : ℕ} → w ≡ field es 6 (r - 1) 1 → ((k : ℕ) → Slots vs es k v → Nexts es k v (w + 1) s)
+      pub queuer-next : {q' : List ℕ} {tail' w s : ℕ} → w ≡ edgeTo es (r - 1) → ((k : ℕ) → Slots vs es k v → Nexts es k v (w + 1) s)
           → OneQueued es marks q q' front tail level (r - 1) tail' → Queuer es m v level marks q₀ q' front tail₀ tail' (w + 1) s
       unfolding rest
       queuer-next {q'} {tail'} {w} {s} e all o = go (ℕ-discrete (getD marks (r - 1) 0) 0)

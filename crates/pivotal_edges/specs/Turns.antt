@@ -3,7 +3,7 @@
 use mathlib.Core.Path.{_≡_, refl, sym, ap, subst, _∙_}
 use mathlib.Core.Bool.{Bool, true, false, not, _&&_, _||_, cond}
 use mathlib.Core.List.{List, [], _∷_, _++_, map, append-assoc, append-nil}
-use Prim.Native.Nat.{ℕ, zero, suc, _+_, _-_, _*_, _/_, _%_, _<_, _≤_}
+use Prim.Native.Nat.{ℕ, zero, suc, _+_, _-_, _/_, _%_, _<_, _≤_}
 use native.Mathlib.Omega.{arith}
 use native.Mathlib.Numerals.{add-one}
 use lib.Dec.{ltb, eqb}
@@ -12,10 +12,10 @@ use lib.Seq.{drop-drop}
 use borrow.Author.Tests.{le-ltb}
 use Rattle.laws.specs.Lists.{keep}
 use Rattle.laws.specs.ListLaws.{All, nil, all-head, all-tail, all-mono, all-from, keep-all, mem-map}
-use Rattle.laws.specs.Records.{field}
 use Rattle.definition.specs.Threading.{Ends, Edge, leaving}
 use Rattle.definition.specs.Search.{SearchInput, among, endsOf, Queued, enqueueAll, pivotalOf, pivotalFrom, pivotalEdges}
 use Rattle.definition.proofs.Fuel.{among-mem, among-append}
+use Rattle.assembly.specs.Fields.{HasEdge, edgeTo}
 use Rattle.assembly.specs.Table.{length-table}
 use Rattle.assembly.specs.Store.{edgeAt, edgesOf}
 use Rattle.pivotal_edges.specs.Queue.{endsAt, queuedAt, part, part-none, part-cons}
@@ -226,13 +226,13 @@ module _ {vs es : List ℕ} {m : ℕ} {q₀ marks₀ out₀ : List ℕ} (p : Piv
       pub turning-entry : Entry m front (getD q front 0)
       turning-entry = all-head (subst (All (Entry m front)) split (b .entries))
 
-      pub turning-edge : {i : ℕ} → i ≡ getD q front 0 % 8192 → i * 6 + 6 ≤ length es
+      pub turning-edge : {i : ℕ} → i ≡ getD q front 0 % 8192 → HasEdge es i
       turning-edge e = let a = turning-entry .0 in let c = p .linked .room in omega arith
 
       pub turning-front : front < 16384
       turning-front = let a = b .queued in let c = p .linked .few in omega arith
 
-      module _ {i v l : ℕ} (hi : i ≡ getD q front 0 % 8192) (hv : v ≡ field es 6 i 1) (hl : l ≡ getD q front 0 / 8192) where
+      module _ {i v l : ℕ} (hi : i ≡ getD q front 0 % 8192) (hv : v ≡ edgeTo es i) (hl : l ≡ getD q front 0 / 8192) where
         here : Here vs es m v
         here = record { linked = p .linked; v-in = (let a = p .linked .to-in i (let c = turning-entry .0 in omega arith) in omega arith) }
 
@@ -315,8 +315,8 @@ module _ {vs es : List ℕ} {m : ℕ} {q₀ marks₀ out₀ : List ℕ} (p : Piv
             Q : QueuedOut es m v (l + 1) (b .vis) q q' (front + 1) tail tail'
             Q = qs (b .vis) (b .seen)
 
-            to-is : v ≡ field es 6 (getD q front 0 % 8192) 1
-            to-is = hv ∙ ap (λ (z : ℕ). field es 6 z 1) hi
+            to-is : v ≡ edgeTo es (getD q front 0 % 8192)
+            to-is = hv ∙ ap (λ (z : ℕ). edgeTo es z) hi
 
             fuel-is : suc (b .fuel - 1) ≡ b .fuel
             fuel-is = let a = b .enough in omega arith

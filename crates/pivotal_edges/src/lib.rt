@@ -14,6 +14,7 @@ ghost use lib.ListN.{length};
 ghost use lib.Seq.{sets};
 ghost use Rattle.definition.specs.Threading.{Ends, leaving};
 ghost use Rattle.definition.specs.Search.{pivotalOf};
+ghost use Rattle.assembly.specs.Fields.{HasEdge};
 ghost use Rattle.assembly.specs.Store.{edgeAt, edgesOf};
 ghost use Rattle.pivotal_edges.specs.Queue.{Fits, before, part, Known, Placed, Enqueued};
 ghost use Rattle.pivotal_edges.specs.Walk.{Here, Seen, fresh};
@@ -118,7 +119,7 @@ fn forks(vertices: &[u32], edges: &[u32], m: usize, v: usize) -> bool
 
 // Edge i is no reference edge of support 1.
 fn counted(edges: &[u32], i: usize) -> bool
-    requires { ⌜ i * 6 + 6 ≤ length (now edges) ⌝ }
+    requires { ⌜ HasEdge (now edges) i ⌝ }
     ensures { λ r. ⌜ r ≡ counts (edgeAt (now (edges .entry)) i) ⌝ }
 {
     if edge_support(edges, i) == 1 {
@@ -129,7 +130,7 @@ fn counted(edges: &[u32], i: usize) -> bool
 
 // Edge i of a fork is listed, unless it is visited or a reference edge of support 1.
 fn list_edge(edges: &[u32], i: usize, visited: &[u32], out: &mut [u32], n: usize) -> usize
-    requires { ⌜ (i * 6 + 6 ≤ length (now edges)) × (i < length (now visited)) × (i < 8192) × (takes (now edges) (now visited) i ≡ true → n < length (now out)) ⌝ }
+    requires { ⌜ (HasEdge (now edges) i) × (i < length (now visited)) × (i < 8192) × (takes (now edges) (now visited) i ≡ true → n < length (now out)) ⌝ }
     ensures { λ r. ⌜ OneListed (now (edges .entry)) (now (visited .entry)) (now (out .entry)) (now (out .exit)) i n r ⌝ }
 {
     if visited[i] != 0 {

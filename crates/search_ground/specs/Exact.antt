@@ -5,8 +5,8 @@ use Prim.Native.Nat.{ℕ, _+_, _*_, _<_, _≤_}
 use native.Mathlib.Omega.{arith}
 use lib.ListN.{take}
 use lib.Seq.{getD-take}
-use Rattle.laws.specs.Records.{field}
 use Rattle.definition.specs.Limits.{Sample}
+use Rattle.assembly.specs.Fields.{edgeNumbers, edgeField}
 use Rattle.assembly.specs.Table.{table-same}
 use Rattle.assembly.specs.Store.{edgeAt, edgesOf, graphOf}
 use Rattle.assembly.specs.Moves.{good-front}
@@ -14,10 +14,10 @@ use Rattle.junction_tree_graph.specs.Built.{BuiltAt}
 
 module _ (es : List ℕ) (m : ℕ) where
   abbrev exact : List ℕ
-  exact = take ((m + 1) * 6) es
+  exact = take (edgeNumbers (m + 1)) es
 
-  pub exact-field : (i c : ℕ) → i < m + 1 → c < 6 → field (take ((m + 1) * 6) es) 6 i c ≡ field es 6 i c
-  exact-field i c h l = getD-take ((m + 1) * 6) es (i * 6 + c) 0 (omega arith)
+  pub exact-field : (i c : ℕ) → i < m + 1 → c < 6 → edgeField (take (edgeNumbers (m + 1)) es) i c ≡ edgeField es i c
+  exact-field i c h l = getD-take (edgeNumbers (m + 1)) es (i * 6 + c) 0 (omega arith)
 
   exact-edge : (i : ℕ) → i < m + 1 → edgeAt exact i ≡ edgeAt es i
   exact-edge i h =
@@ -32,7 +32,7 @@ module _ (es : List ℕ) (m : ℕ) where
     unfolding graphOf
     graph-is = rw (exact-edges m (omega arith))
 
-    pub built-exact : BuiltAt s v e vs (take ((m + 1) * 6) es) n m sink
+    pub built-exact : BuiltAt s v e vs (take (edgeNumbers (m + 1)) es) n m sink
     built-exact =
         record {
           fits = a .fits;

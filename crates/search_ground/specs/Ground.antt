@@ -4,7 +4,7 @@ use mathlib.Core.Logic.{_≢_}
 use mathlib.Core.Bool.{Bool, true, false, _&&_, _||_}
 use mathlib.Core.List.{List, [], _∷_, _++_}
 use mathlib.Core.Option.{none, some}
-use Prim.Native.Nat.{ℕ, suc, _+_, _-_, _*_, _<_, _≤_}
+use Prim.Native.Nat.{ℕ, suc, _+_, _-_, _<_, _≤_}
 use native.Mathlib.Omega.{arith}
 use native.Mathlib.Decide.{ℕ-discrete, decLt}
 use lib.Dec.{leb, eqb}
@@ -13,8 +13,9 @@ use borrow.Author.Tests.{leb-true, eq-eqb, ne-eqb}
 use Rattle.laws.specs.Lists.{sole, isSome}
 use Rattle.laws.specs.ListLaws.{clash, or-none, and-left, and-right, All, nil, cons}
 use Rattle.laws.specs.Numbers.{within}
-use Rattle.laws.specs.Records.{field, field-other}
-use Rattle.definition.specs.Refusal.{Rule, firstBroken}
+use Rattle.laws.specs.Records.{field-other}
+use Rattle.definition.proofs.Checks.{holds-first}
+use Rattle.definition.specs.Refusal.{firstBroken}
 use Rattle.definition.specs.Limits.{Sample, Input, referenceFits, referenceBases, readsFit, graphMaximaFit, searchMaximaFit, settingsFit, sampleRules}
 use Rattle.definition.specs.Threading.{Graph, eqEnds, leaving, threaded, sinkOf, symbolicOf, withSymbolic}
 use Rattle.definition.specs.Evidence.{Branches, Tree, treeAt, evidence}
@@ -24,6 +25,7 @@ use Rattle.definition.specs.Listing.{searchInput}
 use Rattle.definition.proofs.Counts.{Small, SmallTree, counts-small}
 use Rattle.definition.proofs.Supports.{leaving-small}
 use Rattle.definition.proofs.Degrees.{six-leave}
+use Rattle.assembly.specs.Fields.{HasVertices, HasVertex, treeRoot, edgeNumbers, edgeFrom, edgeTo}
 use Rattle.assembly.specs.Table.{length-table}
 use Rattle.assembly.specs.Store.{edgeAt, edgesOf, graphOf}
 use Rattle.assembly.specs.Kmers.{length-of}
@@ -50,11 +52,6 @@ record Ruled (s : Sample) : Type 0 where
   reference-fits : referenceFits (s .k) (s .reference) ≡ true
   reference-bases : referenceBases (s .reference) ≡ true
   reads-fit : readsFit s ≡ true
-
-holds-first : (n : ℕ) (b : Bool) (rs : List Rule) → firstBroken (record { number = suc n; holds = b } ∷ rs) ≡ 0 → (b ≡ true) × (firstBroken rs ≡ 0)
-unfolding firstBroken
-holds-first n true rs e = (refl, e)
-holds-first n false rs e = absurd (omega arith)
 
 ruled : (s : Sample) → firstBroken (sampleRules s) ≡ 0 → Ruled s
 unfolding sampleRules
@@ -132,9 +129,9 @@ settingFor i n m sink c cap least =
 
 -- the edge table ends behind the symbolic edge; `only` has a place for each vertex, the symbolic one too, and each of its places has a record
 pub record Lies (vs es only : List ℕ) (n m : ℕ) : Type 0 where
-  pub rows : length es ≡ (m + 1) * 6
+  pub rows : length es ≡ edgeNumbers (m + 1)
   pub places : n < length only
-  pub room : length only * 12 ≤ length vs
+  pub room : HasVertices vs (length only)
   pub few : length only ≤ 4096
 
 module _ (i : Input) {vs₂ es : List ℕ} {n m sink : ℕ} (rules : firstBroken (sampleRules (i .sample)) ≡ 0)
@@ -150,7 +147,7 @@ module _ (i : Input) {vs₂ es : List ℕ} {n m sink : ℕ} (rules : firstBroken
   same-length : length vs ≡ length vs₂
   same-length = rw link (length-linked vs₂ sink m)
 
-  room-n : n * 12 + 12 ≤ length vs₂
+  room-n : HasVertex vs₂ n
   room-n = let a = same-length in let b = lies .room in let c = lies .places in omega arith
 
   pub ground-linked : Linked vs es (m + 1)
@@ -160,7 +157,7 @@ module _ (i : Input) {vs₂ es : List ℕ} {n m sink : ℕ} (rules : firstBroken
   ground-tables to h = record { linked = ground-linked; size = h; room = lies .room }
 
   -- the roots are kept
-  same-root : (v : ℕ) → field vs 12 v 11 ≡ field vs₂ 12 v 11
+  same-root : (v : ℕ) → treeRoot vs v ≡ treeRoot vs₂ v
   unfolding linked
   same-root v = rw link (field-other vs₂ 12 sink 4 (m + 1) v 11 (omega arith) (omega arith) (omega arith))
 
@@ -175,8 +172,8 @@ module _ (i : Input) {vs₂ es : List ℕ} {n m sink : ℕ} (rules : firstBroken
       sym (leaving-from (edgesOf es (m + 1)) v)
       ∙ nexts-none es (m + 1) v 0 0 (record { there = λ z. absurd (omega arith); least = λ j l e k. absurd (from j l e (ℕ-discrete j m)) }) refl
     where
-      from : (j : ℕ) → j < m + 1 → field es 6 j 0 ≡ v → Dec (j ≡ m) → ⊥
-      from j l e (yes z) = let y : field es 6 j 0 ≡ sink = rw z (at .from) in let w = at .inside in omega arith
+      from : (j : ℕ) → j < m + 1 → edgeFrom es j ≡ v → Dec (j ≡ m) → ⊥
+      from j l e (yes z) = let y : edgeFrom es j ≡ sink = rw z (at .from) in let w = at .inside in omega arith
       from j l e (no z) = let y = at .good .from-in j (omega arith) in omega arith
 
   module _ {x op : List ℕ} {cap c : ℕ} (there : Evident (i .sample) vs₂ x op cap c) {to : List ℕ} (t : Tabled vs es (m + 1) sink only to) where
@@ -185,17 +182,17 @@ module _ (i : Input) {vs₂ es : List ℕ} {n m sink : ℕ} (rules : firstBroken
 
     -- ---- the trees
 
-    no-tree : (v : ℕ) → field vs 12 v 11 ≡ 0 → treeAt (evidence s (threaded s)) v ≡ none
+    no-tree : (v : ℕ) → treeRoot vs v ≡ 0 → treeAt (evidence s (threaded s)) v ≡ none
     no-tree v h = held-no-tree (begun (evidence s (threaded s))) cap c 0 (there .bound) (rootOf vs₂) x op (there .held) v (sym (same-root v) ∙ h)
 
-    a-tree : (v : ℕ) → field vs 12 v 11 ≢ 0 → TreeOf (begun (evidence s (threaded s))) c x (field vs 12 v 11) v
+    a-tree : (v : ℕ) → treeRoot vs v ≢ 0 → TreeOf (begun (evidence s (threaded s))) c x (treeRoot vs v) v
     a-tree v h =
         rw (same-root v) (held-tree (begun (evidence s (threaded s))) cap c 0 (there .bound) (rootOf vs₂) x op (there .held) v (λ z. h (same-root v ∙ z)))
 
-    bare-of : (v : ℕ) → isSome (treeAt (evidence s (threaded s)) v) ≡ false → field vs 12 v 11 ≡ 0
-    bare-of v h = go (ℕ-discrete (field vs 12 v 11) 0)
+    bare-of : (v : ℕ) → isSome (treeAt (evidence s (threaded s)) v) ≡ false → treeRoot vs v ≡ 0
+    bare-of v h = go (ℕ-discrete (treeRoot vs v) 0)
       where
-        go : Dec (field vs 12 v 11 ≡ 0) → field vs 12 v 11 ≡ 0
+        go : Dec (treeRoot vs v ≡ 0) → treeRoot vs v ≡ 0
         go (yes z) = z
         go (no z) = clash (sym (ap isSome (a-tree v z .is)) ∙ h)
 
@@ -208,7 +205,7 @@ module _ (i : Input) {vs₂ es : List ℕ} {n m sink : ℕ} (rules : firstBroken
     unfolding onward searchInput
     stops v z = go (isSome (treeAt (evidence s (threaded s)) v) || eqb v (sinkOf s (threaded s))) refl
       where
-        inside : (v ≡ sink → ⊥) → field vs 12 v 11 ≡ 0 → Dec (v < length only) → sole (leaving (withSymbolic s (threaded s)) v) ≡ none
+        inside : (v ≡ sink → ⊥) → treeRoot vs v ≡ 0 → Dec (v < length only) → sole (leaving (withSymbolic s (threaded s)) v) ≡ none
         inside a b (yes l) = rw edges-are (t .sole v l .none z b a)
         inside a b (no l) = rw edges-are (ap sole (none-leave v (let y = lies .places in omega arith)))
 
@@ -242,22 +239,22 @@ module _ (i : Input) {vs₂ es : List ℕ} {n m sink : ℕ} (rules : firstBroken
         go (yes l) = let a = t .sole v l .known in let b = t .size in omega arith
         go (no l) = let y : getD only v 0 ≡ 0 = List·getD-eq-default only 0 (omega arith) in omega arith
 
-    far : (e : ℕ) → e < m + 1 → field es 6 e 1 < length only
+    far : (e : ℕ) → e < m + 1 → edgeTo es e < length only
     far e h = go (ℕ-discrete e m)
       where
-        go : Dec (e ≡ m) → field es 6 e 1 < length only
-        go (yes z) = let y : field es 6 e 1 ≡ n = rw z (at .to) in let w = lies .places in omega arith
+        go : Dec (e ≡ m) → edgeTo es e < length only
+        go (yes z) = let y : edgeTo es e ≡ n = rw z (at .to) in let w = lies .places in omega arith
         go (no z) = let y = at .good .to-in e (omega arith) in let w = lies .places in omega arith
 
-    target : (e : ℕ) → field es 6 e 1 ≡ getD to e 0
+    target : (e : ℕ) → edgeTo es e ≡ getD to e 0
     target e = go (decLt e (m + 1))
       where
-        go : Dec (e < m + 1) → field es 6 e 1 ≡ getD to e 0
+        go : Dec (e < m + 1) → edgeTo es e ≡ getD to e 0
         go (yes h) = sym (t .target e h)
         go (no h) =
             let a = lies .rows in
             let b = t .size in
-            let p : field es 6 e 1 ≡ 0 = List·getD-eq-default es 0 (omega arith) in
+            let p : edgeTo es e ≡ 0 = List·getD-eq-default es 0 (omega arith) in
             let q : getD to e 0 ≡ 0 = List·getD-eq-default to 0 (omega arith) in
             p ∙ sym q
 

@@ -4,14 +4,14 @@ use mathlib.Core.Path.{_≡_, refl, sym, ap, _∙_}
 use mathlib.Core.Logic.{_≢_}
 use mathlib.Core.List.{List, [], _∷_}
 use mathlib.Core.Option.{none, some}
-use Prim.Native.Nat.{ℕ, _+_, _-_, _*_, _<_, _≤_}
+use Prim.Native.Nat.{ℕ, _+_, _-_, _<_, _≤_}
 use native.Mathlib.Omega.{arith}
 use native.Mathlib.Decide.{ℕ-discrete}
 use lib.ListN.{length, getD, set, length-set}
 use lib.Seq.{getD-set-same, getD-set-other}
 use Rattle.laws.specs.Lists.{sole}
-use Rattle.laws.specs.Records.{field}
 use Rattle.definition.specs.Threading.{Edge, leaving}
+use Rattle.assembly.specs.Fields.{HasVertices, treeRoot, HasEdge, edgeTo}
 use Rattle.assembly.specs.Store.{edgeAt, edgesOf}
 use Rattle.assembly.specs.Outs.{Slots, Nexts, outFrom}
 use Rattle.pivotal_edges.specs.Walk.{Linked, Here, leaving-from, next-is, next-none, next-some, next-in, next-row, next-fits, next-again}
@@ -20,20 +20,20 @@ use Rattle.pivotal_edges.specs.Walk.{Linked, Here, leaving-from, next-is, next-
 
 -- by the answer, 0 or the number plus 1 of the only edge that leaves v, which has no tree and is not the sink
 pub record Sole (vs es : List ℕ) (m sink v r : ℕ) : Type 0 where
-  pub bare : 0 < r → field vs 12 v 11 ≡ 0
+  pub bare : 0 < r → treeRoot vs v ≡ 0
   pub inner : 0 < r → v ≢ sink
   pub known : r ≤ m
   pub is : 0 < r → sole (leaving (edgesOf es m) v) ≡ some (edgeAt es (r - 1))
-  pub none : r ≡ 0 → field vs 12 v 11 ≡ 0 → v ≢ sink → sole (leaving (edgesOf es m) v) ≡ none
+  pub none : r ≡ 0 → treeRoot vs v ≡ 0 → v ≢ sink → sole (leaving (edgesOf es m) v) ≡ none
 
 module _ (vs es : List ℕ) (m sink v : ℕ) where
-  nothing : (field vs 12 v 11 ≡ 0 → v ≢ sink → sole (leaving (edgesOf es m) v) ≡ none) → Sole vs es m sink v 0
+  nothing : (treeRoot vs v ≡ 0 → v ≢ sink → sole (leaving (edgesOf es m) v) ≡ none) → Sole vs es m sink v 0
   nothing h = record { bare = λ z. absurd (omega arith); inner = λ z. absurd (omega arith); known = omega arith; is = λ z. absurd (omega arith); none = λ z. h }
 
   pub sole-sink : v ≡ sink → Sole vs es m sink v 0
   sole-sink e = nothing (λ a b. absurd (b e))
 
-  pub sole-tree : {s : ℕ} → s ≡ field vs 12 v 11 → s ≢ 0 → Sole vs es m sink v 0
+  pub sole-tree : {s : ℕ} → s ≡ treeRoot vs v → s ≢ 0 → Sole vs es m sink v 0
   sole-tree e n = nothing (λ a b. absurd (n (e ∙ a)))
 
   module _ (k : Here vs es m v) {r : ℕ} (all : (i : ℕ) → Slots vs es i v → Nexts es i v 0 r) where
@@ -46,17 +46,17 @@ module _ (vs es : List ℕ) (m sink v : ℕ) where
       pos : 0 < r
       pos = omega arith
 
-      pub sole-row : (r - 1) * 6 + 6 ≤ length es
+      pub sole-row : HasEdge es (r - 1)
       sole-row = next-row k (next-is k all) pos
 
-      pub sole-fits : {w : ℕ} → w ≡ field es 6 (r - 1) 1 → w + 1 ≤ length vs
+      pub sole-fits : {w : ℕ} → w ≡ edgeTo es (r - 1) → w + 1 ≤ length vs
       sole-fits e = next-fits k (next-is k all) pos e
 
-      out : leaving (edgesOf es m) v ≡ edgeAt es (r - 1) ∷ outFrom (edgesOf es m) v (field es 6 (r - 1) 1 + 1)
+      out : leaving (edgesOf es m) v ≡ edgeAt es (r - 1) ∷ outFrom (edgesOf es m) v (edgeTo es (r - 1) + 1)
       out = sym (leaving-from (edgesOf es m) v) ∙ next-some k (next-is k all) pos
 
-      module _ {w s : ℕ} (e : w ≡ field es 6 (r - 1) 1) (again : (i : ℕ) → Slots vs es i v → Nexts es i v (w + 1) s) where
-        pub sole-one : v ≢ sink → {t : ℕ} → t ≡ field vs 12 v 11 → t ≡ 0 → s ≡ 0 → Sole vs es m sink v r
+      module _ {w s : ℕ} (e : w ≡ edgeTo es (r - 1)) (again : (i : ℕ) → Slots vs es i v → Nexts es i v (w + 1) s) where
+        pub sole-one : v ≢ sink → {t : ℕ} → t ≡ treeRoot vs v → t ≡ 0 → s ≡ 0 → Sole vs es m sink v r
         sole-one n et z y =
             let q = next-in k (next-is k all) pos in
             let o = next-none k (next-again k (next-is k all) pos e again) (omega arith) in
@@ -77,7 +77,7 @@ module _ (vs es : List ℕ) (m sink v : ℕ) where
 
 pub record Targets (es to to' : List ℕ) : Type 0 where
   pub size : length to' ≡ length to
-  pub is : (e : ℕ) → e < length to' → getD to' e 0 ≡ field es 6 e 1
+  pub is : (e : ℕ) → e < length to' → getD to' e 0 ≡ edgeTo es e
 
 pub record Soles (vs es : List ℕ) (m sink : ℕ) (only only' : List ℕ) : Type 0 where
   pub size : length only' ≡ length only
@@ -100,7 +100,7 @@ module _ {P : ℕ → ℕ → Type 0} {l : List ℕ} where
       go i k (no e) = rw (getD-set-other l' n i x 0 e) (f .is i (omega arith))
 
 abbrev pub IsTarget : List ℕ → ℕ → ℕ → Type 0
-IsTarget es e x = x ≡ field es 6 e 1
+IsTarget es e x = x ≡ edgeTo es e
 
 abbrev pub IsSole : List ℕ → List ℕ → ℕ → ℕ → ℕ → ℕ → Type 0
 IsSole vs es m sink v x = Sole vs es m sink v x
@@ -116,11 +116,11 @@ soles-end f h = record { size = f .size; is = λ v k. f .is v (omega arith) }
 pub record Tables (vs es : List ℕ) (m : ℕ) (only to : List ℕ) : Type 0 where
   pub linked : Linked vs es m
   pub size : length to ≡ m
-  pub room : length only * 12 ≤ length vs
+  pub room : HasVertices vs (length only)
 
 pub record Tabled (vs es : List ℕ) (m sink : ℕ) (only to : List ℕ) : Type 0 where
   pub size : length to ≡ m
-  pub target : (e : ℕ) → e < m → getD to e 0 ≡ field es 6 e 1
+  pub target : (e : ℕ) → e < m → getD to e 0 ≡ edgeTo es e
   pub sole : (v : ℕ) → v < length only → Sole vs es m sink v (getD only v 0)
 
 pub tabled-of : {vs es : List ℕ} {m sink : ℕ} {only only' to to' : List ℕ} → Tables vs es m only to → Targets es to to' → Soles vs es m sink only only' → Tabled vs es m sink only' to'

@@ -3,8 +3,8 @@
 use assembly::edge_to;
 use assembly::next_out;
 use junction_trees::root_slot;
-ghost use Prim.Native.Nat.{_*_, _≤_};
 ghost use lib.ListN.{length};
+ghost use Rattle.assembly.specs.Fields.{HasVertices, HasEdges};
 ghost use Rattle.pivotal_edges.specs.Walk.{Here, Linked};
 ghost use Rattle.search_ground.specs.Tables.{Sole, Targets, Soles, Tables, Tabled};
 
@@ -32,7 +32,7 @@ fn sole_out(vertices: &[u32], edges: &[u32], m: usize, sink: usize, v: usize) ->
 
 // `to` tells the target of each edge that it has a place for.
 fn fill_to(edges: &[u32], to: &mut [u32])
-    requires { ⌜ length (now to) * 6 ≤ length (now edges) ⌝ }
+    requires { ⌜ HasEdges (now edges) (length (now to)) ⌝ }
     ensures { λ _. ⌜ Targets (now (edges .entry)) (now (to .entry)) (now (to .exit)) ⌝ }
 {
     let mut e: usize = 0;
@@ -44,7 +44,7 @@ fn fill_to(edges: &[u32], to: &mut [u32])
 
 // `only` tells the sole edge of each vertex that it has a place for.
 fn fill_only(vertices: &[u32], edges: &[u32], m: usize, sink: usize, only: &mut [u32])
-    requires { ⌜ Linked (now vertices) (now edges) m × (length (now only) * 12 ≤ length (now vertices)) ⌝ }
+    requires { ⌜ Linked (now vertices) (now edges) m × (HasVertices (now vertices) (length (now only))) ⌝ }
     ensures { λ _. ⌜ Soles (now (vertices .entry)) (now (edges .entry)) m sink (now (only .entry)) (now (only .exit)) ⌝ }
 {
     let mut v: usize = 0;

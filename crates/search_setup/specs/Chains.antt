@@ -1,8 +1,8 @@
 -- The symbolic edge linked and the tables of the chains filled, and the settings of the search. Assumes nothing.
 use mathlib.Core.Path.{_≡_}
 use mathlib.Core.List.{List}
-use Prim.Native.Nat.{ℕ, _+_, _*_, _^_, _<_, _≤_}
-use lib.ListN.{length}
+use Prim.Native.Nat.{ℕ, _+_, _^_, _<_}
+use Rattle.assembly.specs.Fields.{HasVertex}
 use Rattle.assembly.specs.Symbolic.{linked}
 use Rattle.fork_offers.specs.Actives.{Least}
 use Rattle.search_state.specs.declared.Setting.{Setting}
@@ -11,7 +11,7 @@ use Rattle.graph_work.specs.declared.Raise.{Raise}
 use Rattle.list_interface.specs.declared.Settings.{Settings}
 
 pub record Chains (vs es only to : List ℕ) (b : Raise) : Type 0 where
-  pub sink-in : b .sink * 12 + 12 ≤ length vs
+  pub sink-in : HasVertex vs (b .sink)
   pub few : b .edges < 8192
   pub tables : Tables (linked vs (b .sink) (b .edges)) es (b .edges + 1) only to
 

@@ -2,14 +2,14 @@
 use mathlib.Core.Path.{_≡_}
 use mathlib.Core.List.{List}
 use mathlib.Core.Option.{none, some}
-use Prim.Native.Nat.{ℕ, _*_, _<_, _≤_}
+use Prim.Native.Nat.{ℕ, _<_, _≤_}
 use lib.ListN.{length}
 use Rattle.laws.specs.Lists.{total}
-use Rattle.laws.specs.Records.{field}
 use Rattle.definition.specs.Threading.{Ends, supportOf, leaving}
 use Rattle.definition.specs.Evidence.{Branches, treeAt}
 use Rattle.definition.specs.Search.{SearchInput}
 use Rattle.definition.proofs.Counts.{Small}
+use Rattle.assembly.specs.Fields.{HasVertices, treeRoot}
 use Rattle.assembly.specs.Store.{edgeAt}
 use Rattle.threading_tree.specs.Ends.{ends}
 use Rattle.threading_tree.specs.Slots.{cols}
@@ -37,7 +37,7 @@ pub record Ground (f : SearchInput) (g : Setting) (vs es x only to : List ℕ) :
   pub linked : Linked vs es (g .edges)
   pub settings : Settings f es (g .edges) (ends (g .sink) (g .symbolic)) (g .least)
   pub size : length to ≡ g .edges
-  pub vertices : length only * 12 ≤ length vs
+  pub vertices : HasVertices vs (length only)
   pub few : length only ≤ 4096
   pub source : f .source ≡ 0
   pub sink : f .sink ≡ g .sink
@@ -46,8 +46,8 @@ pub record Ground (f : SearchInput) (g : Setting) (vs es x only to : List ℕ) :
   pub nodes : g .nodes ≤ g .cap
   pub cap-fits : g .cap ≤ 16384
   pub wide : Wide (g .cap) x
-  pub tree : (v : ℕ) → v < length only → (field vs 12 v 11 ≡ 0 → ⊥) → TreeIn f x (g .nodes) (field vs 12 v 11) v
-  pub no-tree : (v : ℕ) → v < length only → field vs 12 v 11 ≡ 0 → treeAt (f .trees) v ≡ none
+  pub tree : (v : ℕ) → v < length only → (treeRoot vs v ≡ 0 → ⊥) → TreeIn f x (g .nodes) (treeRoot vs v) v
+  pub no-tree : (v : ℕ) → v < length only → treeRoot vs v ≡ 0 → treeAt (f .trees) v ≡ none
   -- what counts and supports come to, and how many edges leave a vertex
   pub small : (v : ℕ) (b : Branches) → treeAt (f .trees) v ≡ some b → Small 65535 b
   pub support : (v : ℕ) → total supportOf (leaving (f .edges) v) ≤ 65535

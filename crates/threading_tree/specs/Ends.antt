@@ -2,10 +2,11 @@
 use mathlib.Core.Path.{_≡_, refl, sym, ap, subst, _∙_}
 use mathlib.Core.Logic.{_⊎_, inl, inr}
 use Prim.Native.Nat.{ℕ, _<_, compare, Ordering, Ordering·lt, Ordering·eq, Ordering·gt}
-use mathlib.Core.Bool.{Bool, true, false, _&&_}
+use mathlib.Core.Bool.{Bool, true, false}
 use native.Mathlib.Omega.{arith}
 use Rattle.definition.specs.Threading.{Ends, compareEnds, eqEnds}
 use Rattle.laws.specs.Numbers.{then}
+use Rattle.laws.specs.ListLaws.{and-left, and-right}
 use lib.Dec.{eqb, isLe, isEq}
 use borrow.Author.Tests.{leb-true, leb-false, eqb-true, eqb-false, eq-eqb}
 
@@ -113,14 +114,6 @@ lt-ne e f p q = less-not f (rw q at (lt-less e f p))
 
 pub eq-self : (e : Ends) → compareEnds e e ≡ Ordering·eq
 eq-self e = same-eq e e refl refl
-
-and-left : (a b : Bool) → (a && b) ≡ true → a ≡ true
-and-left true b e = refl
-and-left false b e = e
-
-and-right : (a b : Bool) → (a && b) ≡ true → b ≡ true
-and-right true b e = e
-and-right false b e = absurd (let z : _≡_ {A = ℕ} 0 1 = cc in omega arith)
 
 pub eqEnds-true : (e f : Ends) → eqEnds e f ≡ true → e ≡ f
 eqEnds-true e f h = ends-path _ _ _ _ (eqb-true _ _ (and-left _ _ h)) (eqb-true _ _ (and-right (eqb (e .from) (f .from)) _ h))

@@ -188,7 +188,7 @@ unfolding takeUnless
 unless-grows true e w = omega arith
 unless-grows false e w = take-edge-grows e w
 
-where-many : (o : Bool) (v : ℕ) (w : Walk) → length (openWhere o v w .opened) ≤ length (w .opened) + 1
+pub where-many : (o : Bool) (v : ℕ) (w : Walk) → length (openWhere o v w .opened) ≤ length (w .opened) + 1
 unfolding openWhere
 where-many true v w = let a = open-many v w in omega arith
 where-many false v w = omega arith

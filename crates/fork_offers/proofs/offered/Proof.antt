@@ -3,13 +3,13 @@ use Prim.Native.Nat.{ℕ, _<_, _-_}
 use mathlib.Core.Path.{_≡_, sym, _∙_}
 use borrow.Author.Count.{below-more}
 use borrow.Author.Needs.{needs}
-use Rattle.laws.specs.Records.{field}
+use Rattle.fork_offers.specs.Fields.{offerEdge}
 use Rattle.fork_offers.specs.Rows.{offered-no, offered-yes}
 use Rattle.fork_offers.proofs.offered.Statement.{statement}
 use Rattle.fork_offers.proofs.offered.Tie as tie
 
 abbrev Inv-loop : tie.InvT-loop
-Inv-loop out k edge i₀ i = (j : ℕ) → j < i → field out 4 j 0 ≡ edge → ⊥
+Inv-loop out k edge i₀ i = (j : ℕ) → j < i → offerEdge out j ≡ edge → ⊥
 
 abbrev μ-loop : tie.MeasureT-loop
 μ-loop out k edge i₀ i = k - i

@@ -10,7 +10,7 @@ use Rattle.assembly.proofs.wide.Reads as wide-reads
 use mathlib.Core.Path.{ap, _∙_}
 use native.Mathlib.Omega.{arith}
 use lib.ListN.{length-append}
-use Rattle.laws.specs.Records.{field}
+use Rattle.assembly.specs.Fields.{edgeTo}
 use Rattle.path_list.specs.Tails.{base-room, base-fits, base-is}
 
 wide-requires : tie.Need-wide-requires
@@ -20,19 +20,19 @@ edge-to-requires : tie.Need-edge-to-requires
 edge-to-requires c κs = search needs
 
 kmer-place-requires : tie.Need-kmer-place-requires
-kmer-place-requires c κs = base-room _ _ _ _ _ (c .before .before .before .before .before .before .pre) _ ((c .edge-to) .ensures ∙ ap (λ x. field ((c .before .before .before .before .before .before .args) .edges .now) 6 x 1) ((c .before .wide) .ensures))
+kmer-place-requires c κs = base-room _ _ _ _ _ (c .before .before .before .before .before .before .pre) _ ((c .edge-to) .ensures ∙ ap (λ x. edgeTo ((c .before .before .before .before .before .before .args) .edges .now) x) ((c .before .wide) .ensures))
 
 add-byte-at : tie.Need-add-byte-at
-add-byte-at c = omega (arith, (c .before .before .before .before .before .before .before .pre) .small, base-fits _ _ _ _ _ (c .before .before .before .before .before .before .before .pre) _ ((c .before .edge-to) .ensures ∙ ap (λ x. field ((c .before .before .before .before .before .before .before .args) .edges .now) 6 x 1) ((c .before .before .wide) .ensures)) _ ((c .kmer-place) .ensures))
+add-byte-at c = omega (arith, (c .before .before .before .before .before .before .before .pre) .small, base-fits _ _ _ _ _ (c .before .before .before .before .before .before .before .pre) _ ((c .before .edge-to) .ensures ∙ ap (λ x. edgeTo ((c .before .before .before .before .before .before .before .args) .edges .now) x) ((c .before .before .wide) .ensures)) _ ((c .kmer-place) .ensures))
 
 sub-byte-at : tie.Need-sub-byte-at
 sub-byte-at c = search needs
 
 byte-at-requires : tie.Need-byte-at-requires
-byte-at-requires c κs = omega (arith, (c .before .before .before .before .before .before .before .pre) .some, length-append ((c .before .before .before .before .before .before .before .args) .reference .now) ((c .before .before .before .before .before .before .before .args) .bases .now), base-fits _ _ _ _ _ (c .before .before .before .before .before .before .before .pre) _ ((c .before .edge-to) .ensures ∙ ap (λ x. field ((c .before .before .before .before .before .before .before .args) .edges .now) 6 x 1) ((c .before .before .wide) .ensures)) _ ((c .kmer-place) .ensures))
+byte-at-requires c κs = omega (arith, (c .before .before .before .before .before .before .before .pre) .some, length-append ((c .before .before .before .before .before .before .before .args) .reference .now) ((c .before .before .before .before .before .before .before .args) .bases .now), base-fits _ _ _ _ _ (c .before .before .before .before .before .before .before .pre) _ ((c .before .edge-to) .ensures ∙ ap (λ x. edgeTo ((c .before .before .before .before .before .before .before .args) .edges .now) x) ((c .before .before .wide) .ensures)) _ ((c .kmer-place) .ensures))
 
 returns : tie.Need-returns
-returns c = (c .byte-at) .ensures ∙ base-is _ _ _ _ _ (c .before .before .before .before .before .before .before .before .pre) _ ((c .before .before .edge-to) .ensures ∙ ap (λ x. field ((c .before .before .before .before .before .before .before .before .args) .edges .now) 6 x 1) ((c .before .before .before .wide) .ensures)) _ ((c .before .kmer-place) .ensures)
+returns c = (c .byte-at) .ensures ∙ base-is _ _ _ _ _ (c .before .before .before .before .before .before .before .before .pre) _ ((c .before .before .edge-to) .ensures ∙ ap (λ x. edgeTo ((c .before .before .before .before .before .before .before .before .args) .edges .now) x) ((c .before .before .before .wide) .ensures)) _ ((c .before .kmer-place) .ensures)
 
 pub end-base-spec : {M : Type 1} → statement M
 end-base-spec =
