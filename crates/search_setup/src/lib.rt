@@ -2,6 +2,8 @@
 use assembly::link_symbolic_edge;
 use fork_offers::least_total;
 use graph_work::Raise;
+use limits::GraphMaxima;
+use limits::SearchMaxima;
 use list_interface::Settings;
 use search_ground::chain_tables;
 use search_state::Setting;
@@ -12,8 +14,8 @@ pub fn search_setting(a: Settings, b: Raise) -> Setting
     requires { ⌜ Small b ⌝ }
     ensures { λ r. ⌜ SettingFor a b r ⌝ }
 {
-    let graph = a.graph;
-    let most = a.search;
+    let graph: GraphMaxima = a.graph;
+    let most: SearchMaxima = a.search;
     let least = least_total(a.threshold);
     Setting {
         edges: b.edges + 1,
