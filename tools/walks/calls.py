@@ -1,0 +1,1 @@
+class Calls: pass
