@@ -42,13 +42,11 @@ def tells(kind):
     return f"uint-tells {WIDTHS[kind]}" if kind in WIDTHS else "float-tells binary64" if kind == "f64" else f"LL.tells {kind}′.the-type {kind}″.the-laws"
 
 
-def typed(kind, fact):
-    """That a number's value is one of its type, for a local that takes it."""
+def typed(kind, term, fact):
+    """That a value is one of its type, for a local that takes it."""
+    if is_struct(kind):
+        return f"({lawful(kind)} .typed {term} _ {fact} .0)"
     return f"(tt, passes _ {fact})" if kind == "f64" else f"(tt, record {{ fits = {fact} }})"
-
-
-def typed_struct(kind, term, fact):
-    return f"(LL.lawful {kind}′.the-type {kind}″.the-laws 𝓤 H A W .typed {term} _ {fact} .0)"
 
 
 def element(kind):
@@ -60,5 +58,22 @@ def copy(kind):
     return "(float-copy 𝓤 H A W binary64)" if kind == "f64" else f"(uint-copy 𝓤 H A W {WIDTHS[kind]})"
 
 
-def owned_struct(kind, term, fact):
-    return f"owned ! {kind}′.the-row (Is {kind}′.the-row) (LL.makes {kind}′.the-type {kind}″.the-plain 𝓤 H A) {term} _ {fact} $"
+def owned(kind, term, fact):
+    """A step that owns a value of which the fact is known."""
+    if is_struct(kind):
+        makes = f"LL.makes {kind}′.the-type {kind}″.the-plain 𝓤 H A"
+    else:
+        makes, fact = f"uint-makes 𝓤 H A W {WIDTHS[kind]}", f"(refl, {fact})"
+    return f"owned ! {row(kind)} (Is {row(kind)}) ({makes}) {term} _ {fact} $"
+
+
+def known(kind, term):
+    """What is known of a value that a parameter or an answer has."""
+    return f"Is {kind}′.the-row {term} (LL.vals {kind}′.the-type {kind}″.the-laws {term})" if is_struct(kind) else fits(kind, term)
+
+
+def lawful(kind):
+    """The laws by which an answer lands in a local."""
+    if kind is None:
+        return "nothing-lawful 𝓤 H A W"
+    return f"uint-lawful 𝓤 H A W {WIDTHS[kind]}" if kind in WIDTHS else f"LL.lawful {kind}′.the-type {kind}″.the-laws 𝓤 H A W"

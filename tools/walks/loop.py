@@ -17,7 +17,7 @@ WORKED_OUT = {"mul": "{} * {}", "add": "{} + {}"}
 
 
 class Loop:
-    def __init__(self, contract, function, about):
+    def __init__(self, contract, function, about, _):
         self.contract, self.function, self.about = contract, function, about
         self.slices = [p for p in contract.parameters if p.mode]
         self.lifetime = {p.place: k for k, p in enumerate(self.slices)}
@@ -216,7 +216,7 @@ class Loop:
         had.step(f"elem-out ! {kinds.element(kind)} {where} {inside} {had.binding(found)}")
         had.become(1, "cell", "value", "others")
         load = f"(load ! (from ! (hop ! (look ! {had.at(f'_{pointer}')} refl) (stop !))) (look ! {had.at('cell')} refl))"
-        had.assigns(f"(of-opd ! {load})", f"{self.write(local)} {kinds.typed(kind, f'({found} .1)')}")
+        had.assigns(f"(of-opd ! {load})", f"{self.write(local)} {kinds.typed(kind, None, f'({found} .1)')}")
         term = f"getD {self.list(p)} {bracketed(index)} {kinds.default(kind)}"
         had.step(f"elem-back ! {kind} {where} ({kinds.machine(kind, f'({term})')} ∷ []) {inside} $")
         had.become(3, f"row{p.place}")
@@ -242,7 +242,7 @@ class Loop:
         return [value for value in self.fields if isinstance(value, Number)]
 
     def typed(self):
-        return kinds.typed_struct(self.struct, "(row-at i)", self.made)
+        return kinds.typed(self.struct, "(row-at i)", self.made)
 
     def store_row(self, pointer, taken):
         """The element is taken out, written over and put back."""
@@ -253,7 +253,7 @@ class Loop:
         had.become(1, "cell", "value", "others")
         had.step(f"assigns ! (of-opd ! {had.load(f'_{source_local}')}) (from ! (hop ! (look ! {had.at(f'_{pointer}')} refl) (stop !))) (store-raw ! {had.at('cell')} refl {self.typed()}) $")
         had.drop("value")
-        had.step(kinds.owned_struct(self.struct, "(row-at i)", self.made))
+        had.step(kinds.owned(self.struct, "(row-at i)", self.made))
         had.names.insert(0, "value")
         had.front("cell", "value", "others")
         had.step(f"elem-put ! {self.kind} {where} (machine i ∷ []) b o (within i small) $")
@@ -457,6 +457,9 @@ class Loop:
 
     def structs(self):
         return [self.struct]
+
+    def contracts(self):
+        return [self.contract]
 
     def use_lines(self):
         return []

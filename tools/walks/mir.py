@@ -20,7 +20,7 @@ def read(text):
         if tree[:1] == ["fn-def"]:
             functions[tree[1].strip('"')] = Function(tree[2])
         if tree[:1] == ["pair"] and isinstance(tree[2], list) and tree[2][0] == "fields":
-            crate, name = tree[1].strip('"').split("::")
+            crate, *_, name = tree[1].strip('"').split("::")
             structs[name] = (crate, sequence(tree[2][1]))
         for branch in tree:
             look(branch)
@@ -88,7 +88,7 @@ def read_locals(tree):
 def named(tree):
     """A struct's own name where the type is one."""
     if isinstance(tree, list) and tree[0] == "tyNamed":
-        return tree[1][1].strip('"').split("::")[1]
+        return tree[1][1].strip('"').split("::")[-1]
     return None
 
 

@@ -21,17 +21,16 @@ def made(root, crate, function, written, printed, shapes):
     functions, structs = printed
     about = description(written)
     contract = source.contract(root, crate, function)
-    shape = shapes[about["shape"]](contract, functions[f"{crate}::{function}"], about)
+    shape = shapes[about["shape"]](contract, functions[f"{crate}::{function}"], about, lambda *name: source.contract(root, *name))
     template = Path(__file__).with_name(about["shape"] + ".antt.in").read_text()
     values = shape.marks()
     body = text.filled(template.replace("<<uses>>", ""), values)
-    lines = use_lines(crate, function, about, contract, shape, structs, body)
+    lines = use_lines(crate, function, about, shape, structs, body)
     return text.filled(template, {**values, "uses": "\n".join(lines)})
 
 
-def use_lines(crate, function, about, contract, shape, structs, body):
-    further = uses.contract_names(contract, crate)
-    lines = uses.lines(body, further)
+def use_lines(crate, function, about, shape, structs, body):
+    lines = uses.lines(body, [name for contract in shape.contracts() for name in uses.contract_names(contract, crate)])
     laws = ["use denote.Struct.Laws as LL"]
     for struct in shape.structs():
         laws += uses.struct_lines(struct, structs[struct][0], crate)
