@@ -1,6 +1,10 @@
 """What a proof has, in the order in which the prover keeps it. Its steps name what they use by position: the positions are counted here."""
 
 
+class Made(str):
+    """A part that a step makes where it is needed."""
+
+
 class Had:
     def __init__(self, names):
         self.names = list(names)
@@ -60,15 +64,15 @@ class Had:
         self.drop(name)
 
     def together(self, parts, name, kind=""):
-        """A part that is None is the empty one; one with a `$` is a step that makes it."""
+        """A part is a name, a step that makes it, or None for the empty one."""
         self.nothing("rest")
         for part in reversed(parts):
             if part is None:
                 self.nothing("part")
-            elif part.endswith("$"):
+            elif isinstance(part, Made):
                 self.step(part)
                 self.names.insert(0, "part")
-            self.join("part" if part is None or part.endswith("$") else part, "rest", "rest", kind)
+            self.join(part if part in self.names else "part", "rest", "rest", kind)
         self.become(1, name)
 
     def load(self, local):

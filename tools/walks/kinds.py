@@ -1,11 +1,16 @@
-"""What the logic says of each type that a parameter, an element or an answer may have."""
+"""What the logic says of each type that a parameter, an element or an answer may have; None is the empty answer."""
 
 WIDTHS = {"u8": "w8", "u16": "w16", "u32": "w32", "u64": "w64", "usize": "w64"}
 SIZES = {"u8": 1, "u16": 2, "u32": 4, "u64": 8, "usize": 8, "f64": 8}
 
 
+def checked(kind):
+    if not is_struct(kind) and kind not in SIZES:
+        raise SystemExit(f"the type {kind} is not covered")
+
+
 def is_struct(kind):
-    return kind not in WIDTHS and kind != "f64" and kind is not None
+    return kind is not None and kind[0].isupper()
 
 
 def row(kind):

@@ -1,4 +1,4 @@
-"""Reads what `rt mir` prints: the functions with their locals and statements, and the declared structs."""
+"""Reads what `rt mir` prints: functions with their locals and statements, and the declared structs. A tree is a list of trees and words."""
 import re
 
 
@@ -11,7 +11,7 @@ class Function:
 
 
 def read(text):
-    """The functions by name, and of each struct the crate that declares it and its fields' types."""
+    """The functions by name, and of each struct the crate that declares it."""
     functions, structs = {}, {}
 
     def look(tree):
@@ -21,7 +21,7 @@ def read(text):
             functions[tree[1].strip('"')] = Function(tree[2])
         if tree[:1] == ["pair"] and isinstance(tree[2], list) and tree[2][0] == "fields":
             crate, *_, name = tree[1].strip('"').split("::")
-            structs[name] = (crate, sequence(tree[2][1]))
+            structs[name] = crate
         for branch in tree:
             look(branch)
 

@@ -12,7 +12,7 @@ def contract(root, crate, function):
         text = file.read_text()
         start = re.search(rf"\bfn {function}\(", text)
         if start:
-            return signed(crate, function, text[start.end():], ghost_names(crate, text))
+            return signed(crate, function, text[start.end():], ghost_names(text))
     raise SystemExit(f"{crate} has no function {function}")
 
 
@@ -42,8 +42,8 @@ def flat(text):
     return " ".join(text.split())
 
 
-def ghost_names(crate, text):
-    """Where a contract's names come from. What a crate calls `·specs.specs` is `.specs` to another."""
+def ghost_names(text):
+    """Which module each name of a contract is of."""
     found = {}
     for module, names in re.findall(r"ghost use ([^{;]+)\.\{([^}]*)\};", text):
         for name in names.split(","):
@@ -54,7 +54,7 @@ def ghost_names(crate, text):
 def said(text, lists, others):
     """A contract's text with what each name stands for. `lists` has for a slice its list at entry and at exit, `others` the terms for numbers, structs and the answer."""
     name = r"«?(\w+)»?"
-    pattern = rf"\(now \({name} \.(entry|exit)\)\)|now \({name} \.(entry|exit)\)|\(now {name}\)|now {name}|(?<![\w.«·-]){name}(?![\w·-])"
+    pattern = rf"\(now \({name} \.(entry|exit)\)\)|now \({name} \.(entry|exit)\)|\(now {name}\)|now {name}|(?<![\w.«·′-]){name}(?![\w·′-])"
 
     def term(found):
         for group, brackets in ((1, True), (3, False)):
@@ -63,7 +63,7 @@ def said(text, lists, others):
         for group, brackets in ((5, True), (6, False)):
             if found.group(group):
                 return shown(lists[found.group(group)][0], brackets)
-        return others.get(found.group(7), found.group(0))
+        return found.group(0) if found.group(7) == "_" else others.get(found.group(7), found.group(0))
 
     return re.sub(pattern, term, text)
 

@@ -2,11 +2,11 @@
 import re
 from . import text
 
-# What the walks are written with. A name that another module exports too is taken from here.
+# What the walks are written with; `fits:float-fits` is imported as `float-fits`.
 KIT = """
 mathlib.Core.Path: _≡_ refl sym _∙_ ap subst
-Prim.Native.Nat: ℕ zero suc _+_ _-_ _*_ _^_ _≤_ _<_
-native.Mathlib.Nat: lt-of-lt-of-le lt-irrefl sub-self
+Prim.Native.Nat: ℕ suc _+_ _-_ _*_ _^_ _≤_ _<_
+native.Mathlib.Nat: lt-irrefl sub-self
 native.Mathlib.Omega: arith
 mathlib.Core.Bool: Bool true false not
 mathlib.Core.List: [] _∷_ List
@@ -61,7 +61,7 @@ denote.Exit: yes
 
 def kit():
     """Module, name there, and name here, one by one."""
-    for line in KIT.split("\n"):
+    for line in KIT.strip().split("\n"):
         module, _, names = line.partition(": ")
         for name in names.split():
             there, _, here = name.partition(":")
@@ -69,14 +69,16 @@ def kit():
 
 
 def lines(body, further):
-    """`further` has more of the same triples; of two with one name the first is taken."""
-    seen, modules = {}, {}
-    have = text.words(body)
+    """`further` has more of the same triples, from the contracts."""
+    source, modules, have = {}, {}, text.words(body)
     for module, there, here in list(kit()) + further:
-        if here.strip("_") in have and seen.setdefault(here, module) == module:
-            entry = there if there == here else f"{there} as {here}"
-            if entry not in modules.setdefault(module, []):
-                modules[module].append(entry)
+        if here.strip("_") not in have:
+            continue
+        if source.setdefault(here, (module, there)) != (module, there):
+            raise SystemExit(f"two things are named {here}: of {module} and of {source[here][0]}")
+        entry = there if there == here else f"{there} as {here}"
+        if entry not in modules.setdefault(module, []):
+            modules[module].append(entry)
     return [f"use {module}.{{{', '.join(names)}}}" for module, names in modules.items()]
 
 
@@ -86,24 +88,21 @@ def prefix(crate, home, part):
 
 
 def from_home(module, home):
-    """A module as the crate `home` names it, where another crate's source names it as its own."""
+    """A module as the crate `home` names it, where the source of another crate names it as its own."""
     own = re.match(r"Rattle·(\w+)·(\w+)\.\2\b", module)
-    return module if not own or own.group(1) == home else module.replace(own.group(), f"Rattle.{own.group(1)}.{own.group(2)}")
-
-
-def kit_names():
-    return {here for _, _, here in kit()}
+    return module.replace(own.group(), prefix(own.group(1), home, own.group(2))) if own else module
 
 
 def contract_names(contract, home):
-    """What a contract's names are imported as: one that the kit has too gets a prime."""
-    return [(from_home(module, home), name, clear_of_kit(name, module)) for name, module in contract.names.items()]
-
-
-def clear_of_kit(name, module):
-    return name if (module, name) in {(m, n) for m, n, _ in kit()} or name not in kit_names() else name + "′"
+    """What a contract's names are imported as: one that the kit has of another module gets a prime."""
+    taken = {here: module for module, _, here in kit()}
+    found = []
+    for name, module in contract.names.items():
+        found.append((from_home(module, home), name, name if taken.get(name, module) == module else name + "′"))
+    return found
 
 
 def struct_lines(name, crate, home):
+    """A struct's type, ′ its module, and ″ that of its laws."""
     proofs = prefix(crate, home, "proofs")
     return [f"use {prefix(crate, home, 'specs')}.declared.{name}.{{{name}}}", f"use {proofs}.{name} as {name}′", f"use {proofs}.{name}.Laws as {name}″"]

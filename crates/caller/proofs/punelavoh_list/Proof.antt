@@ -1,4 +1,5 @@
--- `caller::punelavoh_list` meets its contract: a walk of its MIR from call to call, made by `tools/walk` of `Proof.walk`. A slice that is used again after a call is lent to it and comes back; the last call that uses it is given it. `walk` goes as far as the cut and `rest` from there on, since one declaration of both is too long for the prover.
+-- `caller::punelavoh_list` meets its contract: a walk of its MIR, from call to call. Made by `tools/walk`: `Proof.walk` is what to change. A slice that is used again after a call is lent to it and comes back; the last call that uses it is given it.
+-- `walk` goes as far as the cut and `rest` from there on, since one declaration of both is too long for the prover.
 -- Assumes nothing.
 use mathlib.Core.Path.{_≡_, refl, sym, _∙_, ap, subst}
 use Prim.Native.Nat.{ℕ, _≤_}
