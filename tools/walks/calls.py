@@ -47,6 +47,8 @@ class Calls(Loans):
         if len(set(names)) < len(names):
             raise SystemExit(f"{contract.name}: a function that is called twice is not covered")
         self.callees = {name: find(*name.split("::")) for name in names}
+        if about["cut"] not in [c.name for c in self.callees.values()]:
+            raise SystemExit(f"{contract.name}: the cut comes after a callee, but it does not call {about['cut']}")
         self.renamed = {name: here for c in self.contracts() for _, name, here in uses.contract_names(c, contract.crate)}
         self.values, self.asked, self.calls = {}, [], []
         self.origin = self.traced()
@@ -330,8 +332,10 @@ class Calls(Loans):
                 self.call(place)
                 if self.calls[-1].contract.name == self.about["cut"]:
                     self.cut(place + 1)
-            else:
+            elif statement[0] == "assign":
                 self.assign(statement)
+            else:
+                raise SystemExit(f"{self.contract.name}: a branch or a loop is not covered")
 
     def last_items(self):
         return [f"t{p.place}" for p in self.slices] + [f"f{p.place}" for p in self.mutable]

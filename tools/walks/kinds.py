@@ -67,8 +67,10 @@ def owned(kind, term, fact):
     """A step that owns a value of which the fact is known."""
     if is_struct(kind):
         makes = f"LL.makes {kind}′.the-type {kind}″.the-plain 𝓤 H A"
-    else:
+    elif kind in WIDTHS:
         makes, fact = f"uint-makes 𝓤 H A W {WIDTHS[kind]}", f"(refl, {fact})"
+    else:
+        raise SystemExit(f"a value of type {kind} that is passed on is not covered")
     return f"owned ! {row(kind)} (Is {row(kind)}) ({makes}) {term} _ {fact} $"
 
 

@@ -39,6 +39,8 @@ def use_lines(crate, function, about, shape, structs, body):
     lines = uses.lines(body, [name for contract in shape.contracts() for name in uses.contract_names(contract, crate)])
     lines.append("use denote.Struct.Laws as LL")
     for struct in shape.structs():
+        if struct not in structs:
+            raise SystemExit(f"{struct} is no struct: another type is not covered")
         lines += uses.struct_lines(struct, structs[struct], crate)
     lines += [f"use {names}" for names in about["use"]] + shape.use_lines()
     own = f"{uses.prefix(crate, crate, 'proofs')}.{function}"
