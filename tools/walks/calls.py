@@ -198,7 +198,8 @@ class Calls(Loans):
             loads = f"(and-then ! {had.load(f'_{local}')} {loads})"
         had.step(f"calls-at ! fm {self.triple(call.name)} known-{call.name} {call.to} {loads} {had.binding(call.value)}")
         ensured = f"ensured 𝓤 H A {call.name}.ended ({call.name}.clauses 𝓤 H A at-mem run) {call.lives()} {nested(call.given)} tt {call.answer}"
-        had.step(f"use1 W (later (some (λ ({call.answer} : {kinds.meaning(result)}). ({call.all_tokens()} ⊛ ‵ ({kinds.row(result)} .own {call.answer} ({call.value} ∷ []))) ⊛ raw ({ensured})))) (id⊢ 𝓤 _) $ await ! tt $ pick ! {had.binding(call.answer)}")
+        back = f"({call.all_tokens()} ⊛ ‵ ({kinds.row(result)} .own {call.answer} ({call.value} ∷ [])))"
+        had.step(f"use1 W (later (some (λ ({call.answer} : {kinds.meaning(result)}). {back} ⊛ raw ({ensured})))) (id⊢ 𝓤 _) $ await ! tt $ pick ! {had.binding(call.answer)}")
         had.step("split ! $")
         had.become(1, "back", "ensured")
         had.split("back", "tokens", "answer")
@@ -342,8 +343,8 @@ class Calls(Loans):
 
     def leave(self):
         had, answer = self.had, self.values[0]
-        if not all(self.state[p.place].given for p in self.mutable):
-            raise SystemExit(f"{self.contract.name}: a `&mut` that is given to no call is not covered")
+        if not all(self.state[p.place].given for p in self.mutable) or not isinstance(answer, Value):
+            raise SystemExit(f"{self.contract.name}: a `&mut` that is given to no call is not covered, nor an answer that is no call's")
         had.step(f"returns ! (look ! {had.at('_0')} refl) $")
         had.keep(self.local_items() + self.last_items())
         freed = listed(f"({mir.type_text(kind)}, {place}, _)" for kind, place in zip(self.function.locals, self.places()))

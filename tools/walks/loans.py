@@ -1,4 +1,7 @@
-"""How slices are handed to a call and come back. One that is used again afterwards is lent for a lifetime of the call, and shared from there where the callee only reads; after the call the lifetime ends and the slice comes back. One that is not is given."""
+"""How slices are handed to a call and come back.
+
+One that is used again afterwards is lent for a lifetime of the call, and shared from there where the callee only reads; after the call the lifetime ends and the slice comes back.
+One that is not used again is given."""
 from collections import namedtuple
 from . import kinds
 from .text import numbered, part_of
@@ -92,7 +95,8 @@ class Loans(Walk):
         had.front(f"m{p.place}", f"n{p.place}")
         shared = self.owning(p, kind, self.reference(p, "δ", now), f"(length ({now}))")
         had.step(f"use2 W (later (some (λ (δ : GName). {shared} ⊛ (‵ (finally {row} {lent_as} ({now})) ⊛ ‵ (flft ({life} ∷ []) fullShare)))))")
-        had.step(f"(shares-on {row} ({life} ∷ []) fullShare {lent_as} {self.pointer(p)} 𝓤 H A W (named {number}) (named {number}) (length ({now})) ({now})) $ await ! tt $ pick ! {had.binding(name)} split ! $")
+        borrow = f"{row} ({life} ∷ []) fullShare {lent_as} {self.pointer(p)}"
+        had.step(f"(shares-on {borrow} 𝓤 H A W (named {number}) (named {number}) (length ({now})) ({now})) $ await ! tt $ pick ! {had.binding(name)} split ! $")
         had.become(2, f"m{p.place}", "both")
         had.split("both", f"f{p.place}", f"n{p.place}")
         self.scope.append((name, "GName"))

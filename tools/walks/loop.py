@@ -6,7 +6,8 @@
         i = i + 1;
     }
 
-A field is an element of a number column, at a place that is worked out from i, a comparison of such numbers, or true or false. `requires` bounds the length of each slice by a term over n: it is `(.. ≤ length (now rows)) × ..`."""
+A field is an element of a number column, at a place that is worked out from i, a comparison of such numbers, or true or false.
+`requires` bounds the length of each slice by a term over n: it is `(.. ≤ length (now rows)) × ..`."""
 import re
 from collections import namedtuple
 from . import kinds, mir, source
@@ -232,7 +233,8 @@ class Loop(Walk):
         had.front("rows")
         had.step(f"elem-out ! {kinds.element(self.struct)} {where} b o (within i small) {had.binding('_')}")
         had.become(1, "cell", "value", "others")
-        had.step(f"assigns ! (of-opd ! {had.load(f'_{source_local}')}) (from ! (hop ! (look ! {had.at(f'_{pointer}')} refl) (stop !))) (store-raw ! {had.at('cell')} refl {self.typed_row()}) $")
+        through = f"(from ! (hop ! (look ! {had.at(f'_{pointer}')} refl) (stop !)))"
+        had.step(f"assigns ! (of-opd ! {had.load(f'_{source_local}')}) {through} (store-raw ! {had.at('cell')} refl {self.typed_row()}) $")
         had.drop("value")
         had.step(kinds.owned(self.struct, "(row-at i)", self.made))
         had.names.insert(0, "value")
@@ -243,7 +245,8 @@ class Loop(Walk):
     def go_on(self):
         """i is one more, and the locals of the turn are forgotten."""
         had, counter = self.had, f"_{self.counter}"
-        had.step(f"assigns-last ! (bin ! {had.load(counter)} (lit ! tt) (record {{ fits = next-fits i small }})) (from ! (stop !)) (store ! {had.at(counter)} refl (tt, record {{ fits = next-fits i small }})) $")
+        fits = "record { fits = next-fits i small }"
+        had.step(f"assigns-last ! (bin ! {had.load(counter)} (lit ! tt) ({fits})) (from ! (stop !)) (store ! {had.at(counter)} refl (tt, {fits})) $")
         for local in sorted(self.written - {self.counter}):
             if local > self.function.parameters:
                 had.step(f"forget ! {had.at(f'_{local}')} refl $")
@@ -289,7 +292,8 @@ class Loop(Walk):
         had.step("frame ! $")
         had.become(1)
         had.join("seen", "borrow", "slice", "f")
-        had.step(f"pureI ! (at-slice {self.row_kind} (x (now-at n)) ({part_of('vals', self.rows.place)})) (tt, (tt, tt)) (ap (λ (m : ℕ). sliceVal (b, o) m ∷ []) (sym (same-length n)), subst (Room {self.row_kind}) (sym (same-length n)) room) $ fjoin ! $")
+        shown = f"(ap (λ (m : ℕ). sliceVal (b, o) m ∷ []) (sym (same-length n)), subst (Room {self.row_kind}) (sym (same-length n)) room)"
+        had.step(f"pureI ! (at-slice {self.row_kind} (x (now-at n)) ({part_of('vals', self.rows.place)})) (tt, (tt, tt)) {shown} $ fjoin ! $")
         had.together(["slice" if p == self.rows else None for p in self.parameters], "kept", "f")
         had.step("frame ! $ feqI ! (List Val) (vunit ∷ []) (vunit ∷ []) refl $ done !")
         return had.written()
