@@ -12,7 +12,7 @@ pub struct PathRow {
     pub is_ref: bool,
 }
 
-// The first n rows are those of the three columns; the others stay. Proved by hand, since a slice of records is not covered.
+// The first n rows are those of the three columns; the others stay. Its proof is made by `tools/walk`, since a slice of records is not covered.
 pub fn write_rows(rows: &mut [PathRow], n: usize, scores: &[f64], closings: &[u32], edges: &[u32])
     requires { ⌜ (n ≤ length (now rows)) × (n ≤ length (now scores)) × (n ≤ length (now closings)) × (n ≤ length (now edges)) ⌝ }
     ensures { λ _. ⌜ Filled (now (scores .entry)) (now (closings .entry)) (now (edges .entry)) n (now (rows .entry)) (now (rows .exit)) ⌝ }
