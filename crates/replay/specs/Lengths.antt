@@ -1,5 +1,9 @@
 -- How much of each slice is lent. Assumes nothing.
+use mathlib.Core.Path.{_≡_, sym, _∙_}
+use mathlib.Core.List.{List, _++_}
 use Prim.Native.Nat.{ℕ, _≤_}
+use lib.ListN.{length, take, drop, replicate, length-replicate}
+use lib.Seq.{length-front}
 use Rattle.list_call.specs.declared.Lent.{Lent}
 
 -- Each length is at most that of its slice.
@@ -23,3 +27,7 @@ pub record Fits (l : Lent) (of-row-scores of-row-closings of-row-edges of-bases 
   pub order : l .order ≤ of-order
   pub marks : l .marks ≤ of-marks
   pub walks : l .walks ≤ of-walks
+
+-- an array of which a part was lent for writing keeps its length
+pub array-kept : {A : Type 0} (v : A) (m n : ℕ) (e : List A) → length e ≡ length (take n (replicate m v)) → m ≡ length (e ++ drop n (replicate m v))
+array-kept v m n e h = sym (length-front (replicate m v) e n h ∙ length-replicate m v)

@@ -25,7 +25,6 @@ use list_call::list_columns;
 use list_interface::ListAnswer;
 use list_interface::Settings;
 ghost use Prim.Native.Nat.{_≤_};
-ghost use lib.ListN.{length};
 ghost use Rattle.replay.specs.Lengths.{Fits};
 
 // ---- what is handed in: paths, threshold, recovery, maxima, which slice is short, the column
@@ -119,88 +118,6 @@ fn lengths_lent(told: Lent, short: u32) -> Lent
         row_closings: lent(told.row_closings, 128, short == 19),
         row_edges: lent(told.row_edges, 128, short == 20),
     }
-}
-
-// ---- the call
-
-// The call itself, in slices that hold a pattern throughout.
-fn make_list(
-    a: Settings,
-    l: Lent,
-    reference: &[u8],
-    ends: &[u32],
-    bases: &[u8],
-    qualities: &[u8],
-    column: &[f64],
-    row_scores: &mut [f64],
-    row_closings: &mut [u32],
-    row_edges: &mut [u32],
-    out_bases: &mut [u8],
-    sequences: &mut [u32],
-    places: &mut [u32],
-    w_vertices: &mut [u32],
-    w_edges: &mut [u32],
-    w_index: &mut [u32],
-    w_nodes: &mut [u32],
-    w_targets: &mut [u32],
-    w_paths: &mut [u32],
-    w_scores: &mut [f64],
-    w_active: &mut [u16],
-    w_queue: &mut [u32],
-    w_closed: &mut [u32],
-    w_order: &mut [u32],
-    w_marks: &mut [u32],
-    w_walks: &mut [u32],
-) -> ListAnswer
-    requires { ⌜ Fits l (length (now «row_scores»)) (length (now «row_closings»)) (length (now «row_edges»)) (length (now «out_bases»)) (length (now sequences)) (length (now places)) (length (now «w_vertices»)) (length (now «w_edges»)) (length (now «w_index»)) (length (now «w_nodes»)) (length (now «w_targets»)) (length (now «w_paths»)) (length (now «w_scores»)) (length (now «w_active»)) (length (now «w_queue»)) (length (now «w_closed»)) (length (now «w_order»)) (length (now «w_marks»)) (length (now «w_walks»)) ⌝ }
-{
-    let n_row_scores = l.row_scores;
-    let n_row_closings = l.row_closings;
-    let n_row_edges = l.row_edges;
-    let n_bases = l.bases;
-    let n_sequences = l.sequences;
-    let n_places = l.places;
-    let n_vertices = l.vertices;
-    let n_edges = l.edges;
-    let n_index = l.index;
-    let n_nodes = l.nodes;
-    let n_targets = l.targets;
-    let n_paths = l.paths;
-    let n_scores = l.scores;
-    let n_active = l.active;
-    let n_queue = l.queue;
-    let n_closed = l.closed;
-    let n_order = l.order;
-    let n_marks = l.marks;
-    let n_walks = l.walks;
-    list_columns(
-        a,
-        l.rows,
-        reference,
-        ends,
-        bases,
-        qualities,
-        column,
-        &mut row_scores[..n_row_scores],
-        &mut row_closings[..n_row_closings],
-        &mut row_edges[..n_row_edges],
-        &mut out_bases[..n_bases],
-        &mut sequences[..n_sequences],
-        &mut places[..n_places],
-        &mut w_vertices[..n_vertices],
-        &mut w_edges[..n_edges],
-        &mut w_index[..n_index],
-        &mut w_nodes[..n_nodes],
-        &mut w_targets[..n_targets],
-        &mut w_paths[..n_paths],
-        &mut w_scores[..n_scores],
-        &mut w_active[..n_active],
-        &mut w_queue[..n_queue],
-        &mut w_closed[..n_closed],
-        &mut w_order[..n_order],
-        &mut w_marks[..n_marks],
-        &mut w_walks[..n_walks],
-    )
 }
 
 // ---- the answer: refusal, paths, pushes, longest waiting list, rows
@@ -367,33 +284,53 @@ fn list_agrees(
     let mut w_order = [LENT; 8192];
     let mut w_marks = [LENT; 8192];
     let mut w_walks = [LENT; 131072];
-    let answer = make_list(
+    let l = lengths_lent(lengths, short);
+    let n_row_scores = l.row_scores;
+    let n_row_closings = l.row_closings;
+    let n_row_edges = l.row_edges;
+    let n_bases = l.bases;
+    let n_sequences = l.sequences;
+    let n_places = l.places;
+    let n_vertices = l.vertices;
+    let n_edges = l.edges;
+    let n_index = l.index;
+    let n_nodes = l.nodes;
+    let n_targets = l.targets;
+    let n_paths = l.paths;
+    let n_scores = l.scores;
+    let n_active = l.active;
+    let n_queue = l.queue;
+    let n_closed = l.closed;
+    let n_order = l.order;
+    let n_marks = l.marks;
+    let n_walks = l.walks;
+    let answer = list_columns(
         a,
-        lengths_lent(lengths, short),
+        l.rows,
         reference,
         ends,
         bases,
         qualities,
         column,
-        &mut row_scores,
-        &mut row_closings,
-        &mut row_edges,
-        &mut out_bases,
-        &mut sequences,
-        &mut places,
-        &mut w_vertices,
-        &mut w_edges,
-        &mut w_index,
-        &mut w_nodes,
-        &mut w_targets,
-        &mut w_paths,
-        &mut w_scores,
-        &mut w_active,
-        &mut w_queue,
-        &mut w_closed,
-        &mut w_order,
-        &mut w_marks,
-        &mut w_walks,
+        &mut row_scores[..n_row_scores],
+        &mut row_closings[..n_row_closings],
+        &mut row_edges[..n_row_edges],
+        &mut out_bases[..n_bases],
+        &mut sequences[..n_sequences],
+        &mut places[..n_places],
+        &mut w_vertices[..n_vertices],
+        &mut w_edges[..n_edges],
+        &mut w_index[..n_index],
+        &mut w_nodes[..n_nodes],
+        &mut w_targets[..n_targets],
+        &mut w_paths[..n_paths],
+        &mut w_scores[..n_scores],
+        &mut w_active[..n_active],
+        &mut w_queue[..n_queue],
+        &mut w_closed[..n_closed],
+        &mut w_order[..n_order],
+        &mut w_marks[..n_marks],
+        &mut w_walks[..n_walks],
     );
     if !list_answered(told, answer) {
         return false;
