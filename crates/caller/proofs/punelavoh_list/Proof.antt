@@ -59,16 +59,17 @@ use Rattle.list_work.specs.Works.{inputFor}
 use Rattle.list_work.specs.Outcome.{outputsOf, tablesOf as workspaceOf}
 use Rattle.list_call.specs.Within.{Called}
 use Rattle.path_rows.specs.Rows.{Filled}
-use Rattle.caller.specs.Records.{columnsTold, ColumnsFit, Cleared, ListCalled}
+use Rattle.row_counts.specs.Told.{columnsTold}
+use Rattle.caller.specs.Records.{ColumnsFit, Cleared, ListCalled}
 use Rattle.caller.specs.Recorded.{rows-asked, columns-asked, list-called}
 use Rattle.list_call.proofs.list_columns as list-columns
 use Rattle.list_call.proofs.list_columns.Symbol as list-columns-def
 use Rattle.list_call.proofs.list_columns.Symbol.{name as #caller·list-columns}
 use Rattle.list_call.proofs.list_columns.Met as list-columns-thm
-use Rattle.caller.proofs.rows_told as rows-told
-use Rattle.caller.proofs.rows_told.Symbol as rows-told-def
-use Rattle.caller.proofs.rows_told.Symbol.{name as #caller·rows-told}
-use Rattle.caller.proofs.rows_told.Met as rows-told-thm
+use Rattle.row_counts.proofs.rows_told as rows-told
+use Rattle.row_counts.proofs.rows_told.Symbol as rows-told-def
+use Rattle.row_counts.proofs.rows_told.Symbol.{name as #caller·rows-told}
+use Rattle.row_counts.proofs.rows_told.Met as rows-told-thm
 use Rattle.path_rows.proofs.write_rows as write-rows
 use Rattle.path_rows.proofs.write_rows.Symbol as write-rows-def
 use Rattle.path_rows.proofs.write_rows.Symbol.{name as #caller·write-rows}
@@ -1421,6 +1422,6 @@ punelavoh-list-spec 𝓤 H 𝓜 𝓖 𝓡 =
     (tables 𝓤 H 𝓜 𝓡 code.env .C) (tables 𝓤 H 𝓜 𝓡 code.env .Λ) #caller·punelavoh-list code.function (code.unfolded 𝓤 H 𝓜 𝓡)
     (meets 𝓤 H (𝓖 .A) (givenOf 𝓤 H 𝓜 𝓖) (𝓜 .mem) (𝓡 .run) (tablesOf 𝓤 H 𝓜 (tables 𝓤 H 𝓜 𝓡 code.env))
     (cited 𝓤 H (tripleOf 𝓤 H (𝓖 .A) list-columns.signature (list-columns.spec 𝓤 H (𝓖 .A) (𝓜 .mem) (𝓡 .run))) 𝓜 𝓡 code.env #caller·list-columns list-columns-def.routine code.calls-list-call·list-columns (list-columns-thm.met 𝓤 H 𝓜 𝓖 𝓡))
-    (cited 𝓤 H (tripleOf 𝓤 H (𝓖 .A) rows-told.signature (rows-told.spec 𝓤 H (𝓖 .A) (𝓜 .mem) (𝓡 .run))) 𝓜 𝓡 code.env #caller·rows-told rows-told-def.routine code.calls-caller·rows-told (rows-told-thm.met 𝓤 H 𝓜 𝓖 𝓡))
+    (cited 𝓤 H (tripleOf 𝓤 H (𝓖 .A) rows-told.signature (rows-told.spec 𝓤 H (𝓖 .A) (𝓜 .mem) (𝓡 .run))) 𝓜 𝓡 code.env #caller·rows-told rows-told-def.routine code.calls-row-counts·rows-told (rows-told-thm.met 𝓤 H 𝓜 𝓖 𝓡))
     (cited 𝓤 H (tripleOf 𝓤 H (𝓖 .A) write-rows.signature (write-rows.spec 𝓤 H (𝓖 .A) (𝓜 .mem) (𝓡 .run))) 𝓜 𝓡 code.env #caller·write-rows write-rows-def.routine code.calls-path-rows·write-rows (write-rows-thm.met 𝓤 H 𝓜 𝓖 𝓡))
     (cited 𝓤 H (tripleOf 𝓤 H (𝓖 .A) clear-columns.signature (clear-columns.spec 𝓤 H (𝓖 .A) (𝓜 .mem) (𝓡 .run))) 𝓜 𝓡 code.env #caller·clear-columns clear-columns-def.routine code.calls-caller·clear-columns (clear-columns-thm.met 𝓤 H 𝓜 𝓖 𝓡)))
