@@ -1,20 +1,17 @@
 -- What the call for the list leaves in columns, once it is written to the records and the columns are zero. Assumes nothing.
 use mathlib.Core.Path.{_≡_, refl, sym, ap, subst, _∙_}
 use mathlib.Core.Logic.{inl, inr}
-use mathlib.Core.Bool.{Bool, true, false, _&&_}
+use mathlib.Core.Bool.{Bool, true, false}
 use mathlib.Core.List.{List, [], _∷_, _++_, map}
 use Prim.Native.Nat.{ℕ, zero, suc, _+_, _-_, _<_, _≤_}
 use native.Mathlib.Omega.{arith}
-use lib.Dec.{leb}
 use lib.ListN.{length, getD, drop, replicate, length-append, length-drop, length-map, length-replicate, List·getD-append}
 use lib.Seq.{ext-getD, drop-append-add, drop-drop}
 use lib.Ieee.{Float, nan}
-use borrow.Author.Tests.{le-leb}
-use Rattle.laws.specs.Numbers.{within}
 use Rattle.laws.specs.ListLaws.{clash, All, nil, cons}
 use Rattle.laws.specs.Rows.{rows, length-rows, getD-rows}
 use Rattle.definition.specs.Limits.{Input, sampleRules, listRules}
-use Rattle.definition.specs.Refusal.{firstBroken}
+use Rattle.definition.specs.Refusal.{keepsWorkspace, firstBroken}
 use Rattle.definition.specs.Score.{Scoring}
 use Rattle.definition.specs.Search.{Closed}
 use Rattle.definition.specs.Building.{Built}
@@ -25,17 +22,19 @@ use Rattle.definition.proofs.Found.{Listing, all-listed}
 use Rattle.definition.proofs.Bounds.{bounded-listing}
 use Rattle.definition.proofs.Column.{column-keeps}
 use Rattle.definition.proofs.Checks.{accepted, some-pushes}
-use Rattle.limits.specs.Rules.{none-broken, low-broken}
+use Rattle.definition.proofs.Late.{accepted-zero, list-keeps}
+use Rattle.limits.specs.Rules.{none-broken}
 use Rattle.limits.specs.Workspaces.{rowColumns}
 use Rattle.threading_tree.specs.Front.{front, written-front}
 use Rattle.list_interface.specs.declared.ListAnswer.{ListAnswer}
 use Rattle.list_work.specs.Outcome.{Outputs, outputsOf, Tables, summary, writtenList, outputsAfter, Listed}
 use Rattle.list_call.specs.Outcome.{tablesAfter, floatZero}
-use Rattle.list_call.specs.Lent.{toldOf, lentOf, Long, long-of}
+use Rattle.list_lent.specs.Lent.{toldOf, lentOf, Long, long-of}
 use Rattle.list_call.specs.Within.{lengthsOf, Called}
 use Rattle.path_rows.specs.declared.PathRow.{PathRow}
 use Rattle.path_rows.specs.Rows.{told, rowAt, finished, finished-is, Filled}
-use Rattle.caller.specs.Records.{columnsTold, ColumnsFit, Cleared, slicesOf, CalledFor, ListCalled}
+use Rattle.row_counts.specs.Told.{columnsTold}
+use Rattle.caller.specs.Records.{ColumnsFit, Cleared, slicesOf, CalledFor, ListCalled}
 
 -- ---- lists written over from the front
 
@@ -90,10 +89,10 @@ map-at f (x ∷ xs) (suc i) d e l = map-at f xs i d e (omega arith)
 
 -- ---- what an answer promises
 
--- no more rows than asked, none marked as the reference; and where no rule of 1 to 7 is broken each slice is as long as told
+-- no more rows than asked, none marked as the reference; and where the workspace is not kept each slice is as long as told
 pub record Sound (i : Input) (lent : ℕ) (o : Outputs) (a : Answer Float) : Type 0 where
   pub few : (rs : List (Row Float)) (p q : ℕ) → a ≡ listed rs p q → (length rs ≤ i .asked) × All (λ r. r .isRef ≡ false) rs
-  pub long : within 1 7 (summary a .refusal) ≡ false → (i .asked ≤ lent) × (i .asked ≤ length (o .scores)) × (i .asked ≤ length (o .closings)) × (i .asked ≤ length (o .edges))
+  pub long : keepsWorkspace (summary a .refusal) ≡ false → (i .asked ≤ lent) × (i .asked ≤ length (o .scores)) × (i .asked ≤ length (o .closings)) × (i .asked ≤ length (o .edges))
 
 -- ---- the rows of the columns
 
@@ -130,11 +129,11 @@ module _ (rs : List (Row Float)) (ss : List Float) (cs es : List ℕ) (flags : A
 
 -- ---- what the writer of the rows and the clearing ask
 
-told-fits : (n asked k : ℕ) → (within 1 7 n ≡ false → asked ≤ k) → columnsTold n asked ≤ k
+told-fits : (n asked k : ℕ) → (keepsWorkspace n ≡ false → asked ≤ k) → columnsTold n asked ≤ k
 unfolding columnsTold
-told-fits n asked k h = go (within 1 7 n) refl
+told-fits n asked k h = go (keepsWorkspace n) refl
   where
-    go : (b : Bool) → within 1 7 n ≡ b → columnsTold n asked ≤ k
+    go : (b : Bool) → keepsWorkspace n ≡ b → columnsTold n asked ≤ k
     go true e = rw (e, columnsTold) (omega arith)
     go false e = rw (e, columnsTold) (h e)
 
@@ -146,7 +145,7 @@ module _ (i : Input) (lent : ℕ) (r : ListAnswer) (o o′ : Outputs) where
   rows-fit (listed rs p q) s l n e =
       let z : n ≡ length rs = e ∙ l .paths in
       let f = s .few rs p q refl .0 in
-      let g = s .long refl .0 in
+      let g = s .long accepted-zero .0 in
       let a : o′ ≡ writtenList i rs o = l .outputs in
       (omega arith, column (λ t. t .score) (o .scores) (o′ .scores) n z (ap (λ (x : Outputs). x .scores) a), column (λ t. t .closing) (o .closings) (o′ .closings) n z (ap (λ (x : Outputs). x .closings) a), column (λ t. t .edges) (o .edges) (o′ .edges) n z (ap (λ (x : Outputs). x .edges) a))
     where
@@ -170,7 +169,7 @@ module _ (i : Input) (lent : ℕ) (r : ListAnswer) (o o′ : Outputs) where
 
   columns-fit : (a : Answer Float) → Sound i lent o a → Listed i a r o o′ → ColumnsFit (columnsTold (r .refusal) (i .asked)) (o′ .scores) (o′ .closings) (o′ .edges)
   columns-fit a s l =
-      let g : within 1 7 (r .refusal) ≡ false → (i .asked ≤ lent) × (i .asked ≤ length (o .scores)) × (i .asked ≤ length (o .closings)) × (i .asked ≤ length (o .edges)) = λ e. s .long (ap (λ (k : ℕ). within 1 7 k) (sym (l .refusal)) ∙ e) in
+      let g : keepsWorkspace (r .refusal) ≡ false → (i .asked ≤ lent) × (i .asked ≤ length (o .scores)) × (i .asked ≤ length (o .closings)) × (i .asked ≤ length (o .edges)) = λ e. s .long (ap keepsWorkspace (sym (l .refusal)) ∙ e) in
       let k = no-shorter a l in
       record {
         scores = told-fits (r .refusal) (i .asked) (length (o′ .scores)) (λ e. let a = g e .1 in let b = k .0 in omega arith);
@@ -184,15 +183,15 @@ module _ (i : Input) (lent : ℕ) (r : ListAnswer) (o o′ : Outputs) where
 module _ {A : Type 0} (z : A) (asked : ℕ) (old : List A) where
   after-refusal : (n : ℕ) → writtenAt 0 (replicate (columnsTold n asked) z) old ≡ workspaceAfter z n (rowColumns asked) old
   unfolding columnsTold workspaceAfter
-  after-refusal n = go (within 1 7 n) refl
+  after-refusal n = go (keepsWorkspace n) refl
     where
-      go : (b : Bool) → within 1 7 n ≡ b → writtenAt 0 (replicate (columnsTold n asked) z) old ≡ workspaceAfter z n (rowColumns asked) old
+      go : (b : Bool) → keepsWorkspace n ≡ b → writtenAt 0 (replicate (columnsTold n asked) z) old ≡ workspaceAfter z n (rowColumns asked) old
       go true e = rw (e, columnsTold, workspaceAfter) (written-none old)
       go false e = rw (e, columnsTold, workspaceAfter) refl
 
   after-list : (xs : List A) → length xs ≤ asked → writtenAt 0 (replicate (columnsTold 0 asked) z) (writtenAt 0 xs old) ≡ workspaceAfter z 0 (rowColumns asked) old
   unfolding columnsTold workspaceAfter
-  after-list xs l = written-over (replicate asked z) xs old (let a = length-replicate asked z in omega arith)
+  after-list xs l = rw (accepted-zero, columnsTold, workspaceAfter) (written-over (replicate asked z) xs old (let a = length-replicate asked z in omega arith))
 
 slices-eq : (a b : ListSlices) → a .rows ≡ b .rows → a .bases ≡ b .bases → a .sequences ≡ b .sequences → a .places ≡ b .places → a ≡ b
 slices-eq a b p q r s = λ j. record { rows = p j; bases = q j; sequences = r j; places = s j }
@@ -285,11 +284,7 @@ module _ (i : Input) (lent : ℕ) (o : Outputs) (w : Tables) where
       (none-broken (listRules i (toldOf i) (lentOf (lengthsOf lent o w))) (omega arith, (omega arith, (omega arith, (omega arith, (omega arith, (omega arith, (omega arith, tt))))))) e
       .1 .1 .1 .1 .1 .1 .0)
 
-  rules-low : firstBroken (listRules i (toldOf i) (lentOf (lengthsOf lent o w))) ≤ 7
-  unfolding listRules sampleRules
-  rules-low = low-broken (listRules i (toldOf i) (lentOf (lengthsOf lent o w))) (omega arith, (omega arith, (omega arith, (omega arith, (omega arith, (omega arith, (omega arith, tt)))))))
-
-  long : within 1 7 (summary (answered i lent o w) .refusal) ≡ false
+  long : keepsWorkspace (summary (answered i lent o w) .refusal) ≡ false
       → (i .asked ≤ lent) × (i .asked ≤ length (o .scores)) × (i .asked ≤ length (o .closings)) × (i .asked ≤ length (o .edges))
   unfolding answer afterChecks summary
   long h = go (firstBroken (listRules i (toldOf i) (lentOf (lengthsOf lent o w)))) refl
@@ -298,11 +293,8 @@ module _ (i : Input) (lent : ℕ) (o : Outputs) (w : Tables) where
           → (i .asked ≤ lent) × (i .asked ≤ length (o .scores)) × (i .asked ≤ length (o .closings)) × (i .asked ≤ length (o .edges))
       go zero e = let l = long-told e in (l .rows, l .row-scores, l .row-closings, l .row-edges)
       go (suc n) e =
-          let z : within 1 7 (suc n) ≡ false = rw e at h in
-          let m : suc n ≤ 7 = (let q = rules-low in omega arith) in
-          let a : leb 1 (suc n) ≡ true = le-leb 1 (suc n) (omega arith) in
-          let b : leb (suc n) 7 ≡ true = le-leb (suc n) 7 m in
-          let y : within 1 7 (suc n) ≡ true = λ j. a j && b j in
+          let z : keepsWorkspace (suc n) ≡ false = rw e at h in
+          let y : keepsWorkspace (suc n) ≡ true = ap keepsWorkspace (sym e) ∙ list-keeps i (toldOf i) (lentOf (lengthsOf lent o w)) (omega arith) in
           clash (sym y ∙ z)
 
   sound : Sound i lent o (answered i lent o w)

@@ -1,14 +1,9 @@
 -- The call for the list with its rows in a lent slice of records. Assumes nothing.
-use mathlib.Core.Path.{_≡_, sym, ap, _∙_}
-use mathlib.Core.Bool.{true, false, and-false}
-use mathlib.Core.Logic.{_⊎_, inl, inr}
+use mathlib.Core.Path.{_≡_, ap, _∙_}
 use mathlib.Core.List.{List, map}
-use Prim.Native.Nat.{ℕ, _<_, _≤_}
-use lib.Dec.{leb}
+use Prim.Native.Nat.{ℕ, _≤_}
 use lib.ListN.{length, replicate}
-use borrow.Author.Tests.{le-leb, lt-leb}
 use lib.Ieee.{Float}
-use Rattle.laws.specs.Numbers.{within}
 use Rattle.definition.specs.Limits.{Input}
 use Rattle.definition.specs.Calls.{writtenAt, workspaceAfter, ListSlices, ListOutcome, listCall}
 use Rattle.limits.specs.Workspaces.{rowColumns}
@@ -16,31 +11,10 @@ use Rattle.list_interface.specs.declared.ListAnswer.{ListAnswer}
 use Rattle.list_work.specs.Outcome.{Outputs, Tables}
 use Rattle.list_call.specs.Outcome.{tablesAfter, floatZero}
 use Rattle.limits.specs.Lengths.{listWorkspaceTold}
-use Rattle.list_call.specs.Lent.{workspaceLent}
+use Rattle.list_lent.specs.Lent.{workspaceLent}
 use Rattle.list_call.specs.Within.{lengthsOf}
 use Rattle.path_rows.specs.declared.PathRow.{PathRow}
 use Rattle.path_rows.specs.Rows.{told}
-
--- how much of each column is zero afterwards
-unfoldable pub columnsTold : ℕ → ℕ → ℕ
-columnsTold number asked = elim (within 1 7 number) [ true ↦ 0 | false ↦ rowColumns asked ]
-
--- where no rule or a later one is broken, and where one of 1 to 7 is
-within-not : (n : ℕ) → (n < 1) ⊎ (7 < n) → within 1 7 n ≡ false
-within-not n (inl l) = rw (lt-leb 1 n l)
-within-not n (inr l) = rw (lt-leb n 7 l) (and-false (leb 1 n))
-
-pub told-none : (n asked : ℕ) → n < 1 → asked ≡ columnsTold n asked
-unfolding columnsTold
-told-none n asked l = sym (rw (within-not n (inl l), columnsTold))
-
-pub told-late : (n asked : ℕ) → 7 < n → asked ≡ columnsTold n asked
-unfolding columnsTold
-told-late n asked l = sym (rw (within-not n (inr l), columnsTold))
-
-pub told-early : (n asked : ℕ) → 1 ≤ n → n ≤ 7 → 0 ≡ columnsTold n asked
-unfolding columnsTold
-told-early n asked l m = sym (rw (le-leb 1 n l, le-leb n 7 m, columnsTold))
 
 pub record ColumnsFit (n : ℕ) (ss : List Float) (cs es : List ℕ) : Type 0 where
   pub scores : n ≤ length ss

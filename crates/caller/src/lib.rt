@@ -10,6 +10,8 @@ use list_interface::ListAnswer;
 use list_interface::Settings;
 use origins::OriginAnswer;
 use path_rows::PathRow;
+use row_counts::columns_told;
+use row_counts::rows_told;
 ghost use mathlib.Core.Path.{_≡_};
 ghost use Rattle.definition.specs.Calls.{originCall};
 ghost use Rattle.limits.specs.Handed.{sampleOf, graphMaximaOf, searchMaximaOf};
@@ -18,29 +20,10 @@ ghost use Rattle.origins.specs.Parts.{origin, Names};
 ghost use Rattle.graph_call.specs.Outcome.{Graphed};
 ghost use Rattle.list_work.specs.Works.{inputFor};
 ghost use Rattle.list_work.specs.Outcome.{outputsOf, tablesOf};
-ghost use Rattle.caller.specs.Records.{columnsTold, ColumnsFit, Cleared, ListCalled};
+ghost use Rattle.row_counts.specs.Told.{columnsTold};
+ghost use Rattle.caller.specs.Records.{ColumnsFit, Cleared, ListCalled};
 
 // ---- the call for the list; its rows are made in columns, which are workspace
-
-// How many rows the columns hold.
-fn rows_told(r: ListAnswer) -> usize
-    ensures { λ n. ⌜ n ≡ r .paths ⌝ }
-{
-    r.paths as usize
-}
-
-// How much of each column is to be zero: nothing after a refusal of 1 to 7, and else the length told.
-fn columns_told(a: Settings, r: ListAnswer) -> usize
-    ensures { λ n. ⌜ n ≡ columnsTold (r .refusal) (a .asked) ⌝ }
-{
-    if r.refusal < 1 {
-        return a.asked as usize;
-    }
-    if r.refusal > 7 {
-        return a.asked as usize;
-    }
-    0
-}
 
 // What is told of the columns becomes 0.
 fn clear_columns(

@@ -1,5 +1,6 @@
--- What the build and the search refuse has a number of 8 or more, no refusal has the number 0, and 7 is not answered where what is lent is as long as told.
-use mathlib.Core.Path.{_≡_, refl, sym, _∙_}
+-- "Workspace after": unchanged where a rule is broken, zero where the build or the search refuses and after acceptance. No refusal has the number 0, and 7 is
+-- not answered where what is lent is as long as told.
+use mathlib.Core.Path.{_≡_, refl, sym, ap, subst, _∙_}
 use mathlib.Core.Logic.{_⊎_, inl, inr}
 use mathlib.Core.Bool.{Bool, true, false, not, cond, _&&_, _||_}
 use mathlib.Core.List.{List, [], _∷_, _++_}
@@ -11,7 +12,7 @@ use lib.ListN.{length, take}
 use lib.Ieee.{Float}
 use Rattle.laws.specs.ListLaws.{clash}
 use Rattle.laws.specs.Lists.{keep, any, findLast, position, isEmpty}
-use Rattle.definition.specs.Refusal.{Result, ok, refused, andThen, each, Rule, firstBroken}
+use Rattle.definition.specs.Refusal.{returned, keepsWorkspace, Result, ok, refused, andThen, each, Rule, firstBroken}
 use Rattle.definition.specs.Score.{Scoring, columnScoring}
 use Rattle.definition.specs.Limits.{Sample, GraphMaxima, Input, longEnough, graphTold, sampleRules, graphRules, listRules}
 use Rattle.definition.specs.Threading.{Ends, eqEnds, Edge, threaded, withSymbolic, leaving}
@@ -21,24 +22,53 @@ use Rattle.definition.specs.Search.{SearchInput, Path, Closed, State, Ma
 use Rattle.definition.specs.Listing.{Answer, refusal, listed, searchInput, listOf, answerOf, afterBuild, afterChecks, answer}
 use Rattle.definition.specs.Calls.{graphOf, afterGraphChecks, graphCall}
 
+-- a refusal's number, after which the workspace is zero
+abbrev LateNumber : ℕ → Type 0
+LateNumber n = (1 ≤ n) × (keepsWorkspace n ≡ false)
+
 abbrev Late : {A : Type 0} → Result A → Type 0
 Late (ok a) = Unit {0}
-Late (refused n) = 8 ≤ n
+Late (refused n) = LateNumber n
 
 abbrev LateMade : {S : Type 0} → Made S → Type 0
 LateMade atEnd = Unit {0}
-LateMade (broken n) = 8 ≤ n
+LateMade (broken n) = LateNumber n
 LateMade (made s ps) = Unit {0}
 
 abbrev LateTurn : {S : Type 0} → Turn S → Type 0
 LateTurn (more s) = Unit {0}
 LateTurn (ended s) = Unit {0}
-LateTurn (failed n) = 8 ≤ n
+LateTurn (failed n) = LateNumber n
 LateTurn (full s ps) = Unit {0}
 
 abbrev pub LateAnswer : {S : Type 0} → Answer S → Type 0
-LateAnswer (refusal n) = 8 ≤ n
+LateAnswer (refusal n) = LateNumber n
 LateAnswer (listed rs pushes longest) = Unit {0}
+
+-- the numbers of the build and of the search, and 0, which tells of no refusal
+late-8 : LateNumber 8
+unfolding keepsWorkspace returned
+late-8 = (omega arith, refl)
+
+late-9 : LateNumber 9
+unfolding keepsWorkspace returned
+late-9 = (omega arith, refl)
+
+late-10 : LateNumber 10
+unfolding keepsWorkspace returned
+late-10 = (omega arith, refl)
+
+late-11 : LateNumber 11
+unfolding keepsWorkspace returned
+late-11 = (omega arith, refl)
+
+late-12 : LateNumber 12
+unfolding keepsWorkspace returned
+late-12 = (omega arith, refl)
+
+pub accepted-zero : keepsWorkspace 0 ≡ false
+unfolding keepsWorkspace returned
+accepted-zero = refl
 
 then-late : {A B : Type 0} (r : Result A) (g : A → Result B) → Late r → ((a : A) → Late (g a)) → Late (andThen r g)
 then-late (ok a) g l h = h a
@@ -63,14 +93,14 @@ module _ {S : Type 0} (𝓢 : Scoring S) (f : SearchInput) where
     where
       go : (b : Bool) → leb (length (p .edges ++ c ++ e ∷ [])) (f .pathEdges) ≡ b → Late (lengthen f p c e x g r)
       go true u = rw (u, lengthen) tt
-      go false u = rw (u, lengthen) (omega arith)
+      go false u = rw (u, lengthen) late-11
 
   extend-late : (p : Path S) (c : List Ends) (o : Offer) → Late (extend 𝓢 f p c o)
   unfolding extend
   extend-late p c o = go (𝓢 .penalty (o .count) (o .outOf)) refl
     where
       go : (d : Option S) → 𝓢 .penalty (o .count) (o .outOf) ≡ d → Late (extend 𝓢 f p c o)
-      go none u = rw (u, extend) (omega arith)
+      go none u = rw (u, extend) late-10
       go (some d) u = rw (u, extend) (lengthen-late p c (o .ends) (𝓢 .plus (p .score) d) (o .guided) false)
 
   extensions-late : (p : Path S) (c : List Ends) (v : ℕ) (es : List Edge) → Late (extensions 𝓢 f p c v es)
@@ -98,7 +128,7 @@ module _ {S : Type 0} (𝓢 : Scoring S) (f : SearchInput) where
           join : (x : Bool) → (hasBranch b && not (any (eqb v) (p .visited))) ≡ x → (y : Bool) → ltb (length (p .active)) (f .active) ≡ y → Late (joinTree f v p)
           join false w y z = rw (u, joinTree, w) tt
           join true w true z = rw (u, joinTree, w, z) tt
-          join true w false z = rw (u, joinTree, w, z) (omega arith)
+          join true w false z = rw (u, joinTree, w, z) late-11
 
   close-late : (v : ℕ) (p : Path S) (c : List Ends) (s : State S) → Late (closeAt f v p c s)
   unfolding closeAt
@@ -109,7 +139,7 @@ module _ {S : Type 0} (𝓢 : Scoring S) (f : SearchInput) where
       go false a y b z d = rw (a, closeAt) tt
       go true a false b z d = rw (a, closeAt, b) tt
       go true a true b true d = rw (a, closeAt, b, d) tt
-      go true a true b false d = rw (a, closeAt, b, d) (omega arith)
+      go true a true b false d = rw (a, closeAt, b, d) late-11
 
   made-late : (s : State S) (r : Result (List (Path S))) → Late r → LateMade (madeOf s r)
   unfolding madeOf
@@ -154,7 +184,7 @@ module _ {S : Type 0} (𝓢 : Scoring S) (f : SearchInput) where
             where
               fits : (x : Bool) → leb (length (take (suc (position (eqEnds d) (b .edges))) (b .edges) ++ e ∷ [])) (f .pathEdges) ≡ x → LateMade (recover 𝓢 f e s)
               fits true z = rw (u, recover, w, z) tt
-              fits false z = rw (u, recover, w, z) (omega arith)
+              fits false z = rw (u, recover, w, z) late-11
 
   -- ---- turns
 
@@ -213,9 +243,18 @@ built-late s m = go (leb (suc (length (threaded s .kmers))) (m .vertices) && leb
   where
     go : (a : Bool) → (leb (suc (length (threaded s .kmers))) (m .vertices) && leb (length (withSymbolic s (threaded s))) (m .edges)) ≡ a
         → (b : Bool) → leb (length (nodes (evidence s (threaded s)))) (m .nodes) ≡ b → Late (built s m)
-    go false p b q = rw (p, builtOf) (omega arith)
-    go true p false q = rw (p, q, builtOf) (omega arith)
+    go false p b q = rw (p, builtOf) late-8
+    go true p false q = rw (p, q, builtOf) late-9
     go true p true q = rw (p, q, builtOf) tt
+
+-- after the call for edges and trees, once no rule is broken, the workspace is zero
+pub graph-late : (s : Sample) (m : GraphMaxima) (es ns : List ℕ) → keepsWorkspace (graphOf (built s m) es ns .refusal) ≡ false
+unfolding graphOf
+graph-late s m es ns = go (built s m) (built-late s m)
+  where
+    go : (r : Result Built) → Late r → keepsWorkspace (graphOf r es ns .refusal) ≡ false
+    go (ok b) l = accepted-zero
+    go (refused n) l = l .1
 
 module _ {S : Type 0} (𝓢 : Scoring S) where
   answer-late : (b : Built) (t : Turn S) → LateTurn t → LateAnswer (answerOf 𝓢 b t)
@@ -223,7 +262,7 @@ module _ {S : Type 0} (𝓢 : Scoring S) where
   answer-late b (more s) l = tt
   answer-late b (ended s) l = tt
   answer-late b (failed n) l = l
-  answer-late b (full s ps) l = omega arith
+  answer-late b (full s ps) l = late-12
 
   after-late : (i : Input) (r : Result Built) → Late r → LateAnswer (afterBuild 𝓢 i r)
   unfolding afterBuild
@@ -235,21 +274,21 @@ module _ {S : Type 0} (𝓢 : Scoring S) where
       go false u =
           rw (u, afterBuild) (answer-late b (search 𝓢 (searchInput i b) (i .asked) (i .searchMaxima .pushes) (i .recovery)) (search-late 𝓢 (searchInput i b) (i .asked) (i .searchMaxima .pushes) (i .recovery)))
 
--- what is answered once nothing of 1 to 7 is broken
+-- what is answered once no rule is broken
 pub found-late : (i : Input) → LateAnswer (afterBuild (columnScoring (i .column)) i (built (i .sample) (i .graphMaxima)))
 found-late i = after-late (columnScoring (i .column)) i (built (i .sample) (i .graphMaxima)) (built-late (i .sample) (i .graphMaxima))
 
-late-number : (a : Answer Float) (n : ℕ) → LateAnswer a → a ≡ refusal n → 8 ≤ n
-late-number (refusal m) n l e = let z : m ≡ n = cc in omega arith
+late-number : (a : Answer Float) (n : ℕ) → LateAnswer a → a ≡ refusal n → LateNumber n
+late-number (refusal m) n l e = let z : m ≡ n = cc in subst LateNumber z l
 late-number (listed rs p q) n l e = let z : _≡_ {A = ℕ} 0 1 = cc in absurd (omega arith)
 
 -- a refusal is that of the first rule broken, or comes after the rules
 refused-by : (i : Input) (told lent : List ℕ) (n : ℕ) → answer i told lent ≡ refusal n
-    → ((1 ≤ n) × (firstBroken (listRules i told lent) ≡ n)) ⊎ (8 ≤ n)
+    → ((1 ≤ n) × (firstBroken (listRules i told lent) ≡ n)) ⊎ LateNumber n
 unfolding answer afterChecks
 refused-by i told lent n t = go (firstBroken (listRules i told lent)) refl
   where
-    go : (b : ℕ) → firstBroken (listRules i told lent) ≡ b → ((1 ≤ n) × (firstBroken (listRules i told lent) ≡ n)) ⊎ (8 ≤ n)
+    go : (b : ℕ) → firstBroken (listRules i told lent) ≡ b → ((1 ≤ n) × (firstBroken (listRules i told lent) ≡ n)) ⊎ LateNumber n
     go zero e = inr (late-number (afterBuild (columnScoring (i .column)) i (built (i .sample) (i .graphMaxima))) n (found-late i) (rw (e, afterChecks) at t))
     go (suc b) e = let h : _≡_ {A = Answer Float} (refusal (suc b)) (refusal n) = rw (e, afterChecks) at t in let z : suc b ≡ n = cc in inl (omega arith, e ∙ z)
 
@@ -257,9 +296,36 @@ refused-by i told lent n t = go (firstBroken (listRules i told lent)) refl
 pub no-zero : (i : Input) (told lent : List ℕ) (n : ℕ) → answer i told lent ≡ refusal n → 1 ≤ n
 no-zero i told lent n t = go (refused-by i told lent n t)
   where
-    go : ((1 ≤ n) × (firstBroken (listRules i told lent) ≡ n)) ⊎ (8 ≤ n) → 1 ≤ n
+    go : ((1 ≤ n) × (firstBroken (listRules i told lent) ≡ n)) ⊎ LateNumber n → 1 ≤ n
     go (inl h) = h .0
-    go (inr h) = omega arith
+    go (inr h) = h .0
+
+-- ---- the rules
+
+-- every rule has a number after which the workspace is unchanged
+abbrev Keeping : List Rule → Type 0
+Keeping [] = Unit {0}
+Keeping (r ∷ rs) = (keepsWorkspace (r .number) ≡ true) × Keeping rs
+
+broken-keeps : (rs : List Rule) → Keeping rs → 1 ≤ firstBroken rs → keepsWorkspace (firstBroken rs) ≡ true
+unfolding firstBroken
+broken-keeps [] k l = absurd (omega arith)
+broken-keeps (r ∷ rs) k l = go (r .holds) refl (broken-keeps rs (k .1))
+  where
+    go : (b : Bool) → r .holds ≡ b → (1 ≤ firstBroken rs → keepsWorkspace (firstBroken rs) ≡ true) → keepsWorkspace (firstBroken (r ∷ rs)) ≡ true
+    go true e ih = rw (e, firstBroken) (ih (rw (e, firstBroken) at l))
+    go false e ih = rw (e, firstBroken) (k .0)
+
+-- a broken rule of the call for the list leaves the workspace unchanged,
+pub list-keeps : (i : Input) (told lent : List ℕ) → 1 ≤ firstBroken (listRules i told lent) → keepsWorkspace (firstBroken (listRules i told lent)) ≡ true
+unfolding listRules sampleRules keepsWorkspace returned
+list-keeps i told lent = broken-keeps (listRules i told lent) (refl, (refl, (refl, (refl, (refl, (refl, (refl, tt)))))))
+
+-- and so does one of the call for edges and trees
+pub graph-keeps : (s : Sample) (m : GraphMaxima) (told lent : List ℕ) → 1 ≤ firstBroken (graphRules s m told lent)
+    → keepsWorkspace (firstBroken (graphRules s m told lent)) ≡ true
+unfolding graphRules sampleRules keepsWorkspace returned
+graph-keeps s m told lent = broken-keeps (graphRules s m told lent) (refl, (refl, (refl, (refl, (refl, (refl, tt))))))
 
 -- ---- 7
 
@@ -282,20 +348,20 @@ other n m l e = absurd (omega arith)
 
 -- 7 is not answered where each lent slice is at least as long as told: by the call for the list,
 pub list-not-7 : (i : Input) (told lent : List ℕ) → longEnough told lent ≡ true → answer i told lent ≡ refusal 7 → ⊥
-unfolding listRules sampleRules
+unfolding listRules sampleRules keepsWorkspace returned
 list-not-7 i told lent l t = go (refused-by i told lent 7 t)
   where
-    go : ((1 ≤ 7) × (firstBroken (listRules i told lent) ≡ 7)) ⊎ (8 ≤ 7) → ⊥
+    go : ((1 ≤ 7) × (firstBroken (listRules i told lent) ≡ 7)) ⊎ LateNumber 7 → ⊥
     go (inl h) =
         kept-first 7 (listRules i told lent) (h .0)
         (other 1 7 (omega arith), (other 2 7 (omega arith), (other 3 7 (omega arith), (other 4 7 (omega arith), (other 5 7 (omega arith), (other 6 7 (omega arith), ((λ e. l), tt)))))))
         (h .1)
-    go (inr h) = omega arith
+    go (inr h) = clash (h .1)
 
 -- and by the call for edges and trees
 pub graph-not-7 : (s : Sample) (m : GraphMaxima) (workspace lent es ns : List ℕ) → longEnough (graphTold m workspace) (length es ∷ length ns ∷ lent) ≡ true
     → graphCall s m workspace lent es ns .refusal ≡ 7 → ⊥
-unfolding graphCall afterGraphChecks graphOf graphRules sampleRules
+unfolding graphCall afterGraphChecks graphOf graphRules sampleRules keepsWorkspace returned
 graph-not-7 s m workspace lent es ns l t = go (firstBroken rules) refl t
   where
     rules : List Rule
@@ -303,7 +369,7 @@ graph-not-7 s m workspace lent es ns l t = go (firstBroken rules) refl t
 
     late : (r : Result Built) → Late r → graphOf r es ns .refusal ≡ 7 → ⊥
     late (ok b) h e = omega arith
-    late (refused n) h e = omega arith
+    late (refused n) h e = clash (sym (ap keepsWorkspace e) ∙ h .1)
 
     go : (b : ℕ) → firstBroken rules ≡ b → graphOf (afterGraphChecks s m b) es ns .refusal ≡ 7 → ⊥
     go zero e h = late (built s m) (built-late s m) h

@@ -5,8 +5,7 @@ use mathlib.Core.Bool.{Bool, true, false, cond}
 use mathlib.Core.List.{List, [], _∷_, _++_, map}
 use lib.ListN.{length, take, drop, replicate}
 use lib.Ieee.{Float}
-use Rattle.laws.specs.Numbers.{within}
-use Rattle.definition.specs.Refusal.{Result, ok, refused, firstBroken}
+use Rattle.definition.specs.Refusal.{Result, ok, refused, keepsWorkspace, firstBroken}
 use Rattle.definition.specs.Limits.{Sample, GraphMaxima, SearchMaxima, Input, originRules, lengthsRules, graphRules, toldEdges, toldNodes, toldBases, toldOrigins, basesStride, graphTold, listTold}
 use Rattle.definition.specs.Threading.{Edge, Origin, supportOf}
 use Rattle.definition.specs.Evidence.{Node, nodes}
@@ -26,10 +25,10 @@ module _ {A : Type 0} where
   writtenRows stride p [] old = old
   writtenRows stride p (x ∷ xs) old = writtenRows stride (p + stride) xs (writtenAt p x old)
 
-  -- "Workspace after": unchanged after 1 to 7. "The workspace is zero after acceptance too; zero covers the length told, and what is beyond is never
-  -- touched."
+  -- "Workspace after", by the number returned: unchanged where the table says so, else z, the zero of its elements. "The workspace is zero after
+  -- acceptance too; zero covers the length told, and what is beyond is never touched."
   unfoldable pub workspaceAfter : A → ℕ → ℕ → List A → List A
-  workspaceAfter nought number told w = elim (within 1 7 number) [ true ↦ w | false ↦ writtenAt 0 (replicate told nought) w ]
+  workspaceAfter z number told w = elim (keepsWorkspace number) [ true ↦ w | false ↦ writtenAt 0 (replicate told z) w ]
 
 -- the rows of all elements, one behind the other
 unfoldable pub flat : {A : Type 0} → (A → List ℕ) → List A → List ℕ

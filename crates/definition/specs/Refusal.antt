@@ -1,7 +1,53 @@
--- A value, or a refusal with its number in the table "What the calls return instead".
+-- The table "What the calls return instead"; and a value, or a refusal with its number there.
 use Prim.Native.Nat.{ℕ}
-use mathlib.Core.Bool.{Bool, true, false}
+use mathlib.Core.Bool.{Bool, true, false, _&&_}
 use mathlib.Core.List.{List, [], _∷_}
+use lib.Dec.{eqb}
+use Rattle.laws.specs.Lists.{any}
+
+-- ---- "What the calls return instead"
+
+-- "Workspace after"
+pub data After : Type 0 where
+  unchanged : After
+  zero : After
+  noneLent : After
+
+pub record Returned : Type 0 where
+  pub number : ℕ
+  pub after : After
+
+abbrev row : ℕ → After → Returned
+row n a = record { number = n; after = a }
+
+-- 14 has no row: it is the program's own, and no call returns it.
+unfoldable pub returned : List Returned
+returned =
+    row 1 unchanged  -- k outside limits
+    ∷ row 2 unchanged  -- reference length
+    ∷ row 3 unchanged  -- reference byte not A C G T N
+    ∷ row 4 unchanged  -- read ends fall, last end (0 without reads) is not the base count, qualities differ in length, too many reads or bases
+    ∷ row 5 unchanged  -- paths asked or a maximum outside limits
+    ∷ row 6 unchanged  -- column
+    ∷ row 7 unchanged  -- a lent slice shorter than told
+    ∷ row 8 zero  -- vertex or edge above its maximum
+    ∷ row 9 zero  -- tree node above its maximum
+    ∷ row 10 zero  -- a count or total has no place in the column
+    ∷ row 11 zero  -- a path's edges or active trees above their maximum
+    ∷ row 12 zero  -- a push beyond the maximum
+    ∷ row 13 noneLent  -- origin naming no sequence, or whose k+1 bytes do not fit it
+    ∷ []
+
+abbrev isUnchanged : After → Bool
+isUnchanged unchanged = true
+isUnchanged zero = false
+isUnchanged noneLent = false
+
+-- The table says "unchanged" of this number. It does not of a number without a row, 0 among them: "The workspace is zero after acceptance too".
+unfoldable pub keepsWorkspace : ℕ → Bool
+keepsWorkspace n = any (λ r. isUnchanged (r .after) && eqb n (r .number)) returned
+
+-- ---- a value or a refusal
 
 pub data Result (A : Type 0) : Type 0 where
   ok : A → Result A
@@ -31,5 +77,5 @@ firstBroken (r ∷ rs) = elim (r .holds) [ true ↦ firstBroken rs | false ↦ r
 
 -- A key: to unfold it is to unfold every definition of this file. The worked cases compute with it; a proof names only what it needs.
 unfoldable pub openRefusal : Unit {0}
-unfolding firstBroken
+unfolding returned keepsWorkspace firstBroken
 openRefusal = tt

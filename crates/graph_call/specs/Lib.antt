@@ -1,4 +1,5 @@
 pub mod Lent
+pub mod Rules
 pub mod Outcome
 pub mod Clear
 pub mod Fill

@@ -15,7 +15,7 @@ outcome r es ns = record { refusal = r .refusal; edges = r .edges; nodes = r .no
 abbrev pub refusedAnswer : ℕ → GraphAnswer
 refusedAnswer n = record { refusal = n; edges = 0; nodes = 0 }
 
--- the answer and the output are those of the definition's call, and so is each workspace slice: unchanged after 1 to 7, else zero as far as told
+-- the answer and the output are those of the definition's call, and so is each workspace slice, by the number returned
 pub record Graphed (s : Sample) (m : GraphMaxima) (r : GraphAnswer) (es es' ns ns' wv wv' we we' wi wi' wx wx' wo wo' : List ℕ) : Type 0 where
   pub is : outcome r es' ns' ≡ graphCall s m (graphWorkspaceTold m) (length wv ∷ length we ∷ length wi ∷ length wx ∷ length wo ∷ []) es ns
   pub w-vertices : wv' ≡ workspaceAfter 0 (r .refusal) (vertexTable m) wv

@@ -7,16 +7,21 @@ use graph_work::Raised;
 use graph_work::raise_graph;
 use graph_work::raise_refusal;
 use limits::GraphMaxima;
+use limits::LengthsTold;
+use limits::SearchMaxima;
 use limits::check_graph;
+use limits::lengths_within;
 use threading_tree::write_nodes;
 ghost use mathlib.Core.Path.{_≡_};
-ghost use mathlib.Core.List.{[], _∷_};
-ghost use Rattle.definition.specs.Limits.{longEnough, graphTold};
+ghost use mathlib.Core.Bool.{true};
+ghost use Prim.Native.Nat.{ℕ, _≤_};
+ghost use Rattle.definition.specs.Refusal.{firstBroken};
+ghost use Rattle.definition.specs.Limits.{longEnough, graphMaximaFit, graphRules};
 ghost use Rattle.definition.specs.Building.{built};
 ghost use Rattle.definition.specs.Calls.{graphOf};
 ghost use Rattle.limits.specs.Handed.{sampleOf, graphMaximaOf};
-ghost use Rattle.limits.specs.Lengths.{graphWorkspaceTold};
-ghost use Rattle.graph_call.specs.Lent.{Lent};
+ghost use Rattle.limits.specs.Lengths.{graphSlices};
+ghost use Rattle.graph_call.specs.Lent.{toldFor, toldOf, lentOf, Lent};
 ghost use Rattle.graph_call.specs.Outcome.{outcome, refusedAnswer, Graphed};
 ghost use Rattle.graph_call.specs.Clear.{Zeroed};
 ghost use Rattle.graph_call.specs.Fill.{Writes, Wrote};
@@ -30,42 +35,84 @@ pub struct GraphAnswer {
     pub nodes: u32,
 }
 
-// 7: whether each lent slice is as long as told for these maxima.
-fn lent_fits(
-    g: GraphMaxima,
-    edges: usize,
-    nodes: usize,
-    vertex_table: usize,
-    edge_table: usize,
-    kmer_index: usize,
-    node_table: usize,
-    open_trees: usize,
-) -> bool
-    ensures { λ r. ⌜ r ≡ longEnough (graphTold (graphMaximaOf g) (graphWorkspaceTold (graphMaximaOf g)))
-        (edges ∷ nodes ∷ «vertex_table» ∷ «edge_table» ∷ «kmer_index» ∷ «node_table» ∷ «open_trees» ∷ []) ⌝ }
+// The lengths of the slices lent: for rows, and as workspace.
+pub struct GraphLent {
+    pub edge_rows: usize,
+    pub node_rows: usize,
+    pub vertices: usize,
+    pub edges: usize,
+    pub index: usize,
+    pub nodes: usize,
+    pub open: usize,
+}
+
+// What is told of these slices, on which the maxima of the graph alone decide: of no path, and of the least search within the limits.
+fn told_for(k: u32, g: GraphMaxima) -> LengthsTold
+    requires { ⌜ (k ≤ 128) × (graphMaximaFit (graphMaximaOf g) ≡ true) ⌝ }
+    ensures { λ r. ⌜ r ≡ toldFor k (graphMaximaOf g) ⌝ }
 {
-    if edges < g.edges as usize * 6 {
+    let search = SearchMaxima {
+        path_edges: 1,
+        active: 1,
+        pushes: 1,
+    };
+    lengths_within(k, 0, g, search)
+}
+
+// 7: whether each lent slice is as long as told.
+fn lent_fits(told: LengthsTold, l: GraphLent) -> bool
+    ensures { λ r. ⌜ r ≡ longEnough (graphSlices told) (lentOf l) ⌝ }
+{
+    let tables = told.workspace;
+    if l.edge_rows < told.edges {
         return false;
     }
-    if nodes < g.nodes as usize * 4 {
+    if l.node_rows < told.nodes {
         return false;
     }
-    if vertex_table < g.vertices as usize * 12 {
+    if l.vertices < tables.vertices {
         return false;
     }
-    if edge_table < g.edges as usize * 6 {
+    if l.edges < tables.edges {
         return false;
     }
-    if kmer_index < g.vertices as usize * 2 {
+    if l.index < tables.index {
         return false;
     }
-    if node_table < (g.nodes as usize + 1) * 5 {
+    if l.nodes < tables.nodes {
         return false;
     }
-    if open_trees < g.nodes as usize * 2 {
+    if l.open < tables.open {
         return false;
     }
     true
+}
+
+// 1 to 5 and 7; the lengths told are known once the maxima are.
+fn check(
+    k: u32,
+    reference: &[u8],
+    ends: &[u32],
+    bases: &[u8],
+    qualities: &[u8],
+    g: GraphMaxima,
+    l: GraphLent,
+) -> u32
+    ensures { λ r. ⌜ ((quality : ℕ)
+        → r ≡ firstBroken (graphRules
+        (sampleOf k quality (now (reference .entry)) (now (ends .entry)) (now (bases .entry)) (now (qualities .entry)))
+        (graphMaximaOf g) (toldOf (graphMaximaOf g)) (lentOf l))) ⌝ }
+{
+    let refusal = check_graph(k, reference, ends, bases, qualities, g, true);
+    if refusal > 0 {
+        return refusal;
+    }
+    let told = told_for(k, g);
+    let fits = lent_fits(told, l);
+    if !fits {
+        return 7;
+    }
+    0
 }
 
 // A refused answer holds 0 in every other field.
@@ -218,25 +265,26 @@ pub fn graph(
 ) -> GraphAnswer
     ensures { λ r. ⌜ Graphed (sampleOf k quality (now (reference .entry)) (now (ends .entry)) (now (bases .entry)) (now (qualities .entry))) (graphMaximaOf maxima) r (now (edges .entry)) (now (edges .exit)) (now (nodes .entry)) (now (nodes .exit)) (now («w_vertices» .entry)) (now («w_vertices» .exit)) (now («w_edges» .entry)) (now («w_edges» .exit)) (now («w_index» .entry)) (now («w_index» .exit)) (now («w_nodes» .entry)) (now («w_nodes» .exit)) (now («w_open» .entry)) (now («w_open» .exit)) ⌝ }
 {
-    let fits = lent_fits(
-        maxima,
-        edges.len(),
-        nodes.len(),
-        w_vertices.len(),
-        w_edges.len(),
-        w_index.len(),
-        w_nodes.len(),
-        w_open.len(),
-    );
-    let refusal = check_graph(k, reference, ends, bases, qualities, maxima, fits);
+    let l = GraphLent {
+        edge_rows: edges.len(),
+        node_rows: nodes.len(),
+        vertices: w_vertices.len(),
+        edges: w_edges.len(),
+        index: w_index.len(),
+        nodes: w_nodes.len(),
+        open: w_open.len(),
+    };
+    let refusal = check(k, reference, ends, bases, qualities, maxima, l);
     if refusal > 0 {
         return refused(refusal);
     }
-    let a = maxima.vertices as usize * 12;
-    let b = maxima.edges as usize * 6;
-    let i = maxima.vertices as usize * 2;
-    let c = (maxima.nodes as usize + 1) * 5;
-    let d = maxima.nodes as usize * 2;
+    let told = told_for(k, maxima);
+    let tables = told.workspace;
+    let of_vertices = tables.vertices;
+    let of_edges = tables.edges;
+    let of_index = tables.index;
+    let of_nodes = tables.nodes;
+    let of_open = tables.open;
     make_graph(
         k,
         quality,
@@ -247,10 +295,10 @@ pub fn graph(
         maxima,
         edges,
         nodes,
-        &mut w_vertices[..a],
-        &mut w_edges[..b],
-        &mut w_index[..i],
-        &mut w_nodes[..c],
-        &mut w_open[..d],
+        &mut w_vertices[..of_vertices],
+        &mut w_edges[..of_edges],
+        &mut w_index[..of_index],
+        &mut w_nodes[..of_nodes],
+        &mut w_open[..of_open],
     )
 }

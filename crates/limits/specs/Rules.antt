@@ -1,6 +1,6 @@
 -- Rules in order: laws of `firstBroken`, for a call that tests one rule after the other.
-use mathlib.Core.Path.{_≡_, refl}
-use Prim.Native.Nat.{ℕ, _<_, _≤_}
+use mathlib.Core.Path.{_≡_, refl, sym, _∙_}
+use Prim.Native.Nat.{ℕ, zero, suc, _<_, _≤_}
 use native.Mathlib.Omega.{arith}
 use mathlib.Core.Bool.{Bool, true, false, _&&_}
 use mathlib.Core.List.{List, [], _∷_, _++_}
@@ -54,6 +54,28 @@ first-hold (r ∷ rs) ys n d e h = go (r .holds) refl (λ k. first-hold rs ys n 
     go true f ih = rw (f, firstBroken) (ih (rw (f, firstBroken) at e))
     go false f ih = let z : n ≡ r .number = rw (f, firstBroken) at e in let y : 0 < r .number = d .0 in absurd (omega arith)
 
+-- ---- a last rule m, tested once the rules before it hold
+
+module _ (xs : List Rule) (numbered : Numbered xs) (m : ℕ) where
+  -- n is what the code's check answered where the last rule is taken to hold
+  module _ (n : ℕ) (h : n ≡ firstBroken (xs ++ (rule m true ∷ []))) where
+    before-last : n ≡ firstBroken xs
+    before-last = go (firstBroken xs) refl
+      where
+        go : (k : ℕ) → firstBroken xs ≡ k → n ≡ firstBroken xs
+        go zero e = h ∙ sym (first-hold xs (rule m true ∷ []) zero numbered (sym e) (omega arith)) ∙ sym (holds m true [] refl) ∙ sym all-hold ∙ sym e
+        go (suc k) e = h ∙ sym (first-broken xs (rule m true ∷ []) (suc k) (sym e) (omega arith)) ∙ sym e
+
+    pub last-untested : 0 < n → (b : Bool) → n ≡ firstBroken (xs ++ (rule m b ∷ []))
+    last-untested l b = first-broken xs (rule m b ∷ []) n before-last l
+
+    module _ (l : n ≤ 0) (b : Bool) where
+      pub last-broken : b ≡ false → m ≡ firstBroken (xs ++ (rule m b ∷ []))
+      last-broken e = broken m b [] e ∙ first-hold xs (rule m b ∷ []) n numbered before-last l
+
+      pub last-holds : b ≡ true → 0 ≡ firstBroken (xs ++ (rule m b ∷ []))
+      last-holds e = all-hold ∙ holds m b [] e ∙ first-hold xs (rule m b ∷ []) n numbered before-last l
+
 -- n is what the check of k answered
 pub k-holds : (k : ℕ) (ys : List Rule) (n : ℕ) → n ≡ firstBroken (kRules k) → n ≤ 0 → firstBroken ys ≡ firstBroken (rule 1 (kFits k) ∷ ys)
 k-holds k ys n e h = first-hold (kRules k) ys n (omega arith, tt) e h
@@ -72,20 +94,6 @@ none-broken (r ∷ rs) d e = go (r .holds) refl (none-broken rs (d .1))
     go : (b : Bool) → r .holds ≡ b → (firstBroken rs ≡ 0 → Holds rs) → Holds (r ∷ rs)
     go true f ih = (f, ih (rw (f, firstBroken) at e))
     go false f ih = let z : r .number ≡ 0 = rw (f, firstBroken) at e in let y : 0 < r .number = d .0 in absurd (omega arith)
-
--- no rule has a number above 7
-abbrev pub Low : List Rule → Type 0
-Low [] = Unit {0}
-Low (r ∷ rs) = (r .number ≤ 7) × Low rs
-
-pub low-broken : (rs : List Rule) → Low rs → firstBroken rs ≤ 7
-unfolding firstBroken
-low-broken [] l = omega arith
-low-broken (r ∷ rs) l = go (r .holds) refl (low-broken rs (l .1))
-  where
-    go : (b : Bool) → r .holds ≡ b → firstBroken rs ≤ 7 → firstBroken (r ∷ rs) ≤ 7
-    go true e h = rw (e, firstBroken) h
-    go false e h = rw (e, firstBroken) (l .0)
 
 -- ---- the rules of each call, parted as the code checks them
 

@@ -1,14 +1,17 @@
 -- Tests made one after the other, the first that fails ending it: how `if !test { return false; }` decides as `&&` does.
 use mathlib.Core.Path.{_≡_, refl, sym, ap, _∙_}
-use Prim.Native.Nat.{ℕ}
+use Prim.Native.Nat.{ℕ, _+_, _<_, _≤_}
+use native.Mathlib.Omega.{arith}
 use mathlib.Core.Bool.{Bool, true, false, not, _&&_}
 use mathlib.Core.List.{List}
 use mathlib.Core.Logic.{_⊎_, inl, inr}
 use lib.Dec.{leb, eqb}
 use lib.ListN.{length}
-use borrow.Author.Tests.{not-true, not-false, eq-eqb, ne-eqb}
+use borrow.Author.Tests.{not-true, not-false, eq-eqb, eqb-false, ne-eqb}
 use Rattle.laws.specs.Lists.{lastOr}
+use Rattle.laws.specs.ListLaws.{or-none}
 use Rattle.laws.specs.Numbers.{within}
+use Rattle.definition.specs.Refusal.{returned, keepsWorkspace}
 use Rattle.definition.specs.Limits.{GraphMaxima, SearchMaxima, isBase, rising, endsFit, graphMaximaFit, searchMaximaFit, settingsFit}
 
 -- Shut, so that a law's arguments are found.
@@ -51,6 +54,42 @@ pub no-letter : (b : ℕ) → ((b ≡ 65) ⊎ ((b ≡ 67) ⊎ ((b ≡ 71) ⊎ ((
 unfolding isBase
 no-letter b n =
     rw (ne-eqb b 65 (λ e. n (inl e)), ne-eqb b 67 (λ e. n (inr (inl e))), ne-eqb b 71 (λ e. n (inr (inr (inl e)))), ne-eqb b 84 (λ e. n (inr (inr (inr (inr e))))), ne-eqb b 78 (λ e. n (inr (inr (inr (inl e))))))
+
+-- ---- "Workspace after"
+
+-- the table says "unchanged" of 1 to 7,
+pub is-kept : (n : ℕ) → 1 ≤ n → n < 8 → true ≡ keepsWorkspace n
+unfolding keepsWorkspace returned
+is-kept n l h = go (keepsWorkspace n) refl
+  where
+    go : (b : Bool) → keepsWorkspace n ≡ b → true ≡ keepsWorkspace n
+    go true e = sym e
+    go false e =
+        let a = or-none (eqb n 1) _ e in
+        let b = or-none (eqb n 2) _ (a .1) in
+        let c = or-none (eqb n 3) _ (b .1) in
+        let d = or-none (eqb n 4) _ (c .1) in
+        let f = or-none (eqb n 5) _ (d .1) in
+        let g = or-none (eqb n 6) _ (f .1) in
+        let k = or-none (eqb n 7) _ (g .1) in
+        let m = above 7 (above 6 (above 5 (above 4 (above 3 (above 2 (above 1 l (a .0)) (b .0)) (c .0)) (d .0)) (f .0)) (g .0)) (k .0) in
+        absurd (omega arith)
+      where
+        above : (m : ℕ) → m ≤ n → eqb n m ≡ false → m + 1 ≤ n
+        above m h e = omega (arith, eqb-false n m e)
+
+-- and of no other number
+pub not-kept : (n : ℕ) → (n < 1) ⊎ (8 ≤ n) → false ≡ keepsWorkspace n
+unfolding keepsWorkspace returned
+not-kept n h =
+    rw (ne-eqb n 1 (other 1 (omega arith) (omega arith)), ne-eqb n 2 (other 2 (omega arith) (omega arith)), ne-eqb n 3 (other 3 (omega arith) (omega arith)), ne-eqb n 4 (other 4 (omega arith) (omega arith)), ne-eqb n 5 (other 5 (omega arith) (omega arith)), ne-eqb n 6 (other 6 (omega arith) (omega arith)), ne-eqb n 7 (other 7 (omega arith) (omega arith)))
+  where
+    other : (m : ℕ) → 1 ≤ m → m < 8 → n ≡ m → ⊥
+    other m a b e = go h
+      where
+        go : (n < 1) ⊎ (8 ≤ n) → ⊥
+        go (inl l) = omega arith
+        go (inr l) = omega arith
 
 -- ---- the tests of several parts
 

@@ -1,4 +1,4 @@
-// Refusals 1 to 7 of document 01 in the table's order, and the call that tells the slice lengths needed.
+// Refusals 1 to 7 of document 01 in the table's order, after which numbers the workspace is unchanged, and the call that tells the slice lengths needed.
 ghost use mathlib.Core.Path.{_≡_};
 ghost use mathlib.Core.Bool.{Bool, _&&_};
 ghost use mathlib.Core.List.{List};
@@ -8,7 +8,7 @@ ghost use lib.Dec.{eqb};
 ghost use lib.ListN.{length};
 ghost use Rattle.laws.specs.Lists.{lastOr};
 ghost use Rattle.laws.specs.Numbers.{within};
-ghost use Rattle.definition.specs.Refusal.{firstBroken};
+ghost use Rattle.definition.specs.Refusal.{keepsWorkspace, firstBroken};
 ghost use Rattle.definition.specs.Limits.{isBase, referenceFits, referenceBases, rising, endsFit, graphMaximaFit, searchMaximaFit, settingsFit, originRules, sampleRules, graphRules, listRules, longEnough, lengthsRules};
 ghost use Rattle.limits.specs.Handed.{graphMaximaOf, searchMaximaOf, sampleOf, inputOf};
 ghost use Rattle.limits.specs.Rules.{referenceRules};
@@ -37,6 +37,16 @@ fn in_range(low: u32, high: u32, n: u32) -> bool
     ensures { λ r. ⌜ r ≡ within low high n ⌝ }
 {
     low <= n && n <= high
+}
+
+// "Workspace after", by the number returned: whether the table says that it is unchanged.
+pub fn workspace_kept(number: u32) -> bool
+    ensures { λ r. ⌜ r ≡ keepsWorkspace number ⌝ }
+{
+    match number {
+        1..=7 => true,
+        _ => false,
+    }
 }
 
 // The letters that a base is written by, N where it could not be told.
@@ -380,7 +390,7 @@ pub fn walks_told(asked: u32, g: GraphMaxima, s: SearchMaxima) -> usize
 }
 
 // The workspace of settings within limits; a path is made by a push, by closing, or as the extension of a fork.
-fn workspace_told(asked: u32, g: GraphMaxima, s: SearchMaxima) -> Workspace
+pub fn workspace_told(asked: u32, g: GraphMaxima, s: SearchMaxima) -> Workspace
     requires { ⌜ InLimits asked (graphMaximaOf g) (searchMaximaOf s) ⌝ }
     ensures { λ r. ⌜ r ≡ workspaceTold asked (graphMaximaOf g) (searchMaximaOf s) ⌝ }
 {

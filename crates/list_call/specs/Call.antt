@@ -1,43 +1,34 @@
 -- The whole call: the rules' number says whether it is refused with nothing touched, or the work is done. Assumes nothing.
 use mathlib.Core.Path.{_≡_, refl, sym, ap, subst, _∙_}
-use mathlib.Core.Bool.{true, false, and-false, _&&_}
+use mathlib.Core.Bool.{true, false}
 use Prim.Native.Nat.{ℕ, zero, suc, _<_, _≤_}
 use native.Mathlib.Omega.{arith}
-use lib.Dec.{leb}
 use lib.Ieee.{Float}
-use borrow.Author.Tests.{le-leb, lt-leb}
-use Rattle.laws.specs.Numbers.{within}
-use Rattle.definition.specs.Refusal.{firstBroken}
+use Rattle.definition.specs.Refusal.{keepsWorkspace, firstBroken}
 use Rattle.definition.specs.Score.{columnScoring}
 use Rattle.definition.specs.Limits.{Input, longEnough, sampleRules, listRules}
 use Rattle.definition.specs.Listing.{Answer, refusal, listed, answer, afterChecks}
 use Rattle.definition.proofs.Checks.{checked}
-use Rattle.limits.specs.Rules.{none-broken, low-broken}
+use Rattle.definition.proofs.Late.{LateAnswer, found-late, accepted-zero, list-keeps}
+use Rattle.limits.specs.Rules.{none-broken}
 use Rattle.list_interface.specs.declared.ListAnswer.{ListAnswer}
-use Rattle.list_call.specs.Lent.{toldOf, lentOf, long-of}
 use Rattle.list_interface.specs.Answers.{refusedAnswer}
+use Rattle.list_lent.specs.Lent.{toldOf, lentOf, long-of}
 use Rattle.list_work.specs.Outcome.{Outputs, Tables, Listed, found, summary, listed-refused}
 use Rattle.list_call.specs.Outcome.{after-work, after-checks}
 use Rattle.list_call.specs.Within.{lengthsOf, Within, Done, Called}
-use Rattle.definition.proofs.Late.{LateAnswer, found-late}
 
--- the number answered after the checks is none of 1 to 7
-after-seven : (i : Input) → within 1 7 (summary (found i) .refusal) ≡ false
+-- after what is answered once no rule is broken, the workspace is zero
+found-zero : (i : Input) → keepsWorkspace (summary (found i) .refusal) ≡ false
 unfolding summary
-after-seven i = go (found i) (found-late i)
+found-zero i = go (found i) (found-late i)
   where
-    go : (o : Answer Float) → LateAnswer o → within 1 7 (summary o .refusal) ≡ false
-    go (refusal n) l = rw (lt-leb n 7 (omega arith)) (and-false (leb 1 n))
-    go (listed rs pushes longest) l = refl
+    go : (o : Answer Float) → LateAnswer o → keepsWorkspace (summary o .refusal) ≡ false
+    go (refusal n) l = l .1
+    go (listed rs pushes longest) l = accepted-zero
 
 module _ (i : Input) (rows : ℕ) (o : Outputs) (w : Tables) (n : ℕ) (e : n ≡ firstBroken (listRules i (toldOf i) (lentOf (lengthsOf rows o w)))) where
-  -- ---- refused: 1 to 7
-
-  rules-low : n ≤ 7
-  unfolding listRules sampleRules
-  rules-low =
-      let z = low-broken (listRules i (toldOf i) (lentOf (lengthsOf rows o w))) (omega arith, (omega arith, (omega arith, (omega arith, (omega arith, (omega arith, (omega arith, tt))))))) in
-      omega arith
+  -- ---- refused by a rule
 
   answer-refused : 0 < n → answer i (toldOf i) (lentOf (lengthsOf rows o w)) ≡ refusal n
   unfolding answer afterChecks
@@ -50,12 +41,10 @@ module _ (i : Input) (rows : ℕ) (o : Outputs) (w : Tables) (n : ℕ) (e : n �
   pub call-refused : 0 < n → (r : ListAnswer) → r ≡ refusedAnswer n → Called i rows r o o w w
   call-refused h r f =
       let g : r .refusal ≡ n = ap (λ (a : ListAnswer). a .refusal) f in
-      let z = rules-low in
-      let a : leb 1 (r .refusal) ≡ true = le-leb 1 (r .refusal) (omega arith) in
-      let b : leb (r .refusal) 7 ≡ true = le-leb (r .refusal) 7 (omega arith) in
+      let k : keepsWorkspace (r .refusal) ≡ true = ap keepsWorkspace (g ∙ e) ∙ list-keeps i (toldOf i) (lentOf (lengthsOf rows o w)) (omega arith) in
       record {
         listed = listed-refused i (answer i (toldOf i) (lentOf (lengthsOf rows o w))) n r o (answer-refused h) f;
-        tables = after-checks (r .refusal) i w (λ j. a j && b j);
+        tables = after-checks (r .refusal) i w k;
       }
 
   -- ---- not refused
@@ -76,19 +65,7 @@ module _ (i : Input) (rows : ℕ) (o : Outputs) (w : Tables) (n : ℕ) (e : n �
         record {
           checks = checked i (toldOf i) (lentOf (lengthsOf rows o w)) none;
           outs = record { scores = l .row-scores; closings = l .row-closings; edges = l .row-edges; bases = l .bases; sequences = l .sequences; places = l .places };
-          vertices = l .vertices;
-          edges = l .edges;
-          index = l .index;
-          nodes = l .nodes;
-          targets = l .targets;
-          paths = l .paths;
-          scores = l .scores;
-          active = l .active;
-          queue = l .queue;
-          closed = l .closed;
-          order = l .order;
-          marks = l .marks;
-          walks = l .walks;
+          room = record { vertices = l .vertices; edges = l .edges; index = l .index; nodes = l .nodes; targets = l .targets; paths = l .paths; scores = l .scores; active = l .active; queue = l .queue; closed = l .closed; order = l .order; marks = l .marks; walks = l .walks };
         }
 
     answer-found : found i ≡ answer i (toldOf i) (lentOf (lengthsOf rows o w))
@@ -99,5 +76,5 @@ module _ (i : Input) (rows : ℕ) (o : Outputs) (w : Tables) (n : ℕ) (e : n �
     call-done r o′ w′ d =
         record {
           listed = subst (λ (a : Answer Float). Listed i a r o o′) answer-found (d .listed);
-          tables = d .tables ∙ after-work (r .refusal) i w (ap (λ (k : ℕ). within 1 7 k) (d .listed .refusal) ∙ after-seven i);
+          tables = d .tables ∙ after-work (r .refusal) i w (ap keepsWorkspace (d .listed .refusal) ∙ found-zero i);
         }

@@ -1,5 +1,3 @@
-pub mod Lent
-pub mod Rules
 pub mod Outcome
 pub mod Within
 pub mod Parts

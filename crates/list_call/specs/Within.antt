@@ -5,13 +5,13 @@ use lib.ListN.{length}
 use Rattle.definition.specs.Limits.{Input}
 use Rattle.definition.specs.Listing.{refusal, answer}
 use Rattle.definition.proofs.Checks.{Checked}
-use Rattle.limits.specs.Workspaces.{vertexTable, edgeTable, kmerIndex, nodeTable, targetTable, pathTable, pathScores, activeNodes, waitingQueue, closedPaths, pivotalOrder, pivotalMarks, pathWalks}
+use Rattle.limits.specs.declared.Workspace.{Workspace}
 use Rattle.list_interface.specs.declared.ListAnswer.{ListAnswer}
 use Rattle.list_work.specs.Works.{Outs}
-use Rattle.list_call.specs.declared.Lent as lent
-use Rattle.list_call.specs.Lent.{toldOf, lentOf}
+use Rattle.list_lent.specs.declared.Lent as lent
+use Rattle.list_lent.specs.Lent.{toldOf, lentOf}
 use Rattle.list_work.specs.Outcome.{Outputs, Tables, Listed, found}
-use Rattle.list_call.specs.Outcome.{clearedTables, tablesAfter}
+use Rattle.list_call.specs.Outcome.{toldFor, clearedTables, tablesAfter}
 
 -- the lengths of all slices, and of the slice of rows
 abbrev pub lengthsOf : ℕ → Outputs → Tables → lent.Lent
@@ -39,23 +39,27 @@ lengthsOf rows o w =
       «row_edges» = length (o .edges);
     }
 
--- all is in order, and the workspace has at least the lengths told
+-- the workspace has at least the lengths told
+pub record Room (t : Workspace) (w : Tables) : Type 0 where
+  pub vertices : t .vertices ≤ length (w .vertices)
+  pub edges : t .edges ≤ length (w .edges)
+  pub index : t .index ≤ length (w .index)
+  pub nodes : t .nodes ≤ length (w .nodes)
+  pub targets : t .targets ≤ length (w .targets)
+  pub paths : t .paths ≤ length (w .paths)
+  pub scores : t .scores ≤ length (w .scores)
+  pub active : t .active ≤ length (w .active)
+  pub queue : t .queue ≤ length (w .queue)
+  pub closed : t .closed ≤ length (w .closed)
+  pub order : t .order ≤ length (w .order)
+  pub marks : t .marks ≤ length (w .marks)
+  pub walks : t .walks ≤ length (w .walks)
+
+-- all is in order
 pub record Within (i : Input) (o : Outputs) (w : Tables) : Type 0 where
   pub checks : Checked i
   pub outs : Outs i o
-  pub vertices : vertexTable (i .graphMaxima) ≤ length (w .vertices)
-  pub edges : edgeTable (i .graphMaxima) ≤ length (w .edges)
-  pub index : kmerIndex (i .graphMaxima) ≤ length (w .index)
-  pub nodes : nodeTable (i .graphMaxima) ≤ length (w .nodes)
-  pub targets : targetTable (i .graphMaxima) ≤ length (w .targets)
-  pub paths : pathTable (i .asked) (i .searchMaxima) ≤ length (w .paths)
-  pub scores : pathScores (i .asked) (i .searchMaxima) ≤ length (w .scores)
-  pub active : activeNodes (i .asked) (i .searchMaxima) ≤ length (w .active)
-  pub queue : waitingQueue (i .searchMaxima) ≤ length (w .queue)
-  pub closed : closedPaths (i .asked) ≤ length (w .closed)
-  pub order : pivotalOrder (i .graphMaxima) ≤ length (w .order)
-  pub marks : pivotalMarks (i .graphMaxima) ≤ length (w .marks)
-  pub walks : pathWalks (i .asked) (i .graphMaxima) (i .searchMaxima) ≤ length (w .walks)
+  pub room : Room (toldFor i) w
 
 -- the work is done, and the workspace is zero as far as told
 pub record Done (i : Input) (r : ListAnswer) (o o′ : Outputs) (w w′ : Tables) : Type 0 where

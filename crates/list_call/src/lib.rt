@@ -1,175 +1,20 @@
 // The call for the list, over number slices alone: checks, build, trees, search, the list in columns, and clearing.
 use graph_rows::clear;
-use limits::LengthsTold;
-use limits::Workspace;
-use limits::check_list;
-use limits::lengths_within;
-use limits::walks_told;
+use limits::workspace_told;
 use list_interface::ListAnswer;
 use list_interface::Settings;
 use list_interface::refused;
+use list_lent::Lent;
+use list_lent::check;
 use list_work::work;
 ghost use mathlib.Core.Path.{_≡_};
 ghost use Prim.Native.Nat.{_≤_};
-ghost use Rattle.definition.specs.Refusal.{firstBroken};
-ghost use Rattle.definition.specs.Limits.{longEnough, listRules};
 ghost use Rattle.list_work.specs.Works.{inputFor};
 ghost use lib.ListN.{length, replicate};
 ghost use Rattle.definition.specs.Calls.{writtenAt};
 ghost use Rattle.list_work.specs.Outcome.{outputsOf, tablesOf};
 ghost use Rattle.list_call.specs.Outcome.{floatZero};
 ghost use Rattle.list_call.specs.Within.{Within, Done, Called};
-ghost use Rattle.list_call.specs.Lent.{toldOf, lentOf, outputsTold, outputsLent, graphTold, graphLent, searchTold, searchLent};
-
-// The lengths of the slices lent.
-pub struct Lent {
-    pub rows: usize,
-    pub bases: usize,
-    pub sequences: usize,
-    pub places: usize,
-    pub vertices: usize,
-    pub edges: usize,
-    pub index: usize,
-    pub nodes: usize,
-    pub targets: usize,
-    pub paths: usize,
-    pub scores: usize,
-    pub active: usize,
-    pub queue: usize,
-    pub closed: usize,
-    pub order: usize,
-    pub marks: usize,
-    pub walks: usize,
-    pub row_scores: usize,
-    pub row_closings: usize,
-    pub row_edges: usize,
-}
-
-// ---- 7: whether each lent slice is as long as told
-
-fn outputs_fit(told: LengthsTold, l: Lent) -> bool
-    ensures { λ r. ⌜ r ≡ longEnough (outputsTold told) (outputsLent l) ⌝ }
-{
-    if l.rows < told.paths {
-        return false;
-    }
-    if l.bases < told.bases {
-        return false;
-    }
-    if l.sequences < told.origins {
-        return false;
-    }
-    if l.places < told.origins {
-        return false;
-    }
-    true
-}
-
-fn graph_fits(told: Workspace, l: Lent) -> bool
-    ensures { λ r. ⌜ r ≡ longEnough (graphTold told) (graphLent l) ⌝ }
-{
-    if l.vertices < told.vertices {
-        return false;
-    }
-    if l.edges < told.edges {
-        return false;
-    }
-    if l.index < told.index {
-        return false;
-    }
-    if l.nodes < told.nodes {
-        return false;
-    }
-    if l.targets < told.targets {
-        return false;
-    }
-    true
-}
-
-fn search_fits(told: Workspace, l: Lent) -> bool
-    ensures { λ r. ⌜ r ≡ longEnough (searchTold told) (searchLent l) ⌝ }
-{
-    if l.paths < told.paths {
-        return false;
-    }
-    if l.scores < told.scores {
-        return false;
-    }
-    if l.active < told.active {
-        return false;
-    }
-    if l.queue < told.queue {
-        return false;
-    }
-    if l.closed < told.closed {
-        return false;
-    }
-    if l.order < told.order {
-        return false;
-    }
-    if l.marks < told.marks {
-        return false;
-    }
-    if l.walks < told.walks {
-        return false;
-    }
-    if l.row_scores < told.columns {
-        return false;
-    }
-    if l.row_closings < told.columns {
-        return false;
-    }
-    if l.row_edges < told.columns {
-        return false;
-    }
-    true
-}
-
-// 1 to 7; the lengths told are known once the settings are.
-fn check(
-    a: Settings,
-    reference: &[u8],
-    ends: &[u32],
-    bases: &[u8],
-    qualities: &[u8],
-    column: &[f64],
-    l: Lent,
-) -> u32
-    ensures { λ r. ⌜ r ≡ firstBroken (listRules (inputFor a (now (reference .entry)) (now (ends .entry)) (now (bases .entry)) (now (qualities .entry)) (now (column .entry))) (toldOf (inputFor a (now (reference .entry)) (now (ends .entry)) (now (bases .entry)) (now (qualities .entry)) (now (column .entry)))) (lentOf l)) ⌝ }
-{
-    let g = a.graph;
-    let s = a.search;
-    let refusal = check_list(
-        a.k,
-        reference,
-        ends,
-        bases,
-        qualities,
-        a.asked,
-        g,
-        s,
-        column,
-        true,
-    );
-    if refusal > 0 {
-        return refusal;
-    }
-    let told = lengths_within(a.k, a.asked, g, s);
-    let outputs = outputs_fit(told, l);
-    if !outputs {
-        return 7;
-    }
-    let tables = told.workspace;
-    let graphs = graph_fits(tables, l);
-    if !graphs {
-        return 7;
-    }
-    let searches = search_fits(tables, l);
-    if !searches {
-        return 7;
-    }
-    0
-}
 
 // The first n scores become 0.
 pub fn clear_scores(scores: &mut [f64], n: usize)
@@ -228,17 +73,20 @@ fn list_within(
 {
     let g = a.graph;
     let s = a.search;
-    let asked = a.asked as usize;
-    let records = s.pushes as usize + asked + 8;
-    let v = g.vertices as usize * 12;
-    let e = g.edges as usize * 6;
-    let i = g.vertices as usize * 2;
-    let n = (g.nodes as usize + 1) * 5;
-    let m = g.edges as usize;
-    let p = records * 9;
-    let x = records * s.active as usize;
-    let w = s.pushes as usize;
-    let k = walks_told(a.asked, g, s);
+    let told = workspace_told(a.asked, g, s);
+    let vertices = told.vertices;
+    let edges = told.edges;
+    let index = told.index;
+    let nodes = told.nodes;
+    let targets = told.targets;
+    let paths = told.paths;
+    let scores = told.scores;
+    let active = told.active;
+    let queue = told.queue;
+    let closed = told.closed;
+    let order = told.order;
+    let marks = told.marks;
+    let walks = told.walks;
     let r = work(
         a,
         reference,
@@ -252,33 +100,33 @@ fn list_within(
         out_bases,
         sequences,
         places,
-        &mut w_vertices[..v],
-        &mut w_edges[..e],
-        &mut w_index[..i],
-        &mut w_nodes[..n],
-        &mut w_targets[..m],
-        &mut w_paths[..p],
-        &mut w_scores[..records],
-        &mut w_active[..x],
-        &mut w_queue[..w],
-        &mut w_closed[..asked],
-        &mut w_order[..m],
-        &mut w_marks[..m],
-        &mut w_walks[..k],
+        &mut w_vertices[..vertices],
+        &mut w_edges[..edges],
+        &mut w_index[..index],
+        &mut w_nodes[..nodes],
+        &mut w_targets[..targets],
+        &mut w_paths[..paths],
+        &mut w_scores[..scores],
+        &mut w_active[..active],
+        &mut w_queue[..queue],
+        &mut w_closed[..closed],
+        &mut w_order[..order],
+        &mut w_marks[..marks],
+        &mut w_walks[..walks],
     );
-    clear(w_vertices, v);
-    clear(w_edges, e);
-    clear(w_index, i);
-    clear(w_nodes, n);
-    clear(w_targets, m);
-    clear(w_paths, p);
-    clear_scores(w_scores, records);
-    clear_slots(w_active, x);
-    clear(w_queue, w);
-    clear(w_closed, asked);
-    clear(w_order, m);
-    clear(w_marks, m);
-    clear(w_walks, k);
+    clear(w_vertices, vertices);
+    clear(w_edges, edges);
+    clear(w_index, index);
+    clear(w_nodes, nodes);
+    clear(w_targets, targets);
+    clear(w_paths, paths);
+    clear_scores(w_scores, scores);
+    clear_slots(w_active, active);
+    clear(w_queue, queue);
+    clear(w_closed, closed);
+    clear(w_order, order);
+    clear(w_marks, marks);
+    clear(w_walks, walks);
     r
 }
 

@@ -16,7 +16,7 @@ use Rattle.definition.specs.Listing.{Row, Answer, refusal, listed, answer}
 use Rattle.definition.specs.Text.{Text, textOf, columnOf, with, textRules, graphMaxima, searchMaxima, firstLine, refusedLine, printedOf, printed}
 use Rattle.definition.proofs.Demand.{paths-spelled, no-nan, within-bounds}
 use Rattle.definition.proofs.Late.{no-zero}
-use Rattle.list_call.specs.Lent.{toldOf, lentOf}
+use Rattle.list_lent.specs.Lent.{toldOf, lentOf}
 use Rattle.list_work.specs.Outcome.{Outputs, Tables, outputsAfter, writtenList, summary}
 use Rattle.list_call.specs.Within.{lengthsOf, Called}
 use Rattle.list_work.specs.Works.{inputFor}

@@ -14,7 +14,7 @@ use Rattle.limits.specs.Rules.{none-broken}
 use Rattle.limits.specs.Bounds.{k-most, max-le}
 use Rattle.list_work.specs.Works.{inputFor}
 use Rattle.limits.specs.Long.{no-short, none-short}
-use Rattle.list_call.specs.Lent.{toldOf, lentOf}
+use Rattle.list_lent.specs.Lent.{toldOf, lentOf}
 use Rattle.list_work.specs.Outcome.{Outputs, Tables}
 use Rattle.list_call.specs.Within.{lengthsOf, Called}
 use Rattle.list_interface.specs.declared.ListAnswer.{ListAnswer}

@@ -19,7 +19,7 @@ use Rattle.origins.specs.declared.OriginAnswer.{OriginAnswer}
 use Rattle.origins.specs.Parts.{lentBy, Names}
 use Rattle.list_interface.specs.declared.ListAnswer.{ListAnswer}
 use Rattle.list_work.specs.Outcome.{Outputs, Tables}
-use Rattle.list_call.specs.Lent.{workspaceLent, toldOf, lentOf}
+use Rattle.list_lent.specs.Lent.{workspaceLent, toldOf, lentOf}
 use Rattle.list_call.specs.Within.{lengthsOf}
 use Rattle.path_rows.specs.declared.PathRow.{PathRow}
 use Rattle.path_rows.specs.Rows.{told}

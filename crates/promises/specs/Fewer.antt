@@ -9,7 +9,7 @@ use Rattle.definition.specs.Limits.{GraphMaxima, SearchMaxima, Input, longEnoug
 use Rattle.definition.specs.Promises.{AllElseEqual}
 use Rattle.limits.specs.Lengths.{listSlices, acceptedLengths}
 use Rattle.limits.specs.Long.{no-short, long-head}
-use Rattle.list_call.specs.Lent.{toldOf, slices-told}
+use Rattle.list_lent.specs.Lent.{toldOf, slices-told}
 
 -- none is above the one beside it
 abbrev Below : List ℕ → List ℕ → Type 0

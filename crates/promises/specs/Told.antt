@@ -16,7 +16,7 @@ use Rattle.graph_call.specs.declared.GraphAnswer.{GraphAnswer}
 use Rattle.graph_call.specs.Outcome.{Graphed}
 use Rattle.list_interface.specs.declared.ListAnswer.{ListAnswer}
 use Rattle.list_work.specs.Outcome.{Outputs, Tables}
-use Rattle.list_call.specs.Lent.{workspaceLent, toldOf, lentOf, slices-told}
+use Rattle.list_lent.specs.Lent.{workspaceLent, toldOf, lentOf, slices-told}
 use Rattle.list_call.specs.Within.{lengthsOf}
 use Rattle.path_rows.specs.declared.PathRow.{PathRow}
 use Rattle.caller.specs.Records.{slicesOf, ListCalled}

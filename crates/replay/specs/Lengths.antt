@@ -4,7 +4,7 @@ use mathlib.Core.List.{List, _++_}
 use Prim.Native.Nat.{ℕ, _≤_}
 use lib.ListN.{length, take, drop, replicate, length-replicate}
 use lib.Seq.{length-front}
-use Rattle.list_call.specs.declared.Lent.{Lent}
+use Rattle.list_lent.specs.declared.Lent.{Lent}
 
 -- Each length is at most that of its slice.
 pub record Fits (l : Lent) (of-row-scores of-row-closings of-row-edges of-bases of-sequences of-places of-vertices of-edges of-index of-nodes of-targets of-paths of-scores of-active of-queue of-closed of-order of-marks of-walks : ℕ) : Type 0 where

@@ -20,10 +20,10 @@ use agreement::agree::slots_left;
 use agreement::scores::LENT_BITS;
 use agreement::scores::scores_left;
 use limits::SearchMaxima;
-use list_call::Lent;
 use list_call::list_columns;
 use list_interface::ListAnswer;
 use list_interface::Settings;
+use list_lent::Lent;
 ghost use Prim.Native.Nat.{_≤_};
 ghost use Rattle.replay.specs.Lengths.{Fits};
 

@@ -9,195 +9,147 @@ use Rattle.assembly.proofs.add_edge.Tie as tie
 use Rattle.assembly.proofs.add_edge.Reads as reads
 use Rattle.assembly.proofs.add_edge.Lts as lts
 
--- src/lib.rt:107:24
 mul-ins : tie.Need-mul-ins
 mul-ins c = search needs
 
--- src/lib.rt:107:24
 add-ins : tie.Need-add-ins
 add-ins c = search needs
 
--- src/lib.rt:107:15
 mul-ins-2 : tie.Need-mul-ins-2
 mul-ins-2 c = search needs
 
--- src/lib.rt:107:15
 slice-read-ins : tie.Need-slice-read-ins
 slice-read-ins c = search needs
 
--- src/lib.rt:108:30
 cast-edges : tie.Need-cast-edges
 cast-edges c = search needs
 
--- src/lib.rt:108:11
 mul-edges : tie.Need-mul-edges
 mul-edges c = search needs
 
--- src/lib.rt:108:11
 add-edges : tie.Need-add-edges
 add-edges c = search needs
 
--- src/lib.rt:108:5
 mul-edges-2 : tie.Need-mul-edges-2
 mul-edges-2 c = search needs
 
--- src/lib.rt:108:5
 slice-write-edges : tie.Need-slice-write-edges
 slice-write-edges c = search needs
 
--- src/lib.rt:109:28
 cast-edges-2 : tie.Need-cast-edges-2
 cast-edges-2 c = search needs
 
--- src/lib.rt:109:11
 mul-edges-3 : tie.Need-mul-edges-3
 mul-edges-3 c = search needs
 
--- src/lib.rt:109:11
 add-edges-2 : tie.Need-add-edges-2
 add-edges-2 c = search needs
 
--- src/lib.rt:109:5
 mul-edges-4 : tie.Need-mul-edges-4
 mul-edges-4 c = search needs
 
--- src/lib.rt:109:5
 slice-write-edges-2 : tie.Need-slice-write-edges-2
 slice-write-edges-2 c = simp length-set (omega arith)
 
--- src/lib.rt:110:11
 mul-edges-5 : tie.Need-mul-edges-5
 mul-edges-5 c = search needs
 
--- src/lib.rt:110:11
 add-edges-3 : tie.Need-add-edges-3
 add-edges-3 c = search needs
 
--- src/lib.rt:110:5
 mul-edges-6 : tie.Need-mul-edges-6
 mul-edges-6 c = search needs
 
--- src/lib.rt:110:5
 slice-write-edges-3 : tie.Need-slice-write-edges-3
 slice-write-edges-3 c = simp length-set (omega arith)
 
--- src/lib.rt:111:11
 mul-edges-7 : tie.Need-mul-edges-7
 mul-edges-7 c = search needs
 
--- src/lib.rt:111:11
 add-edges-4 : tie.Need-add-edges-4
 add-edges-4 c = search needs
 
--- src/lib.rt:111:5
 mul-edges-8 : tie.Need-mul-edges-8
 mul-edges-8 c = search needs
 
--- src/lib.rt:111:5
 slice-write-edges-4 : tie.Need-slice-write-edges-4
 slice-write-edges-4 c = simp length-set (omega arith)
 
--- src/lib.rt:112:11
 mul-edges-9 : tie.Need-mul-edges-9
 mul-edges-9 c = search needs
 
--- src/lib.rt:112:11
 add-edges-5 : tie.Need-add-edges-5
 add-edges-5 c = search needs
 
--- src/lib.rt:112:5
 mul-edges-10 : tie.Need-mul-edges-10
 mul-edges-10 c = search needs
 
--- src/lib.rt:112:5
 slice-write-edges-5 : tie.Need-slice-write-edges-5
 slice-write-edges-5 c = simp length-set (omega arith)
 
--- src/lib.rt:113:11
 mul-edges-11 : tie.Need-mul-edges-11
 mul-edges-11 c = search needs
 
--- src/lib.rt:113:11
 add-edges-6 : tie.Need-add-edges-6
 add-edges-6 c = search needs
 
--- src/lib.rt:113:5
 mul-edges-12 : tie.Need-mul-edges-12
 mul-edges-12 c = search needs
 
--- src/lib.rt:113:5
 slice-write-edges-6 : tie.Need-slice-write-edges-6
 slice-write-edges-6 c = simp length-set (omega arith)
 
--- src/lib.rt:114:19
 add-number : tie.Need-add-number
 add-number c = search needs
 
--- src/lib.rt:114:18
 cast-number : tie.Need-cast-number
 cast-number c = search needs
 
--- src/lib.rt:115:14
 mul-vertices : tie.Need-mul-vertices
 mul-vertices c = search needs
 
--- src/lib.rt:115:14
 add-vertices : tie.Need-add-vertices
 add-vertices c = search needs
 
--- src/lib.rt:115:5
 mul-vertices-2 : tie.Need-mul-vertices-2
 mul-vertices-2 c = search needs
 
--- src/lib.rt:115:5
 slice-write-vertices : tie.Need-slice-write-vertices
 slice-write-vertices c = search needs
 
--- src/lib.rt:116:35
 add-vertices-2 : tie.Need-add-vertices-2
 add-vertices-2 c = search needs
 
--- src/lib.rt:116:14
 mul-vertices-3 : tie.Need-mul-vertices-3
 mul-vertices-3 c = search needs
 
--- src/lib.rt:116:14
 add-vertices-3 : tie.Need-add-vertices-3
 add-vertices-3 c = search needs
 
--- src/lib.rt:116:5
 mul-vertices-4 : tie.Need-mul-vertices-4
 mul-vertices-4 c = search needs
 
--- src/lib.rt:116:5
 slice-write-vertices-2 : tie.Need-slice-write-vertices-2
 slice-write-vertices-2 c = simp length-set (omega arith)
 
--- src/lib.rt:117:14
 mul-vertices-5 : tie.Need-mul-vertices-5
 mul-vertices-5 c = search needs
 
--- src/lib.rt:117:14
 add-vertices-4 : tie.Need-add-vertices-4
 add-vertices-4 c = search needs
 
--- src/lib.rt:117:5
 mul-vertices-6 : tie.Need-mul-vertices-6
 mul-vertices-6 c = search needs
 
--- src/lib.rt:117:5
 slice-write-vertices-3 : tie.Need-slice-write-vertices-3
 slice-write-vertices-3 c = simp length-set (omega arith)
 
--- src/lib.rt:103:1
 same-length : tie.Need-same-length
 same-length c = search needs
 
--- src/lib.rt:103:1
 same-length-2 : tie.Need-same-length-2
 same-length-2 c = simp length-set
 
--- src/lib.rt:103:1
 returns : tie.Need-returns
 unfolding addedE addedV oneStep
 returns c = (refl, refl)

@@ -8,119 +8,90 @@ use Rattle.assembly.proofs.add_symbolic_edge.Tie as tie
 use Rattle.assembly.proofs.add_symbolic_edge.Reads as reads
 use Rattle.assembly.proofs.add_symbolic_edge.Lts as lts
 
--- src/lib.rt:228:30
 cast-edges : tie.Need-cast-edges
 cast-edges c = search needs
 
--- src/lib.rt:228:11
 mul-edges : tie.Need-mul-edges
 mul-edges c = search needs
 
--- src/lib.rt:228:11
 add-edges : tie.Need-add-edges
 add-edges c = search needs
 
--- src/lib.rt:228:5
 mul-edges-2 : tie.Need-mul-edges-2
 mul-edges-2 c = search needs
 
--- src/lib.rt:228:5
 slice-write-edges : tie.Need-slice-write-edges
 slice-write-edges c = search needs
 
--- src/lib.rt:229:28
 cast-edges-2 : tie.Need-cast-edges-2
 cast-edges-2 c = search needs
 
--- src/lib.rt:229:11
 mul-edges-3 : tie.Need-mul-edges-3
 mul-edges-3 c = search needs
 
--- src/lib.rt:229:11
 add-edges-2 : tie.Need-add-edges-2
 add-edges-2 c = search needs
 
--- src/lib.rt:229:5
 mul-edges-4 : tie.Need-mul-edges-4
 mul-edges-4 c = search needs
 
--- src/lib.rt:229:5
 slice-write-edges-2 : tie.Need-slice-write-edges-2
 slice-write-edges-2 c = simp length-set (omega arith)
 
--- src/lib.rt:230:11
 mul-edges-5 : tie.Need-mul-edges-5
 mul-edges-5 c = search needs
 
--- src/lib.rt:230:11
 add-edges-3 : tie.Need-add-edges-3
 add-edges-3 c = search needs
 
--- src/lib.rt:230:5
 mul-edges-6 : tie.Need-mul-edges-6
 mul-edges-6 c = search needs
 
--- src/lib.rt:230:5
 slice-write-edges-3 : tie.Need-slice-write-edges-3
 slice-write-edges-3 c = simp length-set (omega arith)
 
--- src/lib.rt:231:11
 mul-edges-7 : tie.Need-mul-edges-7
 mul-edges-7 c = search needs
 
--- src/lib.rt:231:11
 add-edges-4 : tie.Need-add-edges-4
 add-edges-4 c = search needs
 
--- src/lib.rt:231:5
 mul-edges-8 : tie.Need-mul-edges-8
 mul-edges-8 c = search needs
 
--- src/lib.rt:231:5
 slice-write-edges-4 : tie.Need-slice-write-edges-4
 slice-write-edges-4 c = simp length-set (omega arith)
 
--- src/lib.rt:232:11
 mul-edges-9 : tie.Need-mul-edges-9
 mul-edges-9 c = search needs
 
--- src/lib.rt:232:11
 add-edges-5 : tie.Need-add-edges-5
 add-edges-5 c = search needs
 
--- src/lib.rt:232:5
 mul-edges-10 : tie.Need-mul-edges-10
 mul-edges-10 c = search needs
 
--- src/lib.rt:232:5
 slice-write-edges-5 : tie.Need-slice-write-edges-5
 slice-write-edges-5 c = simp length-set (omega arith)
 
--- src/lib.rt:233:31
 cast-edges-3 : tie.Need-cast-edges-3
 cast-edges-3 c = search needs
 
--- src/lib.rt:233:11
 mul-edges-11 : tie.Need-mul-edges-11
 mul-edges-11 c = search needs
 
--- src/lib.rt:233:11
 add-edges-6 : tie.Need-add-edges-6
 add-edges-6 c = search needs
 
--- src/lib.rt:233:5
 mul-edges-12 : tie.Need-mul-edges-12
 mul-edges-12 c = search needs
 
--- src/lib.rt:233:5
 slice-write-edges-6 : tie.Need-slice-write-edges-6
 slice-write-edges-6 c = simp length-set (omega arith)
 
--- src/lib.rt:224:1
 same-length : tie.Need-same-length
 same-length c = search needs
 
--- src/lib.rt:224:1
 returns : tie.Need-returns
 unfolding addedE
 returns c = refl

@@ -5,19 +5,15 @@ use Rattle.assembly.proofs.byte_at.Tie as tie
 use Rattle.assembly.proofs.byte_at.Reads as reads
 use Rattle.assembly.proofs.byte_at.Lts as lts
 
--- src/lib.rt:54:16
 shared-slice-read-result : tie.Need-shared-slice-read-result
 shared-slice-read-result c = search needs
 
--- src/lib.rt:54:9
 returns : tie.Need-returns
 returns c = let a = c .before .before .args in text-front (a .reference .now) (a .bases .now) (a .p) (c .before .if1 .taken)
 
--- src/lib.rt:56:5
 shared-slice-read-result-2 : tie.Need-shared-slice-read-result-2
 shared-slice-read-result-2 c = search needs
 
--- src/lib.rt:48:1
 returns-2 : tie.Need-returns-2
 returns-2 c = let a = c .before .before .args in text-back (a .reference .now) (a .bases .now) (a .p) (c .before .if1 .left)
 

@@ -6,31 +6,24 @@ use Rattle.assembly.proofs.create_vertex.Tie as tie
 use Rattle.assembly.proofs.create_vertex.Reads as reads
 use Rattle.assembly.proofs.create_vertex.Lts as lts
 
--- src/lib.rt:177:33
 cast-vertices : tie.Need-cast-vertices
 cast-vertices c = search needs
 
--- src/lib.rt:177:14
 mul-vertices : tie.Need-mul-vertices
 mul-vertices c = search needs
 
--- src/lib.rt:177:14
 add-vertices : tie.Need-add-vertices
 add-vertices c = search needs
 
--- src/lib.rt:177:5
 mul-vertices-2 : tie.Need-mul-vertices-2
 mul-vertices-2 c = search needs
 
--- src/lib.rt:177:5
 slice-write-vertices : tie.Need-slice-write-vertices
 slice-write-vertices c = search needs
 
--- src/lib.rt:173:1
 same-length : tie.Need-same-length
 same-length c = search needs
 
--- src/lib.rt:173:1
 returns : tie.Need-returns
 unfolding born
 returns c = refl

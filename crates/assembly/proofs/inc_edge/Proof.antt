@@ -8,60 +8,46 @@ use Rattle.assembly.proofs.inc_edge.Tie as tie
 use Rattle.assembly.proofs.inc_edge.Reads as reads
 use Rattle.assembly.proofs.inc_edge.Lts as lts
 
--- src/lib.rt:95:11
 mul-edges : tie.Need-mul-edges
 mul-edges c = search needs
 
--- src/lib.rt:95:11
 add-edges : tie.Need-add-edges
 add-edges c = search needs
 
--- src/lib.rt:95:5
 mul-edges-2 : tie.Need-mul-edges-2
 mul-edges-2 c = search needs
 
--- src/lib.rt:95:5
 slice-read-edges : tie.Need-slice-read-edges
 slice-read-edges c = search needs
 
--- src/lib.rt:95:5
 add-edges-2 : tie.Need-add-edges-2
 add-edges-2 c = search needs
 
--- src/lib.rt:95:5
 slice-write-edges : tie.Need-slice-write-edges
 slice-write-edges c = search needs
 
--- src/lib.rt:97:9
 same-length : tie.Need-same-length
 same-length c = search needs
 
--- src/lib.rt:97:9
 returns : tie.Need-returns
 unfolding gained
 returns c = rw (eq-eqb _ _ (c .if1 .taken))
 
--- src/lib.rt:99:11
 mul-edges-3 : tie.Need-mul-edges-3
 mul-edges-3 c = search needs
 
--- src/lib.rt:99:11
 add-edges-3 : tie.Need-add-edges-3
 add-edges-3 c = search needs
 
--- src/lib.rt:99:5
 mul-edges-4 : tie.Need-mul-edges-4
 mul-edges-4 c = search needs
 
--- src/lib.rt:99:5
 slice-write-edges-2 : tie.Need-slice-write-edges-2
 slice-write-edges-2 c = simp length-set (omega arith)
 
--- src/lib.rt:91:1
 same-length-2 : tie.Need-same-length-2
 same-length-2 c = search needs
 
--- src/lib.rt:91:1
 returns-2 : tie.Need-returns-2
 unfolding gained
 returns-2 c = rw (ne-eqb _ _ (c .if1 .left))

@@ -7,71 +7,54 @@ use Rattle.assembly.proofs.lesser.Tie as tie
 use Rattle.assembly.proofs.lesser.Reads as reads
 use Rattle.assembly.proofs.lesser.Lts as lts
 
--- src/lib.rt:205:9
 returns : tie.Need-returns
 returns c = lesser-empty _ _ _ _ (c .if1 .taken)
 
--- src/lib.rt:207:13
 sub-i : tie.Need-sub-i
 sub-i c = search needs
 
--- src/lib.rt:208:19
 mul-w : tie.Need-mul-w
 mul-w c = let h = c .before .pre .1 (let z = c .if1 .left in omega arith) in let g = c .before .good .0 in omega arith
 
--- src/lib.rt:208:19
 add-w : tie.Need-add-w
 add-w c = let h = c .before .pre .1 (let z = c .if1 .left in omega arith) in let g = c .before .good .0 in omega arith
 
--- src/lib.rt:208:13
 mul-w-2 : tie.Need-mul-w-2
 mul-w-2 c = let h = c .before .pre .1 (let z = c .if1 .left in omega arith) in let g = c .before .good .0 in omega arith
 
--- src/lib.rt:208:13
 shared-slice-read-w : tie.Need-shared-slice-read-w
 shared-slice-read-w c = let h = c .before .before .pre .1 (let z = c .before .if1 .left in omega arith) in let g = c .before .before .good .0 in omega arith
 
--- src/lib.rt:208:13
 cast-w : tie.Need-cast-w
 cast-w c = let a = c .before .before .args in omega (arith, c .shared-slice-known .given ((a .slot - 1) * 6 + 1))
 
--- src/lib.rt:210:9
 returns-2 : tie.Need-returns-2
 returns-2 c = lesser-low _ _ _ _ (c .if2 .taken)
 
--- src/lib.rt:213:9
 returns-3 : tie.Need-returns-3
 returns-3 c = lesser-first _ _ _ _ (c .before .before .before .if1 .left) (c .before .if2 .left) (c .if3 .taken)
 
--- src/lib.rt:215:13
 sub-j : tie.Need-sub-j
 sub-j c = search needs
 
--- src/lib.rt:216:20
 mul-to : tie.Need-mul-to
 mul-to c = let h = c .before .before .before .before .pre .0 (let z = c .if3 .left in omega arith) in let g = c .before .before .before .before .good .0 in omega arith
 
--- src/lib.rt:216:20
 add-to : tie.Need-add-to
 add-to c = let h = c .before .before .before .before .pre .0 (let z = c .if3 .left in omega arith) in let g = c .before .before .before .before .good .0 in omega arith
 
--- src/lib.rt:216:14
 mul-to-2 : tie.Need-mul-to-2
 mul-to-2 c = let h = c .before .before .before .before .pre .0 (let z = c .if3 .left in omega arith) in let g = c .before .before .before .before .good .0 in omega arith
 
--- src/lib.rt:216:14
 shared-slice-read-to : tie.Need-shared-slice-read-to
 shared-slice-read-to c = let h = c .before .before .before .before .before .pre .0 (let z = c .before .if3 .left in omega arith) in let g = c .before .before .before .before .before .good .0 in omega arith
 
--- src/lib.rt:216:14
 cast-to : tie.Need-cast-to
 cast-to c = let a = c .before .before .before .before .before .args in omega (arith, c .shared-slice-known2 .given ((a .best - 1) * 6 + 1))
 
--- src/lib.rt:218:9
 returns-4 : tie.Need-returns-4
 returns-4 c = lesser-new _ _ _ _ (c .before .before .before .before .before .if1 .left) (c .before .before .before .if2 .left) (c .if4 .taken)
 
--- src/lib.rt:200:1
 returns-5 : tie.Need-returns-5
 returns-5 c = lesser-old _ _ _ _ (c .before .before .if3 .left) (c .if4 .left)
 

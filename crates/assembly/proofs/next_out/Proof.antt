@@ -13,47 +13,36 @@ Inv-loop vertices edges v t best₀ c₀ best c = Best vertices edges v t c best
 abbrev μ-loop : tie.MeasureT-loop
 μ-loop vertices edges v t best₀ c₀ best c = 8 - c
 
--- src/lib.rt:230:5
 loop-holds : tie.Need-loop-holds Inv-loop μ-loop
 loop-holds c = (best-start _ _ _ _, λ z. absurd (omega arith))
 
--- src/lib.rt:231:29
 mul-slot : tie.Need-mul-slot Inv-loop μ-loop
 mul-slot c = let h = c .before .before .before .before .pre .0 in let l = c .loop-test .taken in let g = c .before .before .before .before .good .0 in omega arith
 
--- src/lib.rt:231:29
 add-slot : tie.Need-add-slot Inv-loop μ-loop
 add-slot c = let h = c .before .before .before .before .pre .0 in let l = c .loop-test .taken in let g = c .before .before .before .before .good .0 in omega arith
 
--- src/lib.rt:231:20
 mul-slot-2 : tie.Need-mul-slot-2 Inv-loop μ-loop
 mul-slot-2 c = let h = c .before .before .before .before .pre .0 in let l = c .loop-test .taken in let g = c .before .before .before .before .good .0 in omega arith
 
--- src/lib.rt:231:20
 shared-slice-read-slot : tie.Need-shared-slice-read-slot Inv-loop μ-loop
 shared-slice-read-slot c = let h = c .before .before .before .before .before .pre .0 in let l = c .before .loop-test .taken in let g = c .before .before .before .before .before .good .0 in omega arith
 
--- src/lib.rt:231:20
 cast-slot : tie.Need-cast-slot Inv-loop μ-loop
 cast-slot c = let a = c .before .before .before .before .before .args in omega (arith, c .shared-slice-known3 .given (a .v * 12 + c .before .before .loop .c))
 
--- src/lib.rt:232:9
 lesser-requires : tie.Need-lesser-requires Inv-loop μ-loop
 lesser-requires c κs = (c .before .before .loop .inv .1, c .before .before .before .before .before .pre .1 (c .before .before .loop .c) (c .before .loop-test .taken))
 
--- src/lib.rt:233:9
 add-c : tie.Need-add-c Inv-loop μ-loop
 add-c c = let l = c .before .before .loop-test .taken in omega arith
 
--- src/lib.rt:230:5
 loop-less : tie.Need-loop-less Inv-loop μ-loop
 loop-less c = let l = c .before .before .loop-test .taken in omega arith
 
--- src/lib.rt:230:5
 loop-again : tie.Need-loop-again Inv-loop μ-loop
 loop-again c = (best-next _ _ _ _ _ _ _ (c .before .before .before .loop .inv .0) (c .before .before .loop-test .taken) (c .lesser .ensures), names-next _ _ _ _ _ (c .before .before .before .loop .inv .1) (c .before .before .before .before .before .before .pre .1 (c .before .before .before .loop .c) (c .before .before .loop-test .taken)) (c .lesser .ensures))
 
--- src/lib.rt:224:1
 returns : tie.Need-returns Inv-loop μ-loop
 returns c = best-end _ _ _ _ _ _ (c .before .loop .inv .0) (c .loop-test .left)
 

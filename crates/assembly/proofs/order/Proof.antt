@@ -14,83 +14,63 @@ Inv-loop vertices edges m out₀ v₀ t₀ p₀ out v t p = Passing edges out₀
 abbrev μ-loop : tie.MeasureT-loop
 μ-loop vertices edges m out₀ v₀ t₀ p₀ out v t p = (length vertices - v) + (m - p)
 
--- src/lib.rt:247:5
 loop-holds : tie.Need-loop-holds Inv-loop μ-loop
 loop-holds c = pass-start (c .before .before .before .pre)
 
--- src/lib.rt:248:13
 next-out-requires : tie.Need-next-out-requires Inv-loop μ-loop
 next-out-requires c κs = pass-names (c .before .before .before .before .before .pre) (c .before .loop .inv) (c .loop-test .taken)
 
--- src/lib.rt:250:13
 add-v : tie.Need-add-v Inv-loop μ-loop
 add-v c = let w = pass-v (c .before .before .before .before .before .before .before .pre) (c .before .before .before .loop .inv) (c .before .before .loop-test .taken) in let g = c .before .before .before .before .before .before .before .good .0 in omega arith
 
--- src/lib.rt:247:5
 loop-less : tie.Need-loop-less Inv-loop μ-loop
 loop-less c = let w = pass-v (c .before .before .before .before .before .before .before .pre) (c .before .before .before .loop .inv) (c .before .before .loop-test .taken) in let l = c .before .before .loop-test .taken in omega arith
 
--- src/lib.rt:247:5
 loop-again : tie.Need-loop-again Inv-loop μ-loop
 loop-again c = pass-skip (c .before .before .before .before .before .before .before .pre) (c .before .before .before .loop .inv) (c .before .before .loop-test .taken) (c .before .next-out .ensures) (c .if1 .taken)
 
--- src/lib.rt:253:21
 sub-i : tie.Need-sub-i Inv-loop μ-loop
 sub-i c = let z = c .if1 .left in omega arith
 
--- src/lib.rt:254:22
 cast-out : tie.Need-cast-out Inv-loop μ-loop
 cast-out c = let w = pass-in (c .before .before .before .before .before .before .before .pre) (c .before .before .before .loop .inv) (c .before .before .loop-test .taken) (c .before .next-out .ensures) (c .if1 .left) in let f = c .before .before .before .before .before .before .before .pre .few-e in omega arith
 
--- src/lib.rt:254:13
 mul-out : tie.Need-mul-out Inv-loop μ-loop
 mul-out c = let l = c .before .before .loop-test .taken in let f = c .before .before .before .before .before .before .before .pre .few-e in omega arith
 
--- src/lib.rt:254:13
 slice-write-out : tie.Need-slice-write-out Inv-loop μ-loop
 slice-write-out c = pass-o (c .before .before .before .before .before .before .before .pre) (c .before .before .before .loop .inv) (c .before .before .loop-test .taken) (c .before .next-out .ensures) (c .if1 .left)
 
--- src/lib.rt:255:13
 add-p : tie.Need-add-p Inv-loop μ-loop
 add-p c = let l = c .before .before .loop-test .taken in let f = c .before .before .before .before .before .before .before .fits .m in omega arith
 
--- src/lib.rt:256:23
 mul-t : tie.Need-mul-t Inv-loop μ-loop
 mul-t c = let w = pass-in (c .before .before .before .before .before .before .before .pre) (c .before .before .before .loop .inv) (c .before .before .loop-test .taken) (c .before .next-out .ensures) (c .if1 .left) in let f = c .before .before .before .before .before .before .before .pre .few-e in omega arith
 
--- src/lib.rt:256:23
 add-t : tie.Need-add-t Inv-loop μ-loop
 add-t c = let w = pass-in (c .before .before .before .before .before .before .before .pre) (c .before .before .before .loop .inv) (c .before .before .loop-test .taken) (c .before .next-out .ensures) (c .if1 .left) in let f = c .before .before .before .before .before .before .before .pre .few-e in omega arith
 
--- src/lib.rt:256:17
 mul-t-2 : tie.Need-mul-t-2 Inv-loop μ-loop
 mul-t-2 c = let w = pass-in (c .before .before .before .before .before .before .before .pre) (c .before .before .before .loop .inv) (c .before .before .loop-test .taken) (c .before .next-out .ensures) (c .if1 .left) in let f = c .before .before .before .before .before .before .before .pre .few-e in omega arith
 
--- src/lib.rt:256:17
 shared-slice-read-t : tie.Need-shared-slice-read-t Inv-loop μ-loop
 shared-slice-read-t c = let w = pass-room (c .before .before .before .before .before .before .before .before .pre) (c .before .before .before .before .loop .inv) (c .before .before .before .loop-test .taken) (c .before .before .next-out .ensures) (c .before .if1 .left) in omega arith
 
--- src/lib.rt:256:17
 cast-t : tie.Need-cast-t Inv-loop μ-loop
 cast-t c = omega (arith, c .shared-slice-known3 .given ((c .before .before .next-out .result - 1) * 6 + 1))
 
--- src/lib.rt:256:17
 add-t-2 : tie.Need-add-t-2 Inv-loop μ-loop
 add-t-2 c = omega (arith, c .shared-slice-known3 .given ((c .before .before .next-out .result - 1) * 6 + 1))
 
--- src/lib.rt:247:5
 loop-less-2 : tie.Need-loop-less-2 Inv-loop μ-loop
 loop-less-2 c = let l = c .before .before .before .loop-test .taken in omega arith
 
--- src/lib.rt:247:5
 loop-again-2 : tie.Need-loop-again-2 Inv-loop μ-loop
 loop-again-2 c = pass-take (c .before .before .before .before .before .before .before .before .pre) (c .before .before .before .before .loop .inv) (c .before .before .before .loop-test .taken) (c .before .before .next-out .ensures) (c .before .if1 .left)
 
--- src/lib.rt:240:1
 same-length : tie.Need-same-length Inv-loop μ-loop
 same-length c = c .before .loop .inv .same
 
--- src/lib.rt:240:1
 returns : tie.Need-returns Inv-loop μ-loop
 returns c = pass-end (c .before .before .before .before .before .pre) (c .before .loop .inv) (c .loop-test .left)
 

@@ -15,35 +15,27 @@ Inv-loop vertices v n₀ c₀ n c = Counted vertices v c n
 abbrev μ-loop : tie.MeasureT-loop
 μ-loop vertices v n₀ c₀ n c = 8 - c
 
--- src/lib.rt:104:5
 loop-holds : tie.Need-loop-holds Inv-loop μ-loop
 loop-holds c = counted-start _ _
 
--- src/lib.rt:105:20
 out-edge-requires : tie.Need-out-edge-requires Inv-loop μ-loop
 out-edge-requires c κs = ((c .before .before .before .pre), (c .loop-test) .taken)
 
--- src/lib.rt:105:14
 there-requires : tie.Need-there-requires Inv-loop μ-loop
 there-requires c κs = search needs
 
--- src/lib.rt:105:9
 add-n : tie.Need-add-n Inv-loop μ-loop
 add-n c = let h = counted-le _ _ _ _ _ _ ((c .before .before .before .loop) .inv) ((c .before .before .loop-test) .taken) ((c .before .out-edge) .ensures) ((c .there) .ensures) in omega arith
 
--- src/lib.rt:106:9
 add-c : tie.Need-add-c Inv-loop μ-loop
 add-c c = let l = (c .before .before .loop-test) .taken in omega arith
 
--- src/lib.rt:104:5
 loop-less : tie.Need-loop-less Inv-loop μ-loop
 loop-less c = let l = (c .before .before .loop-test) .taken in omega arith
 
--- src/lib.rt:104:5
 loop-again : tie.Need-loop-again Inv-loop μ-loop
 loop-again c = counted-next _ _ _ _ _ _ ((c .before .before .before .loop) .inv) ((c .before .before .loop-test) .taken) ((c .before .out-edge) .ensures) ((c .there) .ensures)
 
--- src/lib.rt:98:1
 returns : tie.Need-returns Inv-loop μ-loop
 returns c = counted-end _ _ _ _ ((c .before .loop) .inv) ((c .loop-test) .left)
 

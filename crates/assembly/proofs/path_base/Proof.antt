@@ -13,55 +13,42 @@ use Rattle.assembly.proofs.edge_to.Reads as edge-to-reads
 use Rattle.assembly.proofs.kmer_place.Reads as kmer-place-reads
 use Rattle.assembly.proofs.wide.Reads as wide-reads
 
--- src/lib.rt:322:42
 kmer-place-requires : tie.Need-kmer-place-requires
 kmer-place-requires c κs = search needs
 
--- src/lib.rt:322:42
 add-byte-at : tie.Need-add-byte-at
 add-byte-at c = search needs
 
--- src/lib.rt:322:9
 byte-at-requires : tie.Need-byte-at-requires
 byte-at-requires c κs = let a = (c .before .before .before .before .before .before .before .args) in let p = (c .before .before .before .before .before .before .before .pre) .0 .first-fits in let h = (c .kmer-place) .ensures in let l = (c .before .if1) .taken in omega (arith, length-append (a .reference .now) (a .bases .now))
 
--- src/lib.rt:322:9
 returns : tie.Need-returns
 returns c = (c .byte-at) .ensures ∙ base-first ((c .before .before .before .before .before .before .before .before .pre) .0) ((c .before .before .before .before .before .before .before .before .args) .i) ((c .before .before .if1) .taken) _ ((c .before .kmer-place) .ensures)
 
--- src/lib.rt:324:18
 mul-wide : tie.Need-mul-wide
 mul-wide c = search needs
 
--- src/lib.rt:324:18
 shared-slice-read-wide : tie.Need-shared-slice-read-wide
 shared-slice-read-wide c = search needs
 
--- src/lib.rt:324:9
 wide-requires : tie.Need-wide-requires
 wide-requires c κs = search needs
 
--- src/lib.rt:325:9
 edge-to-requires : tie.Need-edge-to-requires
 edge-to-requires c κs = base-edge ((c .before .before .before .before .before .before .before .before .pre) .0) ((c .before .before .before .before .before .before .before .before .args) .i) ((c .before .before .if1) .left) ((c .before .before .before .before .before .before .before .before .pre) .1) _ ((c .wide) .ensures)
 
--- src/lib.rt:326:31
 kmer-place-requires-2 : tie.Need-kmer-place-requires-2
 kmer-place-requires-2 c κs = base-room ((c .before .before .before .before .before .before .before .before .before .pre) .0) ((c .before .before .before .before .before .before .before .before .before .args) .i) ((c .before .before .before .if1) .left) ((c .before .before .before .before .before .before .before .before .before .pre) .1) _ ((c .before .wide) .ensures) _ ((c .edge-to) .ensures)
 
--- src/lib.rt:326:31
 add-byte-at-2 : tie.Need-add-byte-at-2
 add-byte-at-2 c = let h = base-fits ((c .before .before .before .before .before .before .before .before .before .before .pre) .0) ((c .before .before .before .before .before .before .before .before .before .before .args) .i) ((c .before .before .before .before .if1) .left) ((c .before .before .before .before .before .before .before .before .before .before .pre) .1) _ ((c .before .before .wide) .ensures) _ ((c .before .edge-to) .ensures) _ ((c .kmer-place2) .ensures) in let s = (c .before .before .before .before .before .before .before .before .before .before .pre) .0 .small in omega arith
 
--- src/lib.rt:326:31
 sub-byte-at : tie.Need-sub-byte-at
 sub-byte-at c = let h = (c .before .before .before .before .before .before .before .before .before .before .pre) .0 .some in omega arith
 
--- src/lib.rt:326:5
 byte-at-requires-2 : tie.Need-byte-at-requires-2
 byte-at-requires-2 c κs = let a = (c .before .before .before .before .before .before .before .before .before .before .args) in let h = base-fits ((c .before .before .before .before .before .before .before .before .before .before .pre) .0) ((c .before .before .before .before .before .before .before .before .before .before .args) .i) ((c .before .before .before .before .if1) .left) ((c .before .before .before .before .before .before .before .before .before .before .pre) .1) _ ((c .before .before .wide) .ensures) _ ((c .before .edge-to) .ensures) _ ((c .kmer-place2) .ensures) in let s = (c .before .before .before .before .before .before .before .before .before .before .pre) .0 .some in omega (arith, length-append (a .reference .now) (a .bases .now))
 
--- src/lib.rt:308:1
 returns-2 : tie.Need-returns-2
 returns-2 c = (c .byte-at2) .ensures ∙ base-later ((c .before .before .before .before .before .before .before .before .before .before .before .pre) .0) ((c .before .before .before .before .before .before .before .before .before .before .before .args) .i) ((c .before .before .before .before .before .if1) .left) ((c .before .before .before .before .before .before .before .before .before .before .before .pre) .1) _ ((c .before .before .before .wide) .ensures) _ ((c .before .before .edge-to) .ensures) _ ((c .before .kmer-place2) .ensures)
 

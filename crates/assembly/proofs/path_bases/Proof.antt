@@ -15,43 +15,33 @@ Inv-loop reference bases vertices edges k path e out₀ at n i₀ out i = Writte
 abbrev μ-loop : tie.MeasureT-loop
 μ-loop reference bases vertices edges k path e out₀ at n i₀ out i = n - i
 
--- src/lib.rt:344:13
 add-n : tie.Need-add-n Inv-loop μ-loop
 add-n c = let r = (c .before .before .before .before .before .before .pre) .1 in omega arith
 
--- src/lib.rt:346:5
 loop-holds : tie.Need-loop-holds Inv-loop μ-loop
 loop-holds c = written-start _ _ _
 
--- src/lib.rt:347:23
 path-base-requires : tie.Need-path-base-requires Inv-loop μ-loop
 path-base-requires c κs = ((c .before .before .before .before .before .before .before .before .pre) .0, (c .loop-test) .taken)
 
--- src/lib.rt:347:13
 add-out : tie.Need-add-out Inv-loop μ-loop
 add-out c = let r = (c .before .before .before .before .before .before .before .before .before .pre) .1 in let l = (c .before .loop-test) .taken in omega arith
 
--- src/lib.rt:347:9
 slice-write-out : tie.Need-slice-write-out Inv-loop μ-loop
 slice-write-out c = let r = (c .before .before .before .before .before .before .before .before .before .pre) .1 in let l = (c .before .loop-test) .taken in let s = (c .before .before .loop) .inv .same in omega arith
 
--- src/lib.rt:348:9
 add-i : tie.Need-add-i Inv-loop μ-loop
 add-i c = let r = (c .before .before .before .before .before .before .before .before .before .pre) .1 in let l = (c .before .loop-test) .taken in omega arith
 
--- src/lib.rt:346:5
 loop-less : tie.Need-loop-less Inv-loop μ-loop
 loop-less c = let l = (c .before .loop-test) .taken in omega arith
 
--- src/lib.rt:346:5
 loop-again : tie.Need-loop-again Inv-loop μ-loop
 loop-again c = path-next ((c .before .before .before .before .before .before .before .before .before .pre) .0) _ ((c .before .before .before .before .before .before .before .before .before .args) .at) ((c .before .before .before .before .before .before .before .before .before .pre) .1) _ _ _ ((c .before .before .loop) .inv) ((c .before .loop-test) .taken) ((c .path-base) .ensures)
 
--- src/lib.rt:330:1
 same-length : tie.Need-same-length Inv-loop μ-loop
 same-length c = (c .before .loop) .inv .same
 
--- src/lib.rt:330:1
 returns : tie.Need-returns Inv-loop μ-loop
 returns c = path-end ((c .before .before .before .before .before .before .before .before .pre) .0) _ ((c .before .before .before .before .before .before .before .before .args) .at) ((c .before .before .before .before .before .before .before .before .pre) .1) _ _ ((c .before .loop) .inv) ((c .loop-test) .left)
 

@@ -16,43 +16,33 @@ Inv-loop reference bases k p q j₀ j = Alike (reference ++ bases) k p q j
 abbrev μ-loop : tie.MeasureT-loop
 μ-loop reference bases k p q j₀ j = k - j
 
--- src/lib.rt:65:5
 loop-holds : tie.Need-loop-holds Inv-loop μ-loop
 loop-holds c = alike-start _ _ _ _
 
--- src/lib.rt:66:38
 add-byte-at : tie.Need-add-byte-at Inv-loop μ-loop
 add-byte-at c = let a = c .before .before .before .before .args in let h = c .before .before .before .before .pre .0 in let l = c .loop-test .taken in omega (arith, length-append (a .reference .now) (a .bases .now))
 
--- src/lib.rt:66:12
 byte-at-requires : tie.Need-byte-at-requires Inv-loop μ-loop
 byte-at-requires c κs = let a = c .before .before .before .before .args in text-in (a .p) (a .k) (c .before .loop .j) (a .reference .now) (a .bases .now) (c .before .before .before .before .pre .0) (c .loop-test .taken)
 
--- src/lib.rt:66:74
 add-byte-at-2 : tie.Need-add-byte-at-2 Inv-loop μ-loop
 add-byte-at-2 c = let a = c .before .before .before .before .before .args in let h = c .before .before .before .before .before .pre .1 in let l = c .before .loop-test .taken in omega (arith, length-append (a .reference .now) (a .bases .now))
 
--- src/lib.rt:66:48
 byte-at-requires-2 : tie.Need-byte-at-requires-2 Inv-loop μ-loop
 byte-at-requires-2 c κs = let a = c .before .before .before .before .before .args in text-in (a .q) (a .k) (c .before .before .loop .j) (a .reference .now) (a .bases .now) (c .before .before .before .before .before .pre .1) (c .before .loop-test .taken)
 
--- src/lib.rt:67:13
 returns : tie.Need-returns Inv-loop μ-loop
 returns c = let a = c .before .before .before .before .before .before .before .args in alike-not (a .reference .now ++ a .bases .now) (a .k) (a .p) (a .q) (c .before .before .before .before .loop .j) (c .before .before .before .loop-test .taken) (λ z. c .if1 .taken (c .before .before .byte-at .ensures ∙ z ∙ sym (c .before .byte-at2 .ensures)))
 
--- src/lib.rt:69:9
 add-j : tie.Need-add-j Inv-loop μ-loop
 add-j c = let f = c .before .before .before .before .before .before .before .fits .k in let l = c .before .before .before .loop-test .taken in omega arith
 
--- src/lib.rt:65:5
 loop-less : tie.Need-loop-less Inv-loop μ-loop
 loop-less c = omega arith
 
--- src/lib.rt:65:5
 loop-again : tie.Need-loop-again Inv-loop μ-loop
 loop-again c = let a = c .before .before .before .before .before .before .before .args in alike-next (a .reference .now ++ a .bases .now) (a .k) (a .p) (a .q) (c .before .before .before .before .loop .j) (c .before .before .before .before .loop .inv) (c .before .before .before .loop-test .taken) (sym (c .before .before .byte-at .ensures) ∙ c .if1 .left ∙ c .before .byte-at2 .ensures)
 
--- src/lib.rt:60:1
 returns-2 : tie.Need-returns-2 Inv-loop μ-loop
 returns-2 c = let a = c .before .before .before .before .args in alike-end (a .reference .now ++ a .bases .now) (a .k) (a .p) (a .q) (c .before .loop .j) (c .before .loop .inv) (c .loop-test .left) (c .before .before .before .before .pre .0) (c .before .before .before .before .pre .1)
 

@@ -6,27 +6,21 @@ use Rattle.junction_kbest.proofs.found.Tie as tie
 use Rattle.junction_kbest.proofs.found.Reads as reads
 use Rattle.junction_kbest.proofs.found.Lts as lts
 
--- src/lib.rt:344:28
 enum-told : tie.Need-enum-told
 enum-told c = search needs
 
--- src/lib.rt:345:26
 enum-told-2 : tie.Need-enum-told-2
 enum-told-2 c = search needs
 
--- src/lib.rt:346:25
 enum-known-r : tie.Need-enum-known-r
 enum-known-r c = search needs
 
--- src/lib.rt:340:1
 returns : tie.Need-returns
 returns c = found-on _ _ _ (c .enum-told .given .1)
 
--- src/lib.rt:340:1
 returns-2 : tie.Need-returns-2
 returns-2 c = found-ended _ _ (c .enum-told2 .given .1)
 
--- src/lib.rt:340:1
 returns-3 : tie.Need-returns-3
 returns-3 c = found-refused _ _ _ (c .before .r .given .1)
 

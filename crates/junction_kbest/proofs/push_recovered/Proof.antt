@@ -7,35 +7,27 @@ use Rattle.junction_kbest.proofs.push_recovered.Reads as reads
 use Rattle.junction_kbest.proofs.push_recovered.Lts as lts
 use Rattle.junction_kbest.proofs.push_turn.Reads as push-turn-reads
 
--- src/lib.rt:273:28
 enum-told : tie.Need-enum-told
 enum-told c = search needs
 
--- src/lib.rt:274:24
 enum-known-r : tie.Need-enum-known-r
 enum-known-r c = search needs
 
--- src/lib.rt:274:30
 push-turn-requires : tie.Need-push-turn-requires
 push-turn-requires c κs = recovered-asks _ _ _ _ _ _ (c .before .before .r .given .1) (c .before .before .before .before .before .before .pre)
 
--- src/lib.rt:275:27
 enum-known-r-2 : tie.Need-enum-known-r-2
 enum-known-r-2 c = search needs
 
--- src/lib.rt:268:1
 returns : tie.Need-returns
 returns c = recovered-ended _ _ _ _ _ (c .enum-told .given .1)
 
--- src/lib.rt:268:1
 same-length : tie.Need-same-length
 same-length c = search needs
 
--- src/lib.rt:268:1
 returns-2 : tie.Need-returns-2
 returns-2 c = recovered-made _ _ _ _ _ _ (c .before .before .before .before .before .r .given .1) _ _ (c .before .before .push-turn .ensures)
 
--- src/lib.rt:268:1
 returns-3 : tie.Need-returns-3
 returns-3 c = recovered-refused _ _ _ _ _ _ (c .before .r2 .given .1)
 

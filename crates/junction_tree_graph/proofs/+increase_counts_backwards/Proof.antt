@@ -33,7 +33,6 @@ increase-counts-backwards-below t =
     (falls 2 increase-counts-backwards-kinds.ps _<_ μ-increase-counts-backwards t)
     increase-counts-backwards.Pre
 
--- src/lib.rt:141:9
 increase-counts-backwards-returns : (t : ℕ) → increase-counts-backwards-lts.Need-returns (
   incoming-count-reads.Asked,
   incoming-count-reads.Learnt,
@@ -48,7 +47,6 @@ increase-counts-backwards-returns : (t : ℕ) → increase-counts-backwards-lts.
 ) (increase-counts-backwards-at t) increase-counts-backwards.Post
 increase-counts-backwards-returns t c = back-none ((c .before .before .before .pre) .1) ((c .if1) .taken)
 
--- src/lib.rt:143:8
 increase-counts-backwards-incoming-count-requires :
     (t : ℕ) → increase-counts-backwards-lts.Need-incoming-count-requires (
       incoming-count-reads.Asked,
@@ -64,7 +62,6 @@ increase-counts-backwards-incoming-count-requires :
     ) (increase-counts-backwards-at t) increase-counts-backwards.Post
 increase-counts-backwards-incoming-count-requires t c κs = let p = (c .before .before .before .pre) .1 in let h = p .at in let r = p .room-v in omega arith
 
--- src/lib.rt:144:9
 increase-counts-backwards-returns-2 : (t : ℕ) → increase-counts-backwards-lts.Need-returns-2 (
   incoming-count-reads.Asked,
   incoming-count-reads.Learnt,
@@ -79,7 +76,6 @@ increase-counts-backwards-returns-2 : (t : ℕ) → increase-counts-backwards-lt
 ) (increase-counts-backwards-at t) increase-counts-backwards.Post
 increase-counts-backwards-returns-2 t c = backs-many ((c .before .before .before .before .before .pre) .1) _ ((c .before .incoming-count) .ensures) ((c .if2) .taken)
 
--- src/lib.rt:146:13
 increase-counts-backwards-incoming-edge-requires :
     (t : ℕ) → increase-counts-backwards-lts.Need-incoming-edge-requires (
       incoming-count-reads.Asked,
@@ -95,7 +91,6 @@ increase-counts-backwards-incoming-edge-requires :
     ) (increase-counts-backwards-at t) increase-counts-backwards.Post
 increase-counts-backwards-incoming-edge-requires t c κs = let p = (c .before .before .before .before .before .pre) .1 in let h = p .at in let r = p .room-v in omega arith
 
--- src/lib.rt:146:13
 increase-counts-backwards-sub-i : (t : ℕ) → increase-counts-backwards-lts.Need-sub-i (
   incoming-count-reads.Asked,
   incoming-count-reads.Learnt,
@@ -110,7 +105,6 @@ increase-counts-backwards-sub-i : (t : ℕ) → increase-counts-backwards-lts.Ne
 ) (increase-counts-backwards-at t) increase-counts-backwards.Post
 increase-counts-backwards-sub-i t c = let w = backs-pos ((c .before .before .before .before .before .before .pre) .1) _ ((c .before .before .incoming-count) .ensures) ((c .before .if2) .left) _ ((c .incoming-edge) .ensures) in omega arith
 
--- src/lib.rt:147:9
 increase-counts-backwards-edge-from-requires :
     (t : ℕ) → increase-counts-backwards-lts.Need-edge-from-requires (
       incoming-count-reads.Asked,
@@ -126,7 +120,6 @@ increase-counts-backwards-edge-from-requires :
     ) (increase-counts-backwards-at t) increase-counts-backwards.Post
 increase-counts-backwards-edge-from-requires t c κs = backs-room ((c .before .before .before .before .before .before .before .pre) .1) _ ((c .before .before .before .incoming-count) .ensures) ((c .before .before .if2) .left) _ ((c .before .incoming-edge) .ensures)
 
--- src/lib.rt:148:5
 increase-counts-backwards-inc-edge-requires :
     (t : ℕ) → increase-counts-backwards-lts.Need-inc-edge-requires (
       incoming-count-reads.Asked,
@@ -142,7 +135,6 @@ increase-counts-backwards-inc-edge-requires :
     ) (increase-counts-backwards-at t) increase-counts-backwards.Post
 increase-counts-backwards-inc-edge-requires t c κs = backs-gain ((c .before .before .before .before .before .before .before .before .before .pre) .1) _ ((c .before .before .before .before .before .incoming-count) .ensures) ((c .before .before .before .before .if2) .left) _ ((c .before .before .before .incoming-edge) .ensures) ((c .before .before .before .before .before .before .if1) .left)
 
--- src/lib.rt:153:16
 increase-counts-backwards-add-increase-counts-backwards :
     (t : ℕ) → increase-counts-backwards-lts.Need-add-increase-counts-backwards (
       incoming-count-reads.Asked,
@@ -158,7 +150,6 @@ increase-counts-backwards-add-increase-counts-backwards :
     ) (increase-counts-backwards-at t) increase-counts-backwards.Post
 increase-counts-backwards-add-increase-counts-backwards t c = let p = (c .before .before .before .before .before .before .before .before .before .before .before .before .before .pre) .1 .steps in let h = (c .before .before .before .before .before .before .before .before .before .before .if1) .left in omega arith
 
--- src/lib.rt:155:57
 increase-counts-backwards-sub-increase-counts-backwards :
     (t : ℕ) → increase-counts-backwards-lts.Need-sub-increase-counts-backwards (
       incoming-count-reads.Asked,
@@ -174,7 +165,6 @@ increase-counts-backwards-sub-increase-counts-backwards :
     ) (increase-counts-backwards-at t) increase-counts-backwards.Post
 increase-counts-backwards-sub-increase-counts-backwards t c = let h = (c .before .before .before .before .before .before .before .before .before .before .before .if1) .left in omega arith
 
--- src/lib.rt:155:5
 increase-counts-backwards-increase-counts-backwards-requires :
     (t : ℕ) → increase-counts-backwards-lts.Need-increase-counts-backwards-requires (
       incoming-count-reads.Asked,
@@ -190,7 +180,6 @@ increase-counts-backwards-increase-counts-backwards-requires :
     ) (increase-counts-backwards-at t) increase-counts-backwards.Post
 increase-counts-backwards-increase-counts-backwards-requires t c κs = ((let m = (c .before .before .before .before .before .before .before .before .before .before .before .before .before .before .pre) .0 in let h = (c .before .before .before .before .before .before .before .before .before .before .before .if1) .left in omega arith), backs-next ((c .before .before .before .before .before .before .before .before .before .before .before .before .before .before .pre) .1) _ ((c .before .before .before .before .before .before .before .before .before .before .incoming-count) .ensures) ((c .before .before .before .before .before .before .before .before .before .if2) .left) _ ((c .before .before .before .before .before .before .before .before .incoming-edge) .ensures) ((c .before .before .before .before .before .before .before .before .before .before .before .if1) .left) _ ((c .before .before .before .before .before .before .edge-from) .ensures) _ ((c .before .before .before .before .inc-edge) .ensures))
 
--- src/lib.rt:130:1
 increase-counts-backwards-same-length : (t : ℕ) → increase-counts-backwards-lts.Need-same-length (
   incoming-count-reads.Asked,
   incoming-count-reads.Learnt,
@@ -205,7 +194,6 @@ increase-counts-backwards-same-length : (t : ℕ) → increase-counts-backwards-
 ) (increase-counts-backwards-at t) increase-counts-backwards.Post
 increase-counts-backwards-same-length t c = (c .before .before .increase-counts-backwards) .kept .1 .0 ∙ (c .before .before .before .before .before .before .before .inc-edge) .kept .0
 
--- src/lib.rt:130:1
 increase-counts-backwards-returns-3 : (t : ℕ) → increase-counts-backwards-lts.Need-returns-3 (
   incoming-count-reads.Asked,
   incoming-count-reads.Learnt,

@@ -9,51 +9,39 @@ use Rattle.junction_tree_graph.proofs.build.Lts as lts
 use Rattle.junction_tree_graph.proofs.thread_reads.Reads as thread-reads-reads
 use Rattle.junction_tree_graph.proofs.thread_sequence.Reads as thread-sequence-reads
 
--- src/lib.rt:457:9
 thread-sequence-requires : tie.Need-thread-sequence-requires
 thread-sequence-requires c κs = ((begin-threads (c .before .before .before .before .before .before .before .before .before .before .pre .0)), index-start _ _ _ _ _ (c .before .before .before .before .before .before .before .before .before .before .pre .1))
 
--- src/lib.rt:472:20
 enum-known-r : tie.Need-enum-known-r
 enum-known-r c = search needs
 
--- src/lib.rt:473:9
 enum-told : tie.Need-enum-told
 enum-told c = search needs
 
--- src/lib.rt:473:9
 same-length : tie.Need-same-length
 same-length c = c .before .before .before .before .before .before .before .before .thread-sequence .kept .1 .1 .0
 
--- src/lib.rt:473:9
 same-length-2 : tie.Need-same-length-2
 same-length-2 c = c .before .before .before .before .before .before .before .before .thread-sequence .kept .1 .1 .1 .0
 
--- src/lib.rt:473:9
 same-length-3 : tie.Need-same-length-3
 same-length-3 c = c .before .before .before .before .before .before .before .before .thread-sequence .kept .1 .1 .1 .1 .0
 
--- src/lib.rt:473:9
 returns : tie.Need-returns
 returns c = ((begin-stop (c .before .before .before .before .before .before .before .before .before .before .before .before .before .before .before .before .before .before .before .pre .0) (c .before .before .before .before .before .before .before .before .thread-sequence .last .1 .1 .0) (c .before .before .before .before .before .before .before .before .thread-sequence .last .1 .1 .1 .0) _ _ _ _ (c .before .before .before .before .before .before .before .before .thread-sequence .ensures .0) (c .enum-told .given .1)), keeps-stop _ _ _ _ _ _ _ (c .enum-told .given .1))
 
--- src/lib.rt:475:5
 thread-reads-requires : tie.Need-thread-reads-requires
 thread-reads-requires c κs = ((begin-reads (c .before .before .before .before .before .before .before .before .before .before .before .before .before .before .before .before .before .before .before .before .before .before .before .pre .0) (c .before .before .before .before .before .before .before .before .before .before .before .before .thread-sequence .last .1 .1 .0) (c .before .before .before .before .before .before .before .before .before .before .before .before .thread-sequence .last .1 .1 .1 .0) _ _ (c .before .before .before .before .before .before .before .before .before .before .before .before .thread-sequence .ensures .0) (c .before .before .before .before .r .given .1)), keeps-next _ _ _ _ _ _ _ (c .before .before .before .before .before .before .before .before .before .before .before .before .thread-sequence .ensures .1) (c .before .before .before .before .r .given .1))
 
--- src/lib.rt:436:1
 same-length-4 : tie.Need-same-length-4
 same-length-4 c = c .before .before .before .before .before .before .thread-reads .kept .1 .1 .1 .1 .0 ∙ c .before .before .before .before .before .before .before .before .before .before .before .before .before .before .before .before .before .before .before .thread-sequence .kept .1 .1 .0
 
--- src/lib.rt:436:1
 same-length-5 : tie.Need-same-length-5
 same-length-5 c = c .before .before .before .before .before .before .thread-reads .kept .1 .1 .1 .1 .1 .0 ∙ c .before .before .before .before .before .before .before .before .before .before .before .before .before .before .before .before .before .before .before .thread-sequence .kept .1 .1 .1 .0
 
--- src/lib.rt:436:1
 same-length-6 : tie.Need-same-length-6
 same-length-6 c = c .before .before .before .before .before .before .thread-reads .kept .1 .1 .1 .1 .1 .1 .0 ∙ c .before .before .before .before .before .before .before .before .before .before .before .before .before .before .before .before .before .before .before .thread-sequence .kept .1 .1 .1 .1 .0
 
--- src/lib.rt:436:1
 returns-2 : tie.Need-returns-2
 returns-2 c = ((begin-done (c .before .before .before .before .before .before .before .before .before .before .before .before .before .before .before .before .before .before .before .before .before .before .before .before .before .before .before .before .before .before .pre .0) (c .before .before .before .before .before .before .before .before .before .before .before .before .before .before .before .before .before .before .before .thread-sequence .last .1 .1 .0) (c .before .before .before .before .before .before .before .before .before .before .before .before .before .before .before .before .before .before .before .thread-sequence .last .1 .1 .1 .0) _ _ (c .before .before .before .before .before .before .before .before .before .before .before .before .before .before .before .before .before .before .before .thread-sequence .ensures .0) (c .before .before .before .before .before .before .before .before .before .before .before .r .given .1) (c .before .before .before .before .before .before .thread-reads .last .1 .1 .1 .1 .0) (c .before .before .before .before .before .before .thread-reads .last .1 .1 .1 .1 .1 .0) (c .before .before .before .before .before .before .thread-reads .result) (c .before .before .before .before .before .before .thread-reads .ensures .0)), c .before .before .before .before .before .before .thread-reads .ensures .1)
 

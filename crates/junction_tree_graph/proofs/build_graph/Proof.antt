@@ -13,71 +13,54 @@ use Rattle.assembly.proofs.find_kmer.Reads as find-kmer-reads
 use Rattle.junction_tree_graph.proofs.build.Reads as build-reads
 use Rattle.junction_tree_graph.proofs.refusal.Reads as refusal-reads
 
--- src/lib.rt:507:19
 sub-place : tie.Need-sub-place
 sub-place c = low-v (c .before .before .before .before .before .before .before .before .pre .0)
 
--- src/lib.rt:508:16
 sub-t19 : tie.Need-sub-t19
 sub-t19 c = low-e (c .before .before .before .before .before .before .before .before .before .pre .0)
 
--- src/lib.rt:510:9
 build-requires : tie.Need-build-requires
 build-requires c κs = ((build-begins (c .before .before .before .before .before .before .before .before .before .before .before .before .pre .0)), fresh-one _ _ (low-v (c .before .before .before .before .before .before .before .before .before .before .before .before .pre .0)) (c .before .before .before .before .before .before .before .before .before .before .before .before .pre .1))
 
--- src/lib.rt:522:20
 enum-known-r : tie.Need-enum-known-r
 enum-known-r c = search needs
 
--- src/lib.rt:523:32
 enum-told : tie.Need-enum-told
 enum-told c = search needs
 
--- src/lib.rt:523:32
 refusal-requires : tie.Need-refusal-requires
 refusal-requires c κs = search needs
 
--- src/lib.rt:523:9
 same-length : tie.Need-same-length
 same-length c = c .before .before .before .before .before .before .before .before .before .build .kept .1 .1 .1 .1 .1 .1 .0
 
--- src/lib.rt:523:9
 same-length-2 : tie.Need-same-length-2
 same-length-2 c = c .before .before .before .before .before .before .before .before .before .build .kept .1 .1 .1 .1 .1 .1 .1 .0
 
--- src/lib.rt:523:9
 same-length-3 : tie.Need-same-length-3
 same-length-3 c = c .before .before .before .before .before .before .before .before .before .build .kept .1 .1 .1 .1 .1 .1 .1 .1 .0
 
--- src/lib.rt:523:9
 returns : tie.Need-returns
 returns c = ((answer-stop (c .before .before .before .before .before .before .before .before .before .before .before .before .before .before .before .before .before .before .before .before .before .before .pre .0) (c .before .before .before .before .before .before .before .before .before .build .last .1 .1 .1 .1 .1 .1 .0) (c .before .before .before .before .before .before .before .before .before .build .last .1 .1 .1 .1 .1 .1 .1 .0) _ (c .before .before .before .before .before .before .before .before .before .build .ensures .0) _ (c .before .enum-told .given .1) _ (c .refusal .ensures)), tt)
 
--- src/lib.rt:527:17
 sub-place-2 : tie.Need-sub-place-2
 sub-place-2 c = fits-s (c .before .before .before .before .before .before .before .before .before .before .before .before .before .before .before .before .before .before .before .before .before .before .pre .0) .low
 
--- src/lib.rt:528:9
 find-kmer-requires : tie.Need-find-kmer-requires
 find-kmer-requires c κs = finding-finds _ (index-finding _ _ _ _ _ _ _ (c .before .before .before .before .before .before .before .before .before .before .before .build .ensures .1) (c .before .before .before .r .given .1)) (answer-asks (c .before .before .before .before .before .before .before .before .before .before .before .before .before .before .before .before .before .before .before .before .before .before .before .before .pre .0) (c .before .before .before .before .before .before .before .before .before .before .before .build .last .1 .1 .1 .1 .1 .1 .0) (c .before .before .before .before .before .before .before .before .before .before .before .build .last .1 .1 .1 .1 .1 .1 .1 .0) _ (c .before .before .before .before .before .before .before .before .before .before .before .build .ensures .0) _ (c .before .before .before .r .given .1))
 
--- src/lib.rt:529:5
 add-symbolic-edge-requires : tie.Need-add-symbolic-edge-requires
 add-symbolic-edge-requires c κs = answer-symbolic (c .before .before .before .before .before .before .before .before .before .before .before .before .before .before .before .before .before .before .before .before .before .before .before .before .before .before .pre .0) (c .before .before .before .before .before .before .before .before .before .before .before .before .before .build .last .1 .1 .1 .1 .1 .1 .0) (c .before .before .before .before .before .before .before .before .before .before .before .before .before .build .last .1 .1 .1 .1 .1 .1 .1 .0) _ (c .before .before .before .before .before .before .before .before .before .before .before .before .before .build .ensures .0) _ (c .before .before .before .before .before .r .given .1) (c .before .before .before .before .before .before .before .before .before .before .before .before .before .build .kept .1 .1 .1 .1 .1 .1 .1 .0) _ (c .before .find-kmer .ensures)
 
--- src/lib.rt:491:1
 same-length-4 : tie.Need-same-length-4
 same-length-4 c = c .before .before .before .before .before .before .before .before .before .before .before .before .before .before .before .before .build .kept .1 .1 .1 .1 .1 .1 .0
 
--- src/lib.rt:491:1
 same-length-5 : tie.Need-same-length-5
 same-length-5 c = c .before .before .add-symbolic-edge .kept .0 ∙ c .before .before .before .before .before .before .before .before .before .before .before .before .before .before .before .before .build .kept .1 .1 .1 .1 .1 .1 .1 .0
 
--- src/lib.rt:491:1
 same-length-6 : tie.Need-same-length-6
 same-length-6 c = c .before .before .before .before .before .before .before .before .before .before .before .before .before .before .before .before .build .kept .1 .1 .1 .1 .1 .1 .1 .1 .0
 
--- src/lib.rt:491:1
 returns-2 : tie.Need-returns-2
 returns-2 c = ((answer-done (c .before .before .before .before .before .before .before .before .before .before .before .before .before .before .before .before .before .before .before .before .before .before .before .before .before .before .before .before .before .pre .0) (c .before .before .before .before .before .before .before .before .before .before .before .before .before .before .before .before .build .last .1 .1 .1 .1 .1 .1 .0) (c .before .before .before .before .before .before .before .before .before .before .before .before .before .before .before .before .build .last .1 .1 .1 .1 .1 .1 .1 .0) _ (c .before .before .before .before .before .before .before .before .before .before .before .before .before .before .before .before .build .ensures .0) _ (c .before .before .before .before .before .before .before .before .r .given .1) (c .before .before .before .before .before .before .before .before .before .before .before .before .before .before .before .before .build .kept .1 .1 .1 .1 .1 .1 .1 .0) _ (c .before .before .before .before .find-kmer .ensures) _ (c .before .before .add-symbolic-edge .ensures)), index-finding _ _ _ _ _ _ _ (c .before .before .before .before .before .before .before .before .before .before .before .before .before .before .before .before .build .ensures .1) (c .before .before .before .before .before .before .before .before .r .given .1))
 

@@ -18,118 +18,91 @@ use Rattle.assembly.proofs.out_edge.Reads as out-edge-reads
 use Rattle.junction_tree_graph.proofs.get_or_create_kmer_vertex.Reads as get-or-create-kmer-vertex-reads
 use Rattle.junction_tree_graph.proofs.wide_byte.Reads as wide-byte-reads
 
--- src/lib.rt:133:49
 add-byte-at : tie.Need-add-byte-at
 add-byte-at c = search needs
 
--- src/lib.rt:133:49
 sub-byte-at : tie.Need-sub-byte-at
 sub-byte-at c = search needs
 
--- src/lib.rt:133:23
 byte-at-requires : tie.Need-byte-at-requires
 byte-at-requires c κs = let a = (c .before .before .before .before .before .args) in let p = c .before .before .before .before .before .pre .0 .inside in let h = c .before .before .before .before .before .pre .0 .some in omega (arith, length-append (a .reference .now) (a .bases .now))
 
--- src/lib.rt:133:9
 wide-byte-requires : tie.Need-wide-byte-requires
 wide-byte-requires c κs = search needs
 
--- src/lib.rt:135:9
 out-edge-requires : tie.Need-out-edge-requires
 out-edge-requires c κs = search needs
 
--- src/lib.rt:137:17
 sub-i : tie.Need-sub-i
 sub-i c = search needs
 
--- src/lib.rt:138:13
 edge-to-requires : tie.Need-edge-to-requires
 unfolding code
 edge-to-requires c κs = ext-gain (c .before .before .before .before .before .before .before .before .before .before .before .pre .0) (c .before .before .before .before .wide-byte .result) (c .before .before .before .before .wide-byte .ensures ∙ c .before .before .before .before .before .byte-at .ensures) _ (c .before .before .out-edge .ensures) (c .before .if1 .taken) .0
 
--- src/lib.rt:139:9
 inc-edge-requires : tie.Need-inc-edge-requires
 unfolding code
 inc-edge-requires c κs = ext-gain (c .before .before .before .before .before .before .before .before .before .before .before .before .before .pre .0) (c .before .before .before .before .before .before .wide-byte .result) (c .before .before .before .before .before .before .wide-byte .ensures ∙ c .before .before .before .before .before .before .before .byte-at .ensures) _ (c .before .before .before .before .out-edge .ensures) (c .before .before .before .if1 .taken)
 
--- src/lib.rt:144:20
 add-t34 : tie.Need-add-t34
 add-t34 c = search needs
 
--- src/lib.rt:140:9
 same-length : tie.Need-same-length
 same-length c = search needs
 
--- src/lib.rt:140:9
 same-length-2 : tie.Need-same-length-2
 same-length-2 c = search needs
 
--- src/lib.rt:140:9
 returns : tie.Need-returns
 unfolding code
 returns c = ((let a = (c .before .before .before .before .before .before .before .before .before .before .before .before .before .before .before .before .before .args) in ext-known (c .before .before .before .before .before .before .before .before .before .before .before .before .before .before .before .before .before .pre .0) (c .before .before .before .before .before .before .before .before .before .before .wide-byte .result) (c .before .before .before .before .before .before .before .before .before .before .wide-byte .ensures ∙ c .before .before .before .before .before .before .before .before .before .before .before .byte-at .ensures) (a .mark) (originOf (a .sequence) (a .place)) _ (c .before .before .before .before .before .before .before .before .out-edge .ensures) (c .before .before .before .before .before .before .before .if1 .taken) _ (c .before .before .before .before .before .edge-to .ensures) _ (c .before .before .before .inc-edge .ensures)), c .before .before .before .before .before .before .before .before .before .before .before .before .before .before .before .before .before .pre .1)
 
--- src/lib.rt:148:9
 same-length-3 : tie.Need-same-length-3
 same-length-3 c = search needs
 
--- src/lib.rt:148:9
 returns-2 : tie.Need-returns-2
 unfolding code
 returns-2 c = ((let a = (c .before .before .before .before .before .before .before .before .before .before .before .before .args) in ext-full (c .before .before .before .before .before .before .before .before .before .before .before .before .pre .0) (c .before .before .before .before .before .wide-byte .result) (c .before .before .before .before .before .wide-byte .ensures ∙ c .before .before .before .before .before .before .byte-at .ensures) _ (c .before .before .before .out-edge .ensures) (c .before .before .if1 .left) (a .mark) (originOf (a .sequence) (a .place)) (c .if2 .taken)), tt)
 
--- src/lib.rt:150:9
 get-or-create-kmer-vertex-requires : tie.Need-get-or-create-kmer-vertex-requires
 unfolding code
 get-or-create-kmer-vertex-requires c κs = ((ext-gets (c .before .before .before .before .before .before .before .before .before .before .before .before .before .before .pre .0) (c .before .before .before .before .before .before .before .wide-byte .result) (c .before .before .before .before .before .before .before .wide-byte .ensures ∙ c .before .before .before .before .before .before .before .before .byte-at .ensures)), c .before .before .before .before .before .before .before .before .before .before .before .before .before .before .pre .1)
 
--- src/lib.rt:151:20
 enum-known-r : tie.Need-enum-known-r
 enum-known-r c = search needs
 
--- src/lib.rt:152:9
 enum-told : tie.Need-enum-told
 enum-told c = search needs
 
--- src/lib.rt:152:9
 same-length-4 : tie.Need-same-length-4
 same-length-4 c = search needs
 
--- src/lib.rt:152:9
 same-length-5 : tie.Need-same-length-5
 same-length-5 c = search needs
 
--- src/lib.rt:152:9
 returns-3 : tie.Need-returns-3
 unfolding code
 returns-3 c = ((let a = (c .before .before .before .before .before .before .before .before .before .before .before .before .before .before .before .before .before .before .before .before .before .args) in ext-stop (c .before .before .before .before .before .before .before .before .before .before .before .before .before .before .before .before .before .before .before .before .before .pre .0) (c .before .before .before .before .before .before .before .before .before .before .before .before .before .before .wide-byte .result) (c .before .before .before .before .before .before .before .before .before .before .before .before .before .before .wide-byte .ensures ∙ c .before .before .before .before .before .before .before .before .before .before .before .before .before .before .before .byte-at .ensures) _ (c .before .before .before .before .before .before .before .before .before .before .before .before .out-edge .ensures) (c .before .before .before .before .before .before .before .before .before .before .before .if1 .left) (a .mark) (originOf (a .sequence) (a .place)) _ _ _ _ _ (c .before .before .before .before .before .before .get-or-create-kmer-vertex .ensures .0) (c .enum-told .given .1)), keeps-stop _ _ _ _ _ _ _ (c .enum-told .given .1))
 
--- src/lib.rt:155:5
 add-edge-requires : tie.Need-add-edge-requires
 unfolding code
 add-edge-requires c κs = ext-adds (c .before .before .before .before .before .before .before .before .before .before .before .before .before .before .before .before .before .before .before .before .before .before .before .before .pre .0) (c .before .before .before .before .before .before .before .before .before .before .before .before .before .before .before .before .before .wide-byte .result) (c .before .before .before .before .before .before .before .before .before .before .before .before .before .before .before .before .before .wide-byte .ensures ∙ c .before .before .before .before .before .before .before .before .before .before .before .before .before .before .before .before .before .before .byte-at .ensures) _ (c .before .before .before .before .before .before .before .before .before .before .before .before .before .before .before .out-edge .ensures) (c .before .before .before .before .before .before .before .before .before .before .before .before .before .before .if1 .left) (c .before .before .before .before .before .before .before .before .before .before .before .before .if2 .left) _ _ _ (c .before .before .before .before .before .before .before .before .before .get-or-create-kmer-vertex .ensures .0) (c .before .before .before .r .given .1)
 
--- src/lib.rt:158:16
 add-t25 : tie.Need-add-t25
 add-t25 c = search needs
 
--- src/lib.rt:160:16
 add-t24 : tie.Need-add-t24
 add-t24 c = let p = c .before .before .before .before .before .before .before .before .before .before .before .before .before .before .before .before .before .before .before .before .before .before .before .before .before .before .before .before .before .before .pre .0 .steps in omega arith
 
--- src/lib.rt:114:1
 same-length-6 : tie.Need-same-length-6
 same-length-6 c = search needs
 
--- src/lib.rt:114:1
 same-length-7 : tie.Need-same-length-7
 same-length-7 c = search needs
 
--- src/lib.rt:114:1
 same-length-8 : tie.Need-same-length-8
 same-length-8 c = search needs
 
--- src/lib.rt:114:1
 returns-4 : tie.Need-returns-4
 unfolding code
 returns-4 c = ((let a = (c .before .before .before .before .before .before .before .before .before .before .before .before .before .before .before .before .before .before .before .before .before .before .before .before .before .before .before .before .before .before .args) in ext-new (c .before .before .before .before .before .before .before .before .before .before .before .before .before .before .before .before .before .before .before .before .before .before .before .before .before .before .before .before .before .before .pre .0) (c .before .before .before .before .before .before .before .before .before .before .before .before .before .before .before .before .before .before .before .before .before .before .before .wide-byte .result) (c .before .before .before .before .before .before .before .before .before .before .before .before .before .before .before .before .before .before .before .before .before .before .before .wide-byte .ensures ∙ c .before .before .before .before .before .before .before .before .before .before .before .before .before .before .before .before .before .before .before .before .before .before .before .before .byte-at .ensures) _ (c .before .before .before .before .before .before .before .before .before .before .before .before .before .before .before .before .before .before .before .before .before .out-edge .ensures) (c .before .before .before .before .before .before .before .before .before .before .before .before .before .before .before .before .before .before .before .before .if1 .left) (c .before .before .before .before .before .before .before .before .before .before .before .before .before .before .before .before .before .before .if2 .left) _ _ _ (c .before .before .before .before .before .before .before .before .before .before .before .before .before .before .before .get-or-create-kmer-vertex .ensures .0) (c .before .before .before .before .before .before .before .before .before .r .given .1) (a .mark) (a .sequence) (a .place) _ _ (c .before .before .before .before .before .add-edge .ensures .0) (c .before .before .before .before .before .add-edge .ensures .1)), index-edge _ _ _ _ _ _ _ (c .before .before .before .before .before .before .before .before .before .before .before .before .before .before .before .get-or-create-kmer-vertex .ensures .1) (c .before .before .before .before .before .before .before .before .before .r .given .1) _ _ (c .before .before .before .before .before .before .before .before .before .before .before .before .before .before .before .before .before .before .before .before .before .before .before .wide-byte .result) _ _ (c .before .before .before .before .before .add-edge .ensures .0))

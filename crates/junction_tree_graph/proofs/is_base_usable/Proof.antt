@@ -7,7 +7,6 @@ use Rattle.junction_tree_graph.proofs.is_base_usable.Tie as tie
 use Rattle.junction_tree_graph.proofs.is_base_usable.Reads as reads
 use Rattle.junction_tree_graph.proofs.is_base_usable.Lts as lts
 
--- src/lib.rt:237:1
 returns : tie.Need-returns
 returns c = let b = (c .before .before .before .before .args) .b in
     let h2 = ⊎-elim (λ w. first-yes b 67 ((c .before .before .before .if1) .if2) (w .0 .taken) (w .1)) (λ w. first-no b 67 ((c .before .before .before .if1) .if2) (w .0 .left) (w .1)) ((c .before .before .before .if1) .came) in
@@ -15,7 +14,6 @@ returns c = let b = (c .before .before .before .before .args) .b in
     let h4 = ⊎-elim (λ w. or-yes ((c .before .before .if2) .if3) (eqb b 84) ((c .before .if3) .if4) (w .0 .taken) (w .1)) (λ w. or-no ((c .before .before .if2) .if3) (eqb b 84) ((c .before .if3) .if4) (w .0 .left) (w .1)) ((c .before .if3) .came) in
     base-is b ((c .before .before .before .if1) .if2) ((c .before .before .if2) .if3) ((c .before .if3) .if4) ((c .before .if3) .if4) h2 h3 h4 (or-yes ((c .before .if3) .if4) (eqb b 78) ((c .before .if3) .if4) ((c .if4) .taken) refl)
 
--- src/lib.rt:237:1
 returns-2 : tie.Need-returns-2
 returns-2 c = let b = (c .before .before .before .before .args) .b in
     let h2 = ⊎-elim (λ w. first-yes b 67 ((c .before .before .before .if1) .if2) (w .0 .taken) (w .1)) (λ w. first-no b 67 ((c .before .before .before .if1) .if2) (w .0 .left) (w .1)) ((c .before .before .before .if1) .came) in

@@ -6,15 +6,12 @@ use Rattle.junction_tree_graph.proofs.is_usable.Reads as reads
 use Rattle.junction_tree_graph.proofs.is_usable.Lts as lts
 use Rattle.junction_tree_graph.proofs.is_base_usable.Reads as is-base-usable-reads
 
--- src/lib.rt:247:5
 is-base-usable-requires : tie.Need-is-base-usable-requires
 is-base-usable-requires c κs = search needs
 
--- src/lib.rt:244:1
 returns : tie.Need-returns
 returns c = let a = (c .before .before .args) in usable-is (a .quality) (a .b) (a .q) _ ((c .before .is-base-usable) .ensures) ((c .if1) .taken)
 
--- src/lib.rt:244:1
 returns-2 : tie.Need-returns-2
 returns-2 c = let a = (c .before .before .args) in usable-not (a .quality) (a .b) (a .q) _ ((c .before .is-base-usable) .ensures) ((c .if1) .left)
 

@@ -16,39 +16,30 @@ Inv-loop bases qualities quality p end q₀ q = Running (usable quality) bases q
 abbrev μ-loop : tie.MeasureT-loop
 μ-loop bases qualities quality p end q₀ q = end - q
 
--- src/lib.rt:256:5
 loop-holds : tie.Need-loop-holds Inv-loop μ-loop
 loop-holds c = running-start _ _ _ _ _ ((c .before .before .pre) .0)
 
--- src/lib.rt:257:32
 shared-slice-read-is-usable : tie.Need-shared-slice-read-is-usable Inv-loop μ-loop
 shared-slice-read-is-usable c = let h = (c .before .before .before .before .before .pre) .1 in let l = (c .before .loop-test) .taken in omega arith
 
--- src/lib.rt:257:42
 shared-slice-read-is-usable-2 : tie.Need-shared-slice-read-is-usable-2 Inv-loop μ-loop
 shared-slice-read-is-usable-2 c = let h = (c .before .before .before .before .before .before .pre) .2 in let l = (c .before .before .loop-test) .taken in omega arith
 
--- src/lib.rt:257:13
 is-usable-requires : tie.Need-is-usable-requires Inv-loop μ-loop
 is-usable-requires c κs = search needs
 
--- src/lib.rt:258:13
 returns : tie.Need-returns Inv-loop μ-loop
 returns c = running-stop ((c .before .before .before .before .before .loop) .inv) ((c .before .before .before .before .loop-test) .taken) _ ((c .before .is-usable) .ensures) (not-true _ ((c .if1) .taken))
 
--- src/lib.rt:260:9
 add-q : tie.Need-add-q Inv-loop μ-loop
 add-q c = let h = (c .before .before .before .before .before .before .before .before .pre) .1 in let l = (c .before .before .before .before .loop-test) .taken in let f = (c .before .before .before .before .before .before .before .before .fits) .end in omega arith
 
--- src/lib.rt:256:5
 loop-less : tie.Need-loop-less Inv-loop μ-loop
 loop-less c = let l = (c .before .before .before .before .loop-test) .taken in omega arith
 
--- src/lib.rt:256:5
 loop-again : tie.Need-loop-again Inv-loop μ-loop
 loop-again c = running-next ((c .before .before .before .before .before .loop) .inv) ((c .before .before .before .before .loop-test) .taken) _ ((c .before .is-usable) .ensures) (not-false _ ((c .if1) .left))
 
--- src/lib.rt:251:1
 returns-2 : tie.Need-returns-2 Inv-loop μ-loop
 returns-2 c = running-end ((c .before .loop) .inv) ((c .loop-test) .left)
 

@@ -10,55 +10,42 @@ use Rattle.junction_tree_graph.proofs.start_sequence.Lts as lts
 use Rattle.junction_tree_graph.proofs.get_or_create_kmer_vertex.Reads as get-or-create-kmer-vertex-reads
 use Rattle.junction_tree_graph.proofs.increase_counts_backwards.Reads as increase-counts-backwards-reads
 
--- src/lib.rt:202:9
 get-or-create-kmer-vertex-requires : tie.Need-get-or-create-kmer-vertex-requires
 get-or-create-kmer-vertex-requires c κs = ((start-gets (c .before .before .before .before .before .before .before .pre .0)), c .before .before .before .before .before .before .before .pre .1)
 
--- src/lib.rt:203:20
 enum-known-r : tie.Need-enum-known-r
 enum-known-r c = search needs
 
--- src/lib.rt:204:9
 enum-told : tie.Need-enum-told
 enum-told c = search needs
 
--- src/lib.rt:204:9
 same-length : tie.Need-same-length
 same-length c = search needs
 
--- src/lib.rt:204:9
 same-length-2 : tie.Need-same-length-2
 same-length-2 c = search needs
 
--- src/lib.rt:204:9
 returns : tie.Need-returns
 returns c = ((start-full (c .before .before .before .before .before .before .before .before .before .before .before .before .before .before .pre .0) _ _ _ _ _ (c .before .before .before .before .before .before .get-or-create-kmer-vertex .ensures .0) (c .enum-told .given .1)), keeps-stop _ _ _ _ _ _ _ (c .enum-told .given .1))
 
--- src/lib.rt:206:59
 sub-increase-counts-backwards : tie.Need-sub-increase-counts-backwards
 sub-increase-counts-backwards c = let h = c .before .before .before .before .before .before .before .before .before .before .before .before .before .before .before .before .before .pre .0 .some in omega arith
 
--- src/lib.rt:206:5
 increase-counts-backwards-requires : tie.Need-increase-counts-backwards-requires
 increase-counts-backwards-requires c κs = start-backs (c .before .before .before .before .before .before .before .before .before .before .before .before .before .before .before .before .before .pre .0) _ _ _ (c .before .before .before .before .before .before .before .before .before .get-or-create-kmer-vertex .ensures .0) (c .before .before .before .r .given .1)
 
--- src/lib.rt:211:16
 add-t21 : tie.Need-add-t21
 add-t21 c = let p = c .before .before .before .before .before .before .before .before .before .before .before .before .before .before .before .before .before .before .before .before .before .pre .0 .steps in let h = start-steps (c .before .before .before .before .before .before .before .before .before .before .before .before .before .before .before .before .before .before .before .before .before .pre .0) _ _ _ (c .before .before .before .before .before .before .before .before .before .before .before .before .before .get-or-create-kmer-vertex .ensures .0) (c .before .before .before .before .before .before .before .r .given .1) in omega arith
 
--- src/lib.rt:188:1
 same-length-3 : tie.Need-same-length-3
 same-length-3 c = search needs
 
--- src/lib.rt:188:1
 same-length-4 : tie.Need-same-length-4
 same-length-4 c = search needs
 
--- src/lib.rt:188:1
 same-length-5 : tie.Need-same-length-5
 same-length-5 c = search needs
 
--- src/lib.rt:188:1
 returns-2 : tie.Need-returns-2
 returns-2 c = ((start-came (c .before .before .before .before .before .before .before .before .before .before .before .before .before .before .before .before .before .before .before .before .before .pre .0) _ _ _ (c .before .before .before .before .before .before .before .before .before .before .before .before .before .get-or-create-kmer-vertex .ensures .0) (c .before .before .before .before .before .before .before .r .given .1) _ (c .before .before .before .increase-counts-backwards .kept .1 .0) (c .before .before .before .increase-counts-backwards .ensures)), keeps-next _ _ _ _ _ _ _ (c .before .before .before .before .before .before .before .before .before .before .before .before .before .get-or-create-kmer-vertex .ensures .1) (c .before .before .before .before .before .before .before .r .given .1))
 

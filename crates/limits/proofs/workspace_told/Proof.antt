@@ -8,95 +8,72 @@ use Rattle.limits.proofs.workspace_told.Reads as reads
 use Rattle.limits.proofs.workspace_told.Lts as lts
 use Rattle.limits.proofs.walks_told.Reads as walks-told-reads
 
--- src/lib.rt:384:17
 cast-paths : tie.Need-cast-paths
 cast-paths c = search needs
 
--- src/lib.rt:384:17
 add-paths : tie.Need-add-paths
 add-paths c = search needs
 
--- src/lib.rt:384:17
 add-paths-2 : tie.Need-add-paths-2
 add-paths-2 c = search needs
 
--- src/lib.rt:385:9
 walks-told-requires : tie.Need-walks-told-requires
 walks-told-requires c κs = search needs
 
--- src/lib.rt:387:19
 cast-t6 : tie.Need-cast-t6
 cast-t6 c = search needs
 
--- src/lib.rt:387:19
 mul-t8 : tie.Need-mul-t8
 mul-t8 c = search needs
 
--- src/lib.rt:388:16
 cast-t7 : tie.Need-cast-t7
 cast-t7 c = search needs
 
--- src/lib.rt:388:16
 mul-t9 : tie.Need-mul-t9
 mul-t9 c = search needs
 
--- src/lib.rt:389:16
 cast-t10 : tie.Need-cast-t10
 cast-t10 c = search needs
 
--- src/lib.rt:389:16
 mul-t11 : tie.Need-mul-t11
 mul-t11 c = search needs
 
--- src/lib.rt:390:17
 cast-t12 : tie.Need-cast-t12
 cast-t12 c = search needs
 
--- src/lib.rt:390:17
 add-t13 : tie.Need-add-t13
 add-t13 c = search needs
 
--- src/lib.rt:390:16
 mul-t14 : tie.Need-mul-t14
 mul-t14 c = search needs
 
--- src/lib.rt:391:15
 cast-t15 : tie.Need-cast-t15
 cast-t15 c = search needs
 
--- src/lib.rt:391:15
 mul-t16 : tie.Need-mul-t16
 mul-t16 c = search needs
 
--- src/lib.rt:392:18
 cast-t17 : tie.Need-cast-t17
 cast-t17 c = search needs
 
--- src/lib.rt:393:16
 mul-t18 : tie.Need-mul-t18
 mul-t18 c = search needs
 
--- src/lib.rt:395:25
 cast-t19 : tie.Need-cast-t19
 cast-t19 c = search needs
 
--- src/lib.rt:395:17
 mul-t20 : tie.Need-mul-t20
 mul-t20 c = active-fits _ _ _ (c .before .before .before .before .before .before .before .before .before .pre)
 
--- src/lib.rt:396:16
 cast-t21 : tie.Need-cast-t21
 cast-t21 c = search needs
 
--- src/lib.rt:398:16
 cast-t23 : tie.Need-cast-t23
 cast-t23 c = search needs
 
--- src/lib.rt:399:16
 cast-t24 : tie.Need-cast-t24
 cast-t24 c = search needs
 
--- src/lib.rt:380:1
 returns : tie.Need-returns
 returns c = told-walks _ _ _ _ (c .before .before .before .before .before .before .before .before .before .before .walks-told .ensures)
 

@@ -7,19 +7,15 @@ use Rattle.pivotal_edges.proofs.counted.Lts as lts
 use Rattle.assembly.proofs.edge_is_ref.Reads as edge-is-ref-reads
 use Rattle.assembly.proofs.edge_support.Reads as edge-support-reads
 
--- src/lib.rt:121:8
 edge-support-requires : tie.Need-edge-support-requires
 edge-support-requires c κs = search needs
 
--- src/lib.rt:122:17
 edge-is-ref-requires : tie.Need-edge-is-ref-requires
 edge-is-ref-requires c κs = search needs
 
--- src/lib.rt:122:9
 returns : tie.Need-returns
 returns c = counts-one ((c .before .before .before .before .args) .edges .now) ((c .before .before .before .before .args) .i) ((c .before .before .edge-support) .ensures) ((c .before .if1) .taken) ((c .edge-is-ref) .ensures)
 
--- src/lib.rt:117:1
 returns-2 : tie.Need-returns-2
 returns-2 c = counts-more ((c .before .before .before .args) .edges .now) ((c .before .before .before .args) .i) ((c .before .edge-support) .ensures) ((c .if1) .left)
 

@@ -24,79 +24,60 @@ abbrev μ-loop : tie.MeasureT-loop
 μ-loop vertices edges m queue₀ visited₀ out₀ tail₀ front₀ found₀ queue visited out tail front found =
     m + m - front
 
--- src/lib.rt:246:9
 queue-out-requires : tie.Need-queue-out-requires Inv-loop μ-loop
 queue-out-requires c κs = source-asks (c .before .before .before .before .before .before .before .pre)
 
--- src/lib.rt:249:5
 loop-holds : tie.Need-loop-holds Inv-loop μ-loop
 loop-holds c = turning-start (c .before .before .before .before .before .before .before .before .before .before .pre) ((c .before .before .queue-out) .kept .1 .1 .1 .1 .1 .1 .0) ((c .before .before .queue-out) .ensures)
 
--- src/lib.rt:250:17
 mul-x : tie.Need-mul-x Inv-loop μ-loop
 mul-x c = let h = turning-front (c .before .before .before .before .before .before .before .before .before .before .before .before .pre) ((c .before .loop) .inv) ((c .loop-test) .taken) in omega arith
 
--- src/lib.rt:250:17
 slice-read-x : tie.Need-slice-read-x Inv-loop μ-loop
 slice-read-x c = turning-read (c .before .before .before .before .before .before .before .before .before .before .before .before .before .pre) ((c .before .before .loop) .inv) ((c .before .loop-test) .taken)
 
--- src/lib.rt:251:32
 edge-of-requires : tie.Need-edge-of-requires Inv-loop μ-loop
 edge-of-requires c κs = search needs
 
--- src/lib.rt:251:13
 edge-to-requires : tie.Need-edge-to-requires Inv-loop μ-loop
 edge-to-requires c κs = turning-edge (c .before .before .before .before .before .before .before .before .before .before .before .before .before .before .pre) ((c .before .before .before .loop) .inv) ((c .before .before .loop-test) .taken) ((c .edge-of) .ensures)
 
--- src/lib.rt:252:21
 level-of-requires : tie.Need-level-of-requires Inv-loop μ-loop
 level-of-requires c κs = search needs
 
--- src/lib.rt:252:21
 add-level : tie.Need-add-level Inv-loop μ-loop
 add-level c = let h = turning-entry (c .before .before .before .before .before .before .before .before .before .before .before .before .before .before .before .before .pre) ((c .before .before .before .before .before .loop) .inv) ((c .before .before .before .before .loop-test) .taken) .1 in let k = turning-front (c .before .before .before .before .before .before .before .before .before .before .before .before .before .before .before .before .pre) ((c .before .before .before .before .before .loop) .inv) ((c .before .before .before .before .loop-test) .taken) in let e = (c .level-of) .ensures in omega arith
 
--- src/lib.rt:253:9
 list-out-requires : tie.Need-list-out-requires Inv-loop μ-loop
 list-out-requires c κs = turning-lists (c .before .before .before .before .before .before .before .before .before .before .before .before .before .before .before .before .before .before .pre) ((c .before .before .before .before .before .before .before .loop) .inv) ((c .before .before .before .before .before .before .loop-test) .taken) ((c .before .before .before .before .edge-of) .ensures) ((c .before .before .before .edge-to) .ensures) ((c .before .before .level-of) .ensures)
 
--- src/lib.rt:254:72
 add-queue-out : tie.Need-add-queue-out Inv-loop μ-loop
 add-queue-out c = let k = turning-front (c .before .before .before .before .before .before .before .before .before .before .before .before .before .before .before .before .before .before .before .before .before .before .before .pre) ((c .before .before .before .before .before .before .before .before .before .before .before .before .loop) .inv) ((c .before .before .before .before .before .before .before .before .before .before .before .loop-test) .taken) in omega arith
 
--- src/lib.rt:254:9
 queue-out-requires-2 : tie.Need-queue-out-requires-2 Inv-loop μ-loop
 queue-out-requires-2 c κs = turning-queues (c .before .before .before .before .before .before .before .before .before .before .before .before .before .before .before .before .before .before .before .before .before .before .before .pre) ((c .before .before .before .before .before .before .before .before .before .before .before .before .loop) .inv) ((c .before .before .before .before .before .before .before .before .before .before .before .loop-test) .taken) ((c .before .before .before .before .before .before .before .before .before .edge-of) .ensures) ((c .before .before .before .before .before .before .before .before .edge-to) .ensures) ((c .before .before .before .before .before .before .before .level-of) .ensures)
 
--- src/lib.rt:255:9
 mark-out-requires : tie.Need-mark-out-requires Inv-loop μ-loop
 mark-out-requires c κs = turning-marks (c .before .before .before .before .before .before .before .before .before .before .before .before .before .before .before .before .before .before .before .before .before .before .before .before .before .before .before .pre) ((c .before .before .before .before .before .before .before .before .before .before .before .before .before .before .before .before .loop) .inv) ((c .before .before .before .before .before .before .before .before .before .before .before .before .before .before .before .loop-test) .taken) ((c .before .before .before .before .before .before .before .before .before .before .before .before .before .edge-of) .ensures) ((c .before .before .before .before .before .before .before .before .before .before .before .before .edge-to) .ensures) ((c .before .before .before .before .before .before .before .before .before .before .before .level-of) .ensures)
 
--- src/lib.rt:256:9
 add-front : tie.Need-add-front Inv-loop μ-loop
 add-front c = let k = turning-front (c .before .before .before .before .before .before .before .before .before .before .before .before .before .before .before .before .before .before .before .before .before .before .before .before .before .before .before .before .before .before .pre) ((c .before .before .before .before .before .before .before .before .before .before .before .before .before .before .before .before .before .before .before .loop) .inv) ((c .before .before .before .before .before .before .before .before .before .before .before .before .before .before .before .before .before .before .loop-test) .taken) in omega arith
 
--- src/lib.rt:249:5
 loop-less : tie.Need-loop-less Inv-loop μ-loop
 loop-less c = let h = (c .before .before .before .before .before .before .before .before .before .before .before .before .before .before .before .before .before .before .loop-test) .taken in let k = (c .before .before .before .before .before .before .before .before .before .before .before .before .before .before .before .before .before .before .before .loop) .inv .queued in omega arith
 
--- src/lib.rt:249:5
 loop-again : tie.Need-loop-again Inv-loop μ-loop
 loop-again c = turning-next (c .before .before .before .before .before .before .before .before .before .before .before .before .before .before .before .before .before .before .before .before .before .before .before .before .before .before .before .before .before .before .pre) ((c .before .before .before .before .before .before .before .before .before .before .before .before .before .before .before .before .before .before .before .loop) .inv) ((c .before .before .before .before .before .before .before .before .before .before .before .before .before .before .before .before .before .before .loop-test) .taken) ((c .before .before .before .before .before .before .before .before .before .before .before .before .before .before .before .before .edge-of) .ensures) ((c .before .before .before .before .before .before .before .before .before .before .before .before .before .before .before .edge-to) .ensures) ((c .before .before .before .before .before .before .before .before .before .before .before .before .before .before .level-of) .ensures) ((c .before .before .before .before .before .before .queue-out2) .kept .1 .1 .1 .1 .1 .1 .0) ((c .before .before .mark-out) .kept .1 .1 .1 .1 .0) ((c .before .before .before .before .before .before .before .before .before .before .before .list-out) .kept .1 .1 .1 .1 .1 .0) ((c .before .before .before .before .before .before .before .before .before .before .before .list-out) .ensures) ((c .before .before .before .before .before .before .queue-out2) .ensures) ((c .before .before .mark-out) .ensures)
 
--- src/lib.rt:235:1
 same-length : tie.Need-same-length Inv-loop μ-loop
 same-length c = (c .before .loop) .inv .size-q ∙ (c .before .before .before .before .queue-out) .kept .1 .1 .1 .1 .1 .1 .0
 
--- src/lib.rt:235:1
 same-length-2 : tie.Need-same-length-2 Inv-loop μ-loop
 same-length-2 c = (c .before .loop) .inv .size-m
 
--- src/lib.rt:235:1
 same-length-3 : tie.Need-same-length-3 Inv-loop μ-loop
 same-length-3 c = (c .before .loop) .inv .size-o
 
--- src/lib.rt:235:1
 returns : tie.Need-returns Inv-loop μ-loop
 returns c = turning-end (c .before .before .before .before .before .before .before .before .before .before .before .before .pre) ((c .before .loop) .inv) (source-rest (c .before .before .before .before .before .before .before .before .before .before .before .before .pre) ((c .before .before .before .before .queue-out) .ensures)) ((c .loop-test) .left)
 

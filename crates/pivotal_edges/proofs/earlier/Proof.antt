@@ -9,55 +9,42 @@ use Rattle.assembly.proofs.edge_to.Reads as edge-to-reads
 use Rattle.pivotal_edges.proofs.edge_of.Reads as edge-of-reads
 use Rattle.pivotal_edges.proofs.level_of.Reads as level-of-reads
 
--- src/lib.rt:35:9
 level-of-requires : tie.Need-level-of-requires
 level-of-requires c κs = search needs
 
--- src/lib.rt:36:9
 level-of-requires-2 : tie.Need-level-of-requires-2
 level-of-requires-2 c κs = search needs
 
--- src/lib.rt:38:9
 returns : tie.Need-returns
 returns c = level-less _ _ _ _ _ ((c .before .before .level-of) .ensures) ((c .before .level-of2) .ensures) ((c .if1) .taken)
 
--- src/lib.rt:41:9
 returns-2 : tie.Need-returns-2
 returns-2 c = level-more _ _ _ _ _ ((c .before .before .before .level-of) .ensures) ((c .before .before .level-of2) .ensures) ((c .if2) .taken)
 
--- src/lib.rt:43:9
 edge-of-requires : tie.Need-edge-of-requires
 edge-of-requires c κs = search needs
 
--- src/lib.rt:44:9
 edge-of-requires-2 : tie.Need-edge-of-requires-2
 edge-of-requires-2 c κs = search needs
 
--- src/lib.rt:45:9
 edge-from-requires : tie.Need-edge-from-requires
 edge-from-requires c κs = search needs
 
--- src/lib.rt:46:9
 edge-from-requires-2 : tie.Need-edge-from-requires-2
 edge-from-requires-2 c κs = search needs
 
--- src/lib.rt:48:9
 returns-3 : tie.Need-returns-3
 returns-3 c = from-less _ _ _ _ _ ((c .before .before .before .before .before .before .before .before .level-of) .ensures) ((c .before .before .before .before .before .before .before .level-of2) .ensures) ((c .before .before .before .before .before .before .if1) .left) ((c .before .before .before .before .before .if2) .left) _ _ _ _ ((c .before .before .before .before .edge-of) .ensures) ((c .before .before .before .edge-of2) .ensures) ((c .before .before .edge-from) .ensures) ((c .before .edge-from2) .ensures) ((c .if3) .taken)
 
--- src/lib.rt:51:9
 returns-4 : tie.Need-returns-4
 returns-4 c = from-more _ _ _ _ _ ((c .before .before .before .before .before .before .before .before .before .level-of) .ensures) ((c .before .before .before .before .before .before .before .before .level-of2) .ensures) ((c .before .before .before .before .before .before .before .if1) .left) ((c .before .before .before .before .before .before .if2) .left) _ _ _ _ ((c .before .before .before .before .before .edge-of) .ensures) ((c .before .before .before .before .edge-of2) .ensures) ((c .before .before .before .edge-from) .ensures) ((c .before .before .edge-from2) .ensures) ((c .if4) .taken)
 
--- src/lib.rt:53:5
 edge-to-requires : tie.Need-edge-to-requires
 edge-to-requires c κs = search needs
 
--- src/lib.rt:53:25
 edge-to-requires-2 : tie.Need-edge-to-requires-2
 edge-to-requires-2 c κs = search needs
 
--- src/lib.rt:31:1
 returns-5 : tie.Need-returns-5
 returns-5 c = by-to _ _ _ _ _ ((c .before .before .before .before .before .before .before .before .before .before .before .level-of) .ensures) ((c .before .before .before .before .before .before .before .before .before .before .level-of2) .ensures) ((c .before .before .before .before .before .before .before .before .before .if1) .left) ((c .before .before .before .before .before .before .before .before .if2) .left) _ _ _ _ ((c .before .before .before .before .before .before .before .edge-of) .ensures) ((c .before .before .before .before .before .before .edge-of2) .ensures) ((c .before .before .before .before .before .edge-from) .ensures) ((c .before .before .before .before .edge-from2) .ensures) ((c .before .before .before .if3) .left) ((c .before .before .if4) .left) _ _ ((c .before .edge-to) .ensures) ((c .edge-to2) .ensures)
 

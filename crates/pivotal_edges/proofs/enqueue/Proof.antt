@@ -7,19 +7,15 @@ use Rattle.pivotal_edges.proofs.enqueue.Lts as lts
 use Rattle.pivotal_edges.proofs.place.Reads as place-reads
 use Rattle.pivotal_edges.proofs.put_at.Reads as put-at-reads
 
--- src/lib.rt:92:9
 place-requires : tie.Need-place-requires
 place-requires c κs = search needs
 
--- src/lib.rt:93:5
 put-at-requires : tie.Need-put-at-requires
 put-at-requires c κs = search needs
 
--- src/lib.rt:88:1
 same-length : tie.Need-same-length
 same-length c = search needs
 
--- src/lib.rt:88:1
 returns : tie.Need-returns
 returns c = enqueued (c .before .before .before .before .before .before .before .before .args .edges .now) (c .before .before .before .before .before .before .before .before .args .queue .now) _ _ _ _ _ (c .before .before .before .before .before .before .before .before .pre .1) (c .before .before .before .before .place .ensures) (c .before .before .put-at .ensures)
 

@@ -9,31 +9,24 @@ use Rattle.pivotal_edges.proofs.forks.Lts as lts
 use Rattle.assembly.proofs.edge_to.Reads as edge-to-reads
 use Rattle.assembly.proofs.next_out.Reads as next-out-reads
 
--- src/lib.rt:108:9
 next-out-requires : tie.Need-next-out-requires
 next-out-requires c κs = next-asks (c .before .before .pre)
 
--- src/lib.rt:110:9
 returns : tie.Need-returns
 returns c = fork-none (c .before .before .before .before .pre) ((c .before .next-out) .ensures) ((c .if1) .taken)
 
--- src/lib.rt:112:57
 sub-edge-to : tie.Need-sub-edge-to
 sub-edge-to c = search needs
 
--- src/lib.rt:112:42
 edge-to-requires : tie.Need-edge-to-requires
 edge-to-requires c κs = fork-row (c .before .before .before .before .pre) ((c .before .next-out) .ensures) ((c .if1) .left)
 
--- src/lib.rt:112:42
 add-next-out : tie.Need-add-next-out
 add-next-out c = let h = fork-fits (c .before .before .before .before .before .pre) ((c .before .before .next-out) .ensures) ((c .before .if1) .left) ((c .edge-to) .ensures) in let g = (c .before .before .before .before .before .good) .0 in omega arith
 
--- src/lib.rt:112:9
 next-out-requires-2 : tie.Need-next-out-requires-2
 next-out-requires-2 c κs = next-asks (c .before .before .before .before .before .pre)
 
--- src/lib.rt:104:1
 returns-2 : tie.Need-returns-2
 returns-2 c = fork-is (c .before .before .before .before .before .before .pre) ((c .before .before .before .next-out) .ensures) ((c .before .before .if1) .left) ((c .before .edge-to) .ensures) ((c .next-out2) .ensures)
 

@@ -9,47 +9,36 @@ use Rattle.pivotal_edges.proofs.list_edge.Reads as reads
 use Rattle.pivotal_edges.proofs.list_edge.Lts as lts
 use Rattle.pivotal_edges.proofs.counted.Reads as counted-reads
 
--- src/lib.rt:132:8
 mul-if1 : tie.Need-mul-if1
 mul-if1 c = search needs
 
--- src/lib.rt:132:8
 shared-slice-read-if1 : tie.Need-shared-slice-read-if1
 shared-slice-read-if1 c = search needs
 
--- src/lib.rt:133:9
 returns : tie.Need-returns
 returns c = listed-no ((c .before .before .before .before .before .args) .edges .now) ((c .before .before .before .before .before .args) .visited .now) _ ((c .before .before .before .before .before .args) .i) ((c .before .before .before .before .before .args) .n) (takes-seen ((c .before .before .before .before .before .args) .edges .now) ((c .before .before .before .before .before .args) .visited .now) ((c .before .before .before .before .before .args) .i) ((c .if1) .taken))
 
--- src/lib.rt:135:9
 counted-requires : tie.Need-counted-requires
 counted-requires c κs = search needs
 
--- src/lib.rt:136:9
 returns-2 : tie.Need-returns-2
 returns-2 c = listed-no ((c .before .before .before .before .before .before .before .args) .edges .now) ((c .before .before .before .before .before .before .before .args) .visited .now) _ ((c .before .before .before .before .before .before .before .args) .i) ((c .before .before .before .before .before .before .before .args) .n) (takes-is ((c .before .before .before .before .before .before .before .args) .edges .now) ((c .before .before .before .before .before .before .before .args) .visited .now) ((c .before .before .before .before .before .before .before .args) .i) ((c .before .before .if1) .left) ((c .before .counted) .ensures) (not-true _ ((c .if2) .taken)))
 
--- src/lib.rt:138:14
 cast-out : tie.Need-cast-out
 cast-out c = search needs
 
--- src/lib.rt:138:5
 mul-out : tie.Need-mul-out
 mul-out c = let h = (c .before .before .before .before .before .before .before .pre) .3 (takes-is ((c .before .before .before .before .before .before .before .args) .edges .now) ((c .before .before .before .before .before .before .before .args) .visited .now) ((c .before .before .before .before .before .before .before .args) .i) ((c .before .before .if1) .left) ((c .before .counted) .ensures) (not-false _ ((c .if2) .left))) in let g = (c .before .before .before .before .before .before .before .good) in omega arith
 
--- src/lib.rt:138:5
 slice-write-out : tie.Need-slice-write-out
 slice-write-out c = (c .before .before .before .before .before .before .before .pre) .3 (takes-is ((c .before .before .before .before .before .before .before .args) .edges .now) ((c .before .before .before .before .before .before .before .args) .visited .now) ((c .before .before .before .before .before .before .before .args) .i) ((c .before .before .if1) .left) ((c .before .counted) .ensures) (not-false _ ((c .if2) .left)))
 
--- src/lib.rt:139:5
 add-result : tie.Need-add-result
 add-result c = let h = (c .before .before .before .before .before .before .before .pre) .3 (takes-is ((c .before .before .before .before .before .before .before .args) .edges .now) ((c .before .before .before .before .before .before .before .args) .visited .now) ((c .before .before .before .before .before .before .before .args) .i) ((c .before .before .if1) .left) ((c .before .counted) .ensures) (not-false _ ((c .if2) .left))) in let g = (c .before .before .before .before .before .before .before .good) in omega arith
 
--- src/lib.rt:128:1
 same-length : tie.Need-same-length
 same-length c = search needs
 
--- src/lib.rt:128:1
 returns-3 : tie.Need-returns-3
 returns-3 c = listed-yes ((c .before .before .before .before .before .before .before .args) .edges .now) ((c .before .before .before .before .before .before .before .args) .visited .now) _ ((c .before .before .before .before .before .before .before .args) .i) ((c .before .before .before .before .before .before .before .args) .n) (takes-is ((c .before .before .before .before .before .before .before .args) .edges .now) ((c .before .before .before .before .before .before .before .args) .visited .now) ((c .before .before .before .before .before .before .before .args) .i) ((c .before .before .if1) .left) ((c .before .counted) .ensures) (not-false _ ((c .if2) .left)))
 

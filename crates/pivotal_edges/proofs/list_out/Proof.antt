@@ -20,59 +20,45 @@ Inv-loop vertices edges m v visited out₀ n found₀ t₀ r₀ out found t r = 
 abbrev μ-loop : tie.MeasureT-loop
 μ-loop vertices edges m v visited out₀ n found₀ t₀ r₀ out found t r = length vertices - t
 
--- src/lib.rt:146:9
 forks-requires : tie.Need-forks-requires Inv-loop μ-loop
 forks-requires c κs = (c .before .before .before .before .pre) .here
 
--- src/lib.rt:147:9
 returns : tie.Need-returns Inv-loop μ-loop
 returns c = listed-none (c .before .before .before .before .before .before .pre) (sym ((c .before .forks) .ensures) ∙ not-true _ ((c .if1) .taken))
 
--- src/lib.rt:151:9
 next-out-requires : tie.Need-next-out-requires Inv-loop μ-loop
 next-out-requires c κs = next-asks ((c .before .before .before .before .before .before .pre) .here)
 
--- src/lib.rt:152:5
 loop-holds : tie.Need-loop-holds Inv-loop μ-loop
 loop-holds c = lister-start (c .before .before .before .before .before .before .before .pre) ((c .next-out) .ensures)
 
--- src/lib.rt:153:34
 sub-list-edge : tie.Need-sub-list-edge Inv-loop μ-loop
 sub-list-edge c = let h = (c .loop-test) .taken in omega arith
 
--- src/lib.rt:153:9
 list-edge-requires : tie.Need-list-edge-requires Inv-loop μ-loop
 list-edge-requires c κs = (next-row ((c .before .before .before .before .before .before .before .before .before .before .pre) .here) ((c .before .before .loop) .inv .next) ((c .before .loop-test) .taken), lister-mark (c .before .before .before .before .before .before .before .before .before .before .pre) ((c .before .before .loop) .inv) ((c .before .loop-test) .taken), (let h = next-in ((c .before .before .before .before .before .before .before .before .before .before .pre) .here) ((c .before .before .loop) .inv .next) ((c .before .loop-test) .taken) in let g = (c .before .before .before .before .before .before .before .before .before .before .pre) .here .linked .few in omega arith), lister-room (c .before .before .before .before .before .before .before .before .before .before .pre) ((c .before .before .loop) .inv) ((c .before .loop-test) .taken))
 
--- src/lib.rt:154:28
 sub-edge-to : tie.Need-sub-edge-to Inv-loop μ-loop
 sub-edge-to c = let h = (c .before .before .before .before .loop-test) .taken in omega arith
 
--- src/lib.rt:154:13
 edge-to-requires : tie.Need-edge-to-requires Inv-loop μ-loop
 edge-to-requires c κs = next-row ((c .before .before .before .before .before .before .before .before .before .before .before .before .before .pre) .here) ((c .before .before .before .before .before .loop) .inv .next) ((c .before .before .before .before .loop-test) .taken)
 
--- src/lib.rt:154:13
 add-t : tie.Need-add-t Inv-loop μ-loop
 add-t c = let h = next-fits ((c .before .before .before .before .before .before .before .before .before .before .before .before .before .before .pre) .here) ((c .before .before .before .before .before .before .loop) .inv .next) ((c .before .before .before .before .before .loop-test) .taken) ((c .edge-to) .ensures) in let g = (c .before .before .before .before .before .before .before .before .before .before .before .before .before .before .good) .0 in omega arith
 
--- src/lib.rt:155:9
 next-out-requires-2 : tie.Need-next-out-requires-2 Inv-loop μ-loop
 next-out-requires-2 c κs = next-asks ((c .before .before .before .before .before .before .before .before .before .before .before .before .before .before .pre) .here)
 
--- src/lib.rt:152:5
 loop-less : tie.Need-loop-less Inv-loop μ-loop
 loop-less c = next-less ((c .before .before .before .before .before .before .before .before .before .before .before .before .before .before .before .pre) .here) ((c .before .before .before .before .before .before .before .loop) .inv .next) ((c .before .before .before .before .before .before .loop-test) .taken) ((c .before .edge-to) .ensures)
 
--- src/lib.rt:152:5
 loop-again : tie.Need-loop-again Inv-loop μ-loop
 loop-again c = lister-next (c .before .before .before .before .before .before .before .before .before .before .before .before .before .before .before .pre) ((c .before .before .before .before .before .before .before .loop) .inv) ((c .before .before .before .before .before .before .loop-test) .taken) ((c .before .edge-to) .ensures) ((c .next-out2) .ensures) ((c .before .before .before .before .list-edge) .kept .1 .1 .1 .0) ((c .before .before .before .before .list-edge) .ensures)
 
--- src/lib.rt:134:1
 same-length : tie.Need-same-length Inv-loop μ-loop
 same-length c = (c .before .loop) .inv .size
 
--- src/lib.rt:134:1
 returns-2 : tie.Need-returns-2 Inv-loop μ-loop
 returns-2 c = lister-end (c .before .before .before .before .before .before .before .before .before .pre) ((c .before .loop) .inv) ((c .loop-test) .left) (sym ((c .before .before .before .before .forks) .ensures) ∙ not-false _ ((c .before .before .before .if1) .left))
 

@@ -16,55 +16,42 @@ Inv-loop vertices edges m v visited₀ t₀ r₀ visited t r = Marker edges m v 
 abbrev μ-loop : tie.MeasureT-loop
 μ-loop vertices edges m v visited₀ t₀ r₀ visited t r = length vertices - t
 
--- src/lib.rt:225:9
 next-out-requires : tie.Need-next-out-requires Inv-loop μ-loop
 next-out-requires c κs = next-asks ((c .before .before .before .pre) .here)
 
--- src/lib.rt:226:5
 loop-holds : tie.Need-loop-holds Inv-loop μ-loop
 loop-holds c = marker-start (c .before .before .before .before .pre) ((c .next-out) .ensures)
 
--- src/lib.rt:227:17
 sub-visited : tie.Need-sub-visited Inv-loop μ-loop
 sub-visited c = let h = (c .loop-test) .taken in omega arith
 
--- src/lib.rt:227:9
 mul-visited : tie.Need-mul-visited Inv-loop μ-loop
 mul-visited c = let h = marker-in (c .before .before .before .before .before .before .pre) ((c .before .loop) .inv) ((c .loop-test) .taken) in let s = (c .before .loop) .inv .size in let g = (c .before .before .before .before .before .before .good) in omega arith
 
--- src/lib.rt:227:9
 slice-write-visited : tie.Need-slice-write-visited Inv-loop μ-loop
 slice-write-visited c = marker-in (c .before .before .before .before .before .before .pre) ((c .before .loop) .inv) ((c .loop-test) .taken)
 
--- src/lib.rt:228:28
 sub-edge-to : tie.Need-sub-edge-to Inv-loop μ-loop
 sub-edge-to c = let h = (c .loop-test) .taken in omega arith
 
--- src/lib.rt:228:13
 edge-to-requires : tie.Need-edge-to-requires Inv-loop μ-loop
 edge-to-requires c κs = next-row ((c .before .before .before .before .before .before .pre) .here) ((c .before .loop) .inv .next) ((c .loop-test) .taken)
 
--- src/lib.rt:228:13
 add-t : tie.Need-add-t Inv-loop μ-loop
 add-t c = let h = next-fits ((c .before .before .before .before .before .before .before .pre) .here) ((c .before .before .loop) .inv .next) ((c .before .loop-test) .taken) ((c .edge-to) .ensures) in let g = (c .before .before .before .before .before .before .before .good) .0 in omega arith
 
--- src/lib.rt:229:9
 next-out-requires-2 : tie.Need-next-out-requires-2 Inv-loop μ-loop
 next-out-requires-2 c κs = next-asks ((c .before .before .before .before .before .before .before .pre) .here)
 
--- src/lib.rt:226:5
 loop-less : tie.Need-loop-less Inv-loop μ-loop
 loop-less c = next-less ((c .before .before .before .before .before .before .before .before .pre) .here) ((c .before .before .before .loop) .inv .next) ((c .before .before .loop-test) .taken) ((c .before .edge-to) .ensures)
 
--- src/lib.rt:226:5
 loop-again : tie.Need-loop-again Inv-loop μ-loop
 loop-again c = marker-next (c .before .before .before .before .before .before .before .before .pre) ((c .before .before .before .loop) .inv) ((c .before .before .loop-test) .taken) ((c .before .edge-to) .ensures) ((c .next-out2) .ensures)
 
--- src/lib.rt:220:1
 same-length : tie.Need-same-length Inv-loop μ-loop
 same-length c = (c .before .loop) .inv .size
 
--- src/lib.rt:220:1
 returns : tie.Need-returns Inv-loop μ-loop
 returns c = marker-end (c .before .before .before .before .before .before .pre) ((c .before .loop) .inv) ((c .loop-test) .left)
 

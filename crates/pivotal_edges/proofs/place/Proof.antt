@@ -15,39 +15,30 @@ Inv-loop edges queue front tail x p₀ p = Placing edges queue front tail x p
 abbrev μ-loop : tie.MeasureT-loop
 μ-loop edges queue front tail x p₀ p = tail - p
 
--- src/lib.rt:62:5
 loop-holds : tie.Need-loop-holds Inv-loop μ-loop
 loop-holds c = placing-start (c .before .before .pre)
 
--- src/lib.rt:63:28
 mul-earlier : tie.Need-mul-earlier Inv-loop μ-loop
 mul-earlier c = let h = (c .loop-test) .taken in let k = (c .before .before .before .before .pre) .high in let g = (c .before .before .before .before .good) .1 in omega arith
 
--- src/lib.rt:63:28
 shared-slice-read-earlier : tie.Need-shared-slice-read-earlier Inv-loop μ-loop
 shared-slice-read-earlier c = placing-read (c .before .before .before .before .before .pre) ((c .before .before .loop) .inv) ((c .before .loop-test) .taken)
 
--- src/lib.rt:63:13
 earlier-requires : tie.Need-earlier-requires Inv-loop μ-loop
 earlier-requires c κs = (placing-fits (c .before .before .before .before .before .pre) ((c .before .before .loop) .inv) ((c .before .loop-test) .taken), (c .before .before .before .before .before .pre) .named)
 
--- src/lib.rt:64:13
 returns : tie.Need-returns Inv-loop μ-loop
 returns c = placing-here (c .before .before .before .before .before .before .before .pre) ((c .before .before .before .before .loop) .inv) ((c .before .before .before .loop-test) .taken) (sym ((c .before .earlier) .ensures) ∙ not-true _ (c .if1 .taken))
 
--- src/lib.rt:66:9
 add-p : tie.Need-add-p Inv-loop μ-loop
 add-p c = let h = (c .before .before .before .loop-test) .taken in let k = (c .before .before .before .before .before .before .before .fits) .tail in omega arith
 
--- src/lib.rt:62:5
 loop-less : tie.Need-loop-less Inv-loop μ-loop
 loop-less c = let h = (c .before .before .before .loop-test) .taken in omega arith
 
--- src/lib.rt:62:5
 loop-again : tie.Need-loop-again Inv-loop μ-loop
 loop-again c = placing-next (c .before .before .before .before .before .before .before .pre) ((c .before .before .before .before .loop) .inv) ((c .before .before .before .loop-test) .taken) (sym ((c .before .earlier) .ensures) ∙ not-false _ (c .if1 .left))
 
--- src/lib.rt:57:1
 returns-2 : tie.Need-returns-2 Inv-loop μ-loop
 returns-2 c = placing-end (c .before .before .before .before .pre) ((c .before .loop) .inv) ((c .loop-test) .left)
 

@@ -14,51 +14,39 @@ Inv-loop queue₀ p tail x i₀ carry₀ queue i carry = Shifting queue₀ p tai
 abbrev μ-loop : tie.MeasureT-loop
 μ-loop queue₀ p tail x i₀ carry₀ queue i carry = tail - i
 
--- src/lib.rt:78:5
 loop-holds : tie.Need-loop-holds Inv-loop μ-loop
 loop-holds c = shifting-start _ _ _ _ ((c .pre) .0)
 
--- src/lib.rt:79:17
 mul-y : tie.Need-mul-y Inv-loop μ-loop
 mul-y c = let t = c .before .before .pre .1 in let k = c .before .loop .inv .high in let g = c .before .before .good .0 in omega arith
 
--- src/lib.rt:79:17
 slice-read-y : tie.Need-slice-read-y Inv-loop μ-loop
 slice-read-y c = shifting-in ((c .before .before .before .pre) .1) ((c .before .before .loop) .inv)
 
--- src/lib.rt:80:9
 mul-queue : tie.Need-mul-queue Inv-loop μ-loop
 mul-queue c = let t = c .before .before .before .pre .1 in let k = c .before .before .loop .inv .high in let g = c .before .before .before .good .0 in omega arith
 
--- src/lib.rt:80:9
 slice-write-queue : tie.Need-slice-write-queue Inv-loop μ-loop
 slice-write-queue c = shifting-in ((c .before .before .before .pre) .1) ((c .before .before .loop) .inv)
 
--- src/lib.rt:82:9
 add-i : tie.Need-add-i Inv-loop μ-loop
 add-i c = let h = (c .before .loop-test) .taken in let k = (c .before .before .before .fits) .tail in omega arith
 
--- src/lib.rt:78:5
 loop-less : tie.Need-loop-less Inv-loop μ-loop
 loop-less c = let h = (c .before .loop-test) .taken in omega arith
 
--- src/lib.rt:78:5
 loop-again : tie.Need-loop-again Inv-loop μ-loop
 loop-again c = shifting-next ((c .before .before .before .pre) .1) ((c .before .before .loop) .inv) ((c .before .loop-test) .taken)
 
--- src/lib.rt:84:5
 mul-queue-2 : tie.Need-mul-queue-2 Inv-loop μ-loop
 mul-queue-2 c = let t = c .before .before .pre .1 in let k = c .before .loop .inv .high in let g = c .before .before .good .0 in omega arith
 
--- src/lib.rt:84:5
 slice-write-queue-2 : tie.Need-slice-write-queue-2 Inv-loop μ-loop
 slice-write-queue-2 c = shifting-in ((c .before .before .pre) .1) ((c .before .loop) .inv)
 
--- src/lib.rt:72:1
 same-length : tie.Need-same-length Inv-loop μ-loop
 same-length c = length-set (c .before .loop .queue) (c .before .loop .i) (c .before .loop .carry) ∙ c .before .loop .inv .size
 
--- src/lib.rt:72:1
 returns : tie.Need-returns Inv-loop μ-loop
 returns c = shifting-end ((c .before .before .pre) .1) ((c .before .loop) .inv) ((c .loop-test) .left)
 

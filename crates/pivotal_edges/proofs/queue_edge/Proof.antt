@@ -9,43 +9,33 @@ use Rattle.pivotal_edges.proofs.queue_edge.Reads as reads
 use Rattle.pivotal_edges.proofs.queue_edge.Lts as lts
 use Rattle.pivotal_edges.proofs.enqueue.Reads as enqueue-reads
 
--- src/lib.rt:185:8
 mul-if1 : tie.Need-mul-if1
 mul-if1 c = let h = one-mark (c .before .before .before .pre) in let g = (c .before .before .before .good) in omega arith
 
--- src/lib.rt:185:8
 shared-slice-read-if1 : tie.Need-shared-slice-read-if1
 shared-slice-read-if1 c = one-mark (c .before .before .before .before .pre)
 
--- src/lib.rt:186:9
 returns : tie.Need-returns
 returns c = one-no (c .before .before .before .before .before .pre) ((c .if1) .taken)
 
--- src/lib.rt:188:14
 mul-x : tie.Need-mul-x
 mul-x c = let h = one-fits (c .before .before .before .before .before .pre) in omega arith
 
--- src/lib.rt:188:14
 add-x : tie.Need-add-x
 add-x c = let h = one-fits (c .before .before .before .before .before .pre) in omega arith
 
--- src/lib.rt:188:13
 cast-x : tie.Need-cast-x
 cast-x c = let h = one-fits (c .before .before .before .before .before .pre) in omega arith
 
--- src/lib.rt:189:5
 enqueue-requires : tie.Need-enqueue-requires
 enqueue-requires c κs = (one-known (c .before .before .before .before .before .before .pre), (c .before .before .before .before .before .before .pre) .fits ((c .before .if1) .left))
 
--- src/lib.rt:190:5
 add-result : tie.Need-add-result
 add-result c = let h = (c .before .before .before .before .before .before .before .before .before .pre) .fits ((c .before .before .before .before .if1) .left) in let g = (c .before .before .before .before .before .before .before .before .before .good) in omega arith
 
--- src/lib.rt:172:1
 same-length : tie.Need-same-length
 same-length c = search needs
 
--- src/lib.rt:172:1
 returns-2 : tie.Need-returns-2
 returns-2 c = one-yes (c .before .before .before .before .before .before .before .before .before .pre) refl ((c .before .before .before .before .if1) .left) ((c .before .before .enqueue) .ensures)
 

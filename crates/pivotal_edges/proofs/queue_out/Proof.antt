@@ -17,51 +17,39 @@ Inv-loop vertices edges m v level visited queue₀ front tail end₀ t₀ r₀ q
 abbrev μ-loop : tie.MeasureT-loop
 μ-loop vertices edges m v level visited queue₀ front tail end₀ t₀ r₀ queue end t r = length vertices - t
 
--- src/lib.rt:210:9
 next-out-requires : tie.Need-next-out-requires Inv-loop μ-loop
 next-out-requires c κs = next-asks ((c .before .before .before .before .pre) .here)
 
--- src/lib.rt:211:5
 loop-holds : tie.Need-loop-holds Inv-loop μ-loop
 loop-holds c = queuer-start (c .before .before .before .before .before .pre) ((c .next-out) .ensures)
 
--- src/lib.rt:212:71
 sub-queue-edge : tie.Need-sub-queue-edge Inv-loop μ-loop
 sub-queue-edge c = let h = (c .before .loop-test) .taken in omega arith
 
--- src/lib.rt:212:9
 queue-edge-requires : tie.Need-queue-edge-requires Inv-loop μ-loop
 queue-edge-requires c κs = queuer-one (c .before .before .before .before .before .before .before .before .pre) ((c .before .before .loop) .inv) ((c .before .loop-test) .taken)
 
--- src/lib.rt:213:28
 sub-edge-to : tie.Need-sub-edge-to Inv-loop μ-loop
 sub-edge-to c = let h = (c .before .before .before .before .loop-test) .taken in omega arith
 
--- src/lib.rt:213:13
 edge-to-requires : tie.Need-edge-to-requires Inv-loop μ-loop
 edge-to-requires c κs = next-row ((c .before .before .before .before .before .before .before .before .before .before .before .pre) .here) ((c .before .before .before .before .before .loop) .inv .next) ((c .before .before .before .before .loop-test) .taken)
 
--- src/lib.rt:213:13
 add-t : tie.Need-add-t Inv-loop μ-loop
 add-t c = let h = next-fits ((c .before .before .before .before .before .before .before .before .before .before .before .before .pre) .here) ((c .before .before .before .before .before .before .loop) .inv .next) ((c .before .before .before .before .before .loop-test) .taken) ((c .edge-to) .ensures) in let g = (c .before .before .before .before .before .before .before .before .before .before .before .before .good) .0 in omega arith
 
--- src/lib.rt:214:9
 next-out-requires-2 : tie.Need-next-out-requires-2 Inv-loop μ-loop
 next-out-requires-2 c κs = next-asks ((c .before .before .before .before .before .before .before .before .before .before .before .before .pre) .here)
 
--- src/lib.rt:211:5
 loop-less : tie.Need-loop-less Inv-loop μ-loop
 loop-less c = next-less ((c .before .before .before .before .before .before .before .before .before .before .before .before .before .pre) .here) ((c .before .before .before .before .before .before .before .loop) .inv .next) ((c .before .before .before .before .before .before .loop-test) .taken) ((c .before .edge-to) .ensures)
 
--- src/lib.rt:211:5
 loop-again : tie.Need-loop-again Inv-loop μ-loop
 loop-again c = queuer-next (c .before .before .before .before .before .before .before .before .before .before .before .before .before .pre) ((c .before .before .before .before .before .before .before .loop) .inv) ((c .before .before .before .before .before .before .loop-test) .taken) ((c .before .edge-to) .ensures) ((c .next-out2) .ensures) ((c .before .before .before .before .queue-edge) .ensures)
 
--- src/lib.rt:194:1
 same-length : tie.Need-same-length Inv-loop μ-loop
 same-length c = (c .before .loop) .inv .size
 
--- src/lib.rt:194:1
 returns : tie.Need-returns Inv-loop μ-loop
 returns c = queuer-end (c .before .before .before .before .before .before .before .pre) ((c .before .loop) .inv) ((c .loop-test) .left)
 

@@ -14,87 +14,66 @@ Inv-loop nodes₀ active₀ w n cap a b k₀ i₀ nodes active k i = Track cap n
 abbrev μ-loop : tie.MeasureT-loop
 μ-loop nodes₀ active₀ w n cap a b k₀ i₀ nodes active k i = w - i
 
--- src/lib.rt:209:5
 loop-holds : tie.Need-loop-holds Inv-loop μ-loop
 loop-holds c = track-start _ _ _ _ _ _ (c .before .before .pre)
 
--- src/lib.rt:210:13
 active-slot-requires : tie.Need-active-slot-requires Inv-loop μ-loop
 active-slot-requires c κs = track-open _ _ _ _ _ _ (c .before .before .before .before .before .pre) _ _ _ _ (c .before .before .loop .inv) (c .before .loop-test .taken)
 
--- src/lib.rt:211:13
 active-count-requires : tie.Need-active-count-requires Inv-loop μ-loop
 active-count-requires c κs = track-open _ _ _ _ _ _ (c .before .before .before .before .before .before .before .pre) _ _ _ _ (c .before .before .before .before .loop .inv) (c .before .before .before .loop-test .taken)
 
--- src/lib.rt:212:13
 add-edge-requires : tie.Need-add-edge-requires Inv-loop μ-loop
 add-edge-requires c κs = track-ready _ _ _ _ _ _ (c .before .before .before .before .before .before .before .before .before .pre) _ _ _ _ (c .before .before .before .before .before .before .loop .inv) _ _ (c .before .before .before .active-slot .ensures) (c .before .active-count .ensures) (c .before .before .before .before .before .loop-test .taken)
 
--- src/lib.rt:213:24
 enum-known-r : tie.Need-enum-known-r Inv-loop μ-loop
 enum-known-r c = search needs
 
--- src/lib.rt:214:13
 enum-told : tie.Need-enum-told Inv-loop μ-loop
 enum-told c = search needs
 
--- src/lib.rt:214:13
 step-refusal-requires : tie.Need-step-refusal-requires Inv-loop μ-loop
 step-refusal-requires c κs = search needs
 
--- src/lib.rt:214:13
 same-length : tie.Need-same-length Inv-loop μ-loop
 same-length c = c .before .before .before .before .before .add-edge .kept .0 ∙ c .before .before .before .before .before .before .before .before .before .before .before .before .loop .inv .nodes
 
--- src/lib.rt:214:13
 same-length-2 : tie.Need-same-length-2 Inv-loop μ-loop
 same-length-2 c = c .before .before .before .before .before .before .before .before .before .before .before .before .loop .inv .opened
 
--- src/lib.rt:214:13
 returns : tie.Need-returns Inv-loop μ-loop
 returns c = track-stop _ _ _ _ _ _ (c .before .before .before .before .before .before .before .before .before .before .before .before .before .before .before .pre) _ _ _ _ (c .before .before .before .before .before .before .before .before .before .before .before .before .loop .inv) _ _ (c .before .before .before .before .before .before .before .before .before .active-slot .ensures) (c .before .before .before .before .before .before .before .active-count .ensures) _ _ (c .before .before .before .before .before .before .before .before .before .before .before .loop-test .taken) (c .before .before .before .before .before .add-edge .ensures) _ (c .before .enum-told .given .1) _ (c .step-refusal .ensures)
 
--- src/lib.rt:216:29
 cast-active : tie.Need-cast-active Inv-loop μ-loop
 cast-active c = record { fits = track-fits _ _ _ _ _ _ (c .before .before .before .before .before .before .before .before .before .before .before .before .before .before .before .before .pre) _ _ _ _ (c .before .before .before .before .before .before .before .before .before .before .before .before .before .loop .inv) _ _ (c .before .before .before .before .before .before .before .before .before .before .active-slot .ensures) (c .before .before .before .before .before .before .before .before .active-count .ensures) _ _ (c .before .before .before .before .before .before .before .before .before .before .before .before .loop-test .taken) (c .before .before .before .before .before .before .add-edge .ensures) _ (c .before .before .r .given .1) }
 
--- src/lib.rt:216:16
 mul-active : tie.Need-mul-active Inv-loop μ-loop
 mul-active c = fits-row _ _ _ (track-index₀ _ _ _ _ _ _ (c .before .before .before .before .before .before .before .before .before .before .before .before .before .before .before .before .pre) _ _ _ _ (c .before .before .before .before .before .before .before .before .before .before .before .before .before .loop .inv) (c .before .before .before .before .before .before .before .before .before .before .before .before .loop-test .taken)) (c .before .before .before .before .before .before .before .before .before .before .before .before .before .before .before .before .good .1 .0 .0)
 
--- src/lib.rt:216:16
 add-active : tie.Need-add-active Inv-loop μ-loop
 add-active c = fits-index _ _ (track-index₀ _ _ _ _ _ _ (c .before .before .before .before .before .before .before .before .before .before .before .before .before .before .before .before .pre) _ _ _ _ (c .before .before .before .before .before .before .before .before .before .before .before .before .before .loop .inv) (c .before .before .before .before .before .before .before .before .before .before .before .before .loop-test .taken)) (c .before .before .before .before .before .before .before .before .before .before .before .before .before .before .before .before .good .1 .0 .0)
 
--- src/lib.rt:216:9
 mul-active-2 : tie.Need-mul-active-2 Inv-loop μ-loop
 mul-active-2 c = scaled-fits _ _ 4 (track-index₀ _ _ _ _ _ _ (c .before .before .before .before .before .before .before .before .before .before .before .before .before .before .before .before .pre) _ _ _ _ (c .before .before .before .before .before .before .before .before .before .before .before .before .before .loop .inv) (c .before .before .before .before .before .before .before .before .before .before .before .before .loop-test .taken)) (c .before .before .before .before .before .before .before .before .before .before .before .before .before .before .before .before .good .1 .0 .1)
 
--- src/lib.rt:216:9
 slice-write-active : tie.Need-slice-write-active Inv-loop μ-loop
 slice-write-active c = track-index _ _ _ _ _ _ (c .before .before .before .before .before .before .before .before .before .before .before .before .before .before .before .before .pre) _ _ _ _ (c .before .before .before .before .before .before .before .before .before .before .before .before .before .loop .inv) (c .before .before .before .before .before .before .before .before .before .before .before .before .loop-test .taken)
 
--- src/lib.rt:218:9
 add-i : tie.Need-add-i Inv-loop μ-loop
 add-i c = fits-next _ _ (c .before .before .before .before .before .before .before .before .before .before .before .before .loop-test .taken) (c .before .before .before .before .before .before .before .before .before .before .before .before .before .before .before .before .fits .w)
 
--- src/lib.rt:209:5
 loop-less : tie.Need-loop-less Inv-loop μ-loop
 loop-less c = falls _ _ (c .before .before .before .before .before .before .before .before .before .before .before .before .loop-test .taken)
 
--- src/lib.rt:209:5
 loop-again : tie.Need-loop-again Inv-loop μ-loop
 loop-again c = track-next _ _ _ _ _ _ (c .before .before .before .before .before .before .before .before .before .before .before .before .before .before .before .before .pre) _ _ _ _ (c .before .before .before .before .before .before .before .before .before .before .before .before .before .loop .inv) _ _ (c .before .before .before .before .before .before .before .before .before .before .active-slot .ensures) (c .before .before .before .before .before .before .before .before .active-count .ensures) _ _ (c .before .before .before .before .before .before .before .before .before .before .before .before .loop-test .taken) (c .before .before .before .before .before .before .add-edge .ensures) _ (c .before .before .r .given .1) (c .before .before .before .before .before .before .add-edge .kept .0)
 
--- src/lib.rt:203:1
 same-length-3 : tie.Need-same-length-3 Inv-loop μ-loop
 same-length-3 c = c .before .loop .inv .nodes
 
--- src/lib.rt:203:1
 same-length-4 : tie.Need-same-length-4 Inv-loop μ-loop
 same-length-4 c = c .before .loop .inv .opened
 
--- src/lib.rt:203:1
 returns-2 : tie.Need-returns-2 Inv-loop μ-loop
 returns-2 c = track-end _ _ _ _ _ _ (c .before .before .before .before .pre) _ _ _ _ (c .before .loop .inv) (c .loop-test .left)
 

@@ -6,119 +6,90 @@ use borrow.Author.Needs.{needs}
 use Rattle.threading_tree.proofs.add_tree_if_necessary.Statement.{statement}
 use Rattle.threading_tree.proofs.add_tree_if_necessary.Tie as tie
 
--- src/lib.rt:256:9
 get-and-increment-root-requires : tie.Need-get-and-increment-root-requires
 get-and-increment-root-requires c κs = c .before .before .before .pre .openable
 
--- src/lib.rt:257:20
 enum-known-r : tie.Need-enum-known-r
 enum-known-r c = search needs
 
--- src/lib.rt:258:9
 enum-told : tie.Need-enum-told
 enum-told c = search needs
 
--- src/lib.rt:258:9
 step-refusal-requires : tie.Need-step-refusal-requires
 step-refusal-requires c κs = search needs
 
--- src/lib.rt:258:9
 same-length : tie.Need-same-length
 same-length c = search needs
 
--- src/lib.rt:258:9
 returns : tie.Need-returns
 returns c = join-turned _ _ _ _ _ _ _ (c .before .before .before .before .before .before .before .before .before .pre) _ _ (c .before .before .before .before .before .get-and-increment-root .ensures) _ (c .before .enum-told .given .1) _ (c .step-refusal .ensures)
 
--- src/lib.rt:261:9
 find-active-requires : tie.Need-find-active-requires
 find-active-requires c κs = join-search _ _ _ _ _ _ _ (c .before .before .before .before .before .before .before .before .before .before .pre)
 
--- src/lib.rt:263:20
 active-count-requires : tie.Need-active-count-requires
 active-count-requires c κs = raised-in _ _ _ _ _ _ _ (c .before .before .before .before .before .before .before .before .before .before .before .before .before .pre) _ _ (c .before .before .before .before .before .before .before .before .before .get-and-increment-root .ensures) _ (c .before .before .before .before .before .r .given .1) _ (c .before .before .find-active .ensures) (c .before .if1 .taken)
 
--- src/lib.rt:263:20
 add-more : tie.Need-add-more
 add-more c = record { fits = raised-fits _ _ _ _ _ _ _ (c .before .before .before .before .before .before .before .before .before .before .before .before .before .before .pre) _ _ (c .before .before .before .before .before .before .before .before .before .before .get-and-increment-root .ensures) _ (c .before .before .before .before .before .before .r .given .1) _ (c .before .before .before .find-active .ensures) (c .before .before .if1 .taken) _ (c .active-count .ensures) }
 
--- src/lib.rt:264:16
 mul-active : tie.Need-mul-active
 mul-active c = fits-row _ _ _ (raised-index _ _ _ _ _ _ _ (c .before .before .before .before .before .before .before .before .before .before .before .before .before .before .pre) _ _ (c .before .before .before .before .before .before .before .before .before .before .get-and-increment-root .ensures) _ (c .before .before .before .before .before .before .r .given .1) _ (c .before .before .before .find-active .ensures) (c .before .before .if1 .taken)) (c .before .before .before .before .before .before .before .before .before .before .before .before .before .before .good .1 .0 .0)
 
--- src/lib.rt:264:16
 add-active : tie.Need-add-active
 add-active c = fits-index _ _ (raised-index _ _ _ _ _ _ _ (c .before .before .before .before .before .before .before .before .before .before .before .before .before .before .pre) _ _ (c .before .before .before .before .before .before .before .before .before .before .get-and-increment-root .ensures) _ (c .before .before .before .before .before .before .r .given .1) _ (c .before .before .before .find-active .ensures) (c .before .before .if1 .taken)) (c .before .before .before .before .before .before .before .before .before .before .before .before .before .before .good .1 .0 .0)
 
--- src/lib.rt:264:9
 mul-active-2 : tie.Need-mul-active-2
 mul-active-2 c = scaled-fits _ _ 4 (raised-index _ _ _ _ _ _ _ (c .before .before .before .before .before .before .before .before .before .before .before .before .before .before .pre) _ _ (c .before .before .before .before .before .before .before .before .before .before .get-and-increment-root .ensures) _ (c .before .before .before .before .before .before .r .given .1) _ (c .before .before .before .find-active .ensures) (c .before .before .if1 .taken)) (c .before .before .before .before .before .before .before .before .before .before .before .before .before .before .good .1 .0 .1)
 
--- src/lib.rt:264:9
 slice-write-active : tie.Need-slice-write-active
 slice-write-active c = raised-index _ _ _ _ _ _ _ (c .before .before .before .before .before .before .before .before .before .before .before .before .before .before .pre) _ _ (c .before .before .before .before .before .before .before .before .before .before .get-and-increment-root .ensures) _ (c .before .before .before .before .before .before .r .given .1) _ (c .before .before .before .find-active .ensures) (c .before .before .if1 .taken)
 
--- src/lib.rt:265:9
 same-length-2 : tie.Need-same-length-2
 same-length-2 c = search needs
 
--- src/lib.rt:265:9
 same-length-3 : tie.Need-same-length-3
 same-length-3 c = search needs
 
--- src/lib.rt:265:9
 returns-2 : tie.Need-returns-2
 returns-2 c = join-raised _ _ _ _ _ _ _ (c .before .before .before .before .before .before .before .before .before .before .before .before .before .before .pre) _ _ (c .before .before .before .before .before .before .before .before .before .before .get-and-increment-root .ensures) _ (c .before .before .before .before .before .before .r .given .1) _ (c .before .before .before .find-active .ensures) (c .before .before .if1 .taken) _ (c .active-count .ensures)
 
--- src/lib.rt:267:25
 cast-active : tie.Need-cast-active
 cast-active c = record { fits = root-fits _ _ _ _ _ _ _ (c .before .before .before .before .before .before .before .before .before .before .before .before .pre) _ _ (c .before .before .before .before .before .before .before .before .get-and-increment-root .ensures) _ (c .before .before .before .before .r .given .1) }
 
--- src/lib.rt:267:12
 mul-active-3 : tie.Need-mul-active-3
 mul-active-3 c = fits-row _ _ _ (join-first _ _ _ _ _ _ _ (c .before .before .before .before .before .before .before .before .before .before .before .before .pre) _ _ (c .before .before .before .before .before .before .before .before .get-and-increment-root .ensures) _ (c .before .before .before .before .r .given .1) _ (c .before .find-active .ensures) (c .if1 .left)) (c .before .before .before .before .before .before .before .before .before .before .before .before .good .1 .0 .0)
 
--- src/lib.rt:267:12
 add-active-2 : tie.Need-add-active-2
 add-active-2 c = fits-index _ _ (join-first _ _ _ _ _ _ _ (c .before .before .before .before .before .before .before .before .before .before .before .before .pre) _ _ (c .before .before .before .before .before .before .before .before .get-and-increment-root .ensures) _ (c .before .before .before .before .r .given .1) _ (c .before .find-active .ensures) (c .if1 .left)) (c .before .before .before .before .before .before .before .before .before .before .before .before .good .1 .0 .0)
 
--- src/lib.rt:267:5
 mul-active-4 : tie.Need-mul-active-4
 mul-active-4 c = scaled-fits _ _ 4 (join-first _ _ _ _ _ _ _ (c .before .before .before .before .before .before .before .before .before .before .before .before .pre) _ _ (c .before .before .before .before .before .before .before .before .get-and-increment-root .ensures) _ (c .before .before .before .before .r .given .1) _ (c .before .find-active .ensures) (c .if1 .left)) (c .before .before .before .before .before .before .before .before .before .before .before .before .good .1 .0 .1)
 
--- src/lib.rt:267:5
 slice-write-active-2 : tie.Need-slice-write-active-2
 slice-write-active-2 c = join-first _ _ _ _ _ _ _ (c .before .before .before .before .before .before .before .before .before .before .before .before .pre) _ _ (c .before .before .before .before .before .before .before .before .get-and-increment-root .ensures) _ (c .before .before .before .before .r .given .1) _ (c .before .find-active .ensures) (c .if1 .left)
 
--- src/lib.rt:268:12
 mul-active-5 : tie.Need-mul-active-5
 mul-active-5 c = fits-row _ _ _ (join-second _ _ _ _ _ _ _ (c .before .before .before .before .before .before .before .before .before .before .before .before .pre) _ _ (c .before .before .before .before .before .before .before .before .get-and-increment-root .ensures) _ (c .before .before .before .before .r .given .1) _ (c .before .find-active .ensures) (c .if1 .left)) (c .before .before .before .before .before .before .before .before .before .before .before .before .good .1 .0 .0)
 
--- src/lib.rt:268:12
 add-active-3 : tie.Need-add-active-3
 add-active-3 c = fits-index _ _ (join-second _ _ _ _ _ _ _ (c .before .before .before .before .before .before .before .before .before .before .before .before .pre) _ _ (c .before .before .before .before .before .before .before .before .get-and-increment-root .ensures) _ (c .before .before .before .before .r .given .1) _ (c .before .find-active .ensures) (c .if1 .left)) (c .before .before .before .before .before .before .before .before .before .before .before .before .good .1 .0 .0)
 
--- src/lib.rt:268:5
 mul-active-6 : tie.Need-mul-active-6
 mul-active-6 c = scaled-fits _ _ 4 (join-second _ _ _ _ _ _ _ (c .before .before .before .before .before .before .before .before .before .before .before .before .pre) _ _ (c .before .before .before .before .before .before .before .before .get-and-increment-root .ensures) _ (c .before .before .before .before .r .given .1) _ (c .before .find-active .ensures) (c .if1 .left)) (c .before .before .before .before .before .before .before .before .before .before .before .before .good .1 .0 .1)
 
--- src/lib.rt:268:5
 slice-write-active-3 : tie.Need-slice-write-active-3
 slice-write-active-3 c = simp length-set (join-second _ _ _ _ _ _ _ (c .before .before .before .before .before .before .before .before .before .before .before .before .pre) _ _ (c .before .before .before .before .before .before .before .before .get-and-increment-root .ensures) _ (c .before .before .before .before .r .given .1) _ (c .before .find-active .ensures) (c .if1 .left))
 
--- src/lib.rt:269:51
 add-t28 : tie.Need-add-t28
 add-t28 c = fits-next _ _ (new-in _ _ _ _ _ _ _ (c .before .before .before .before .before .before .before .before .before .before .before .before .pre) _ _ (c .before .before .before .before .before .before .before .before .get-and-increment-root .ensures) _ (c .before .before .before .before .r .given .1) _ (c .before .find-active .ensures) (c .if1 .left)) (c .before .before .before .before .before .before .before .before .before .before .before .before .fits .cap)
 
--- src/lib.rt:252:1
 same-length-4 : tie.Need-same-length-4
 same-length-4 c = search needs
 
--- src/lib.rt:252:1
 same-length-5 : tie.Need-same-length-5
 same-length-5 c = search needs
 
--- src/lib.rt:252:1
 returns-3 : tie.Need-returns-3
 returns-3 c = join-new _ _ _ _ _ _ _ (c .before .before .before .before .before .before .before .before .before .before .before .before .pre) _ _ (c .before .before .before .before .before .before .before .before .get-and-increment-root .ensures) _ (c .before .before .before .before .r .given .1) _ (c .before .find-active .ensures) (c .if1 .left)
 

@@ -3,23 +3,18 @@ use borrow.Author.Needs.{needs}
 use Rattle.threading_tree.proofs.child_slot.Statement.{statement}
 use Rattle.threading_tree.proofs.child_slot.Tie as tie
 
--- src/lib.rt:350:9
 find-child-requires : tie.Need-find-child-requires
 find-child-requires c κs = readable-rowed _ _ _ _ (c .before .pre)
 
--- src/lib.rt:352:21
 enum-known-place : tie.Need-enum-known-place
 enum-known-place c = search needs
 
--- src/lib.rt:353:20
 enum-known-place-2 : tie.Need-enum-known-place-2
 enum-known-place-2 c = search needs
 
--- src/lib.rt:346:1
 returns : tie.Need-returns
 returns c = child-there _ _ _ _ (c .before .before .before .before .before .pre) _ _ (c .before .before .before .find-child .ensures) _ (c .before .place .given .1)
 
--- src/lib.rt:346:1
 returns-2 : tie.Need-returns-2
 returns-2 c = child-missing _ _ _ _ (c .before .before .before .before .before .pre) _ _ (c .before .before .before .find-child .ensures) _ _ (c .before .place2 .given .1)
 

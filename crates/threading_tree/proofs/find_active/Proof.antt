@@ -13,31 +13,24 @@ Inv-loop active w at i₀ i = (i ≤ w) × ((k : ℕ) → k < i → field active
 abbrev μ-loop : tie.MeasureT-loop
 μ-loop active w at i₀ i = w - i
 
--- src/lib.rt:242:5
 loop-holds : tie.Need-loop-holds Inv-loop μ-loop
 loop-holds c = (omega arith, λ k h. absurd (omega arith))
 
--- src/lib.rt:243:12
 active-slot-requires : tie.Need-active-slot-requires Inv-loop μ-loop
 active-slot-requires c κs = omega arith
 
--- src/lib.rt:244:13
 returns : tie.Need-returns Inv-loop μ-loop
 returns c = record { within = c .before .before .before .loop .inv .0; before = c .before .before .before .loop .inv .1; there = λ h. sym (c .before .active-slot .ensures) ∙ c .if1 .taken }
 
--- src/lib.rt:246:9
 add-i : tie.Need-add-i Inv-loop μ-loop
 add-i c = fits-next _ _ (c .before .before .loop-test .taken) (c .before .before .before .before .before .fits .w)
 
--- src/lib.rt:242:5
 loop-less : tie.Need-loop-less Inv-loop μ-loop
 loop-less c = falls _ _ (c .before .before .loop-test .taken)
 
--- src/lib.rt:242:5
 loop-again : tie.Need-loop-again Inv-loop μ-loop
 loop-again c = (omega arith, below-more _ _ (c .before .before .before .loop .inv .1) (λ z. c .if1 .left (c .before .active-slot .ensures ∙ z)))
 
--- src/lib.rt:237:1
 returns-2 : tie.Need-returns-2 Inv-loop μ-loop
 returns-2 c = record { within = c .before .loop .inv .0; before = c .before .loop .inv .1; there = λ h. absurd (omega arith) }
 

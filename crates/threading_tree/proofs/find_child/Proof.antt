@@ -10,43 +10,33 @@ Inv-loop nodes start a b prev₀ at₀ prev at = Seeking nodes start (ends a b) 
 abbrev μ-loop : tie.MeasureT-loop
 μ-loop nodes start a b prev₀ at₀ prev at = left (2 ^ 32) nodes at
 
--- src/lib.rt:113:5
 loop-holds : tie.Need-loop-holds Inv-loop μ-loop
 loop-holds c = seeking-start _ _ _ (c .before .pre)
 
--- src/lib.rt:114:29
 edge-from-requires : tie.Need-edge-from-requires Inv-loop μ-loop
 edge-from-requires c κs = (seeking-met _ _ _ _ _ (c .before .loop .inv) (c .loop-test .taken)) .slot
 
--- src/lib.rt:114:51
 edge-to-requires : tie.Need-edge-to-requires Inv-loop μ-loop
 edge-to-requires c κs = (seeking-met _ _ _ _ _ (c .before .before .loop .inv) (c .before .loop-test .taken)) .slot
 
--- src/lib.rt:114:13
 order-requires : tie.Need-order-requires Inv-loop μ-loop
 order-requires c κs = tt
 
--- src/lib.rt:116:13
 returns : tie.Need-returns Inv-loop μ-loop
 returns c = stops-before _ _ _ _ _ _ _ _ _ (c .before .before .before .before .before .loop .inv) (c .before .before .before .before .loop-test .taken) (c .before .before .before .edge-from .ensures) (c .before .before .edge-to .ensures) (c .before .order .ensures) (c .if1 .taken)
 
--- src/lib.rt:119:13
 returns-2 : tie.Need-returns-2 Inv-loop μ-loop
 returns-2 c = stops-there _ _ _ _ _ _ _ _ _ (c .before .before .before .before .before .before .loop .inv) (c .before .before .before .before .before .loop-test .taken) (c .before .before .before .before .edge-from .ensures) (c .before .before .before .edge-to .ensures) (c .before .before .order .ensures) (c .if2 .taken)
 
--- src/lib.rt:122:9
 next-sibling-requires : tie.Need-next-sibling-requires Inv-loop μ-loop
 next-sibling-requires c κs = (seeking-met _ _ _ _ _ (c .before .before .before .before .before .before .loop .inv) (c .before .before .before .before .before .loop-test .taken)) .slot
 
--- src/lib.rt:113:5
 loop-less : tie.Need-loop-less Inv-loop μ-loop
 loop-less c = gets-less _ _ _ _ _ _ _ _ _ (c .before .before .before .before .before .before .before .loop .inv) (c .before .before .before .before .before .before .loop-test .taken) (c .before .before .before .before .before .edge-from .ensures) (c .before .before .before .before .edge-to .ensures) (c .before .before .before .order .ensures) _ (c .next-sibling .ensures) (2 ^ 32) (λ i. c .before .before .before .before .before .before .before .before .shared-slice-known .given i .fits)
 
--- src/lib.rt:113:5
 loop-again : tie.Need-loop-again Inv-loop μ-loop
 loop-again c = goes-on _ _ _ _ _ _ _ _ _ (c .before .before .before .before .before .before .before .loop .inv) (c .before .before .before .before .before .before .loop-test .taken) (c .before .before .before .before .before .edge-from .ensures) (c .before .before .before .before .edge-to .ensures) (c .before .before .before .order .ensures) _ (c .next-sibling .ensures) (c .before .before .if1 .left) (c .before .if2 .left)
 
--- src/lib.rt:107:1
 returns-3 : tie.Need-returns-3 Inv-loop μ-loop
 returns-3 c = seeking-end _ _ _ _ _ (c .before .loop .inv) (c .loop-test .left)
 

@@ -3,27 +3,21 @@ use borrow.Author.Needs.{needs}
 use Rattle.threading_tree.proofs.get_and_increment_root.Statement.{statement}
 use Rattle.threading_tree.proofs.get_and_increment_root.Tie as tie
 
--- src/lib.rt:175:9
 increment-count-requires : tie.Need-increment-count-requires
 increment-count-requires c κs = (root-slot _ _ _ _ _ (c .before .before .before .pre) (c .before .if1 .taken), root-spare _ _ _ _ _ (c .before .before .before .pre) (c .before .if1 .taken))
 
--- src/lib.rt:176:9
 same-length : tie.Need-same-length
 same-length c = search needs
 
--- src/lib.rt:176:9
 returns : tie.Need-returns
 returns c = opened-there _ _ _ _ _ (c .before .before .before .before .before .before .pre) (c .before .before .before .before .if1 .taken) _ (c .before .before .increment-count .ensures)
 
--- src/lib.rt:178:5
 add-edge-requires : tie.Need-add-edge-requires
 add-edge-requires c κs = ready _ _ _ _ _ (c .before .before .before .pre)
 
--- src/lib.rt:170:1
 same-length-2 : tie.Need-same-length-2
 same-length-2 c = search needs
 
--- src/lib.rt:170:1
 returns-2 : tie.Need-returns-2
 returns-2 c = opened-new _ _ _ _ _ (c .before .before .before .before .before .before .pre) _ _ (c .before .before .add-edge .ensures)
 

@@ -3,47 +3,36 @@ use Rattle.threading_tree.specs.Slots.{raised-is}
 use Rattle.threading_tree.proofs.increment_count.Statement.{statement}
 use Rattle.threading_tree.proofs.increment_count.Tie as tie
 
--- src/lib.rt:57:19
 mul-c : tie.Need-mul-c
 mul-c c = search needs
 
--- src/lib.rt:57:19
 add-c : tie.Need-add-c
 add-c c = search needs
 
--- src/lib.rt:57:13
 mul-c-2 : tie.Need-mul-c-2
 mul-c-2 c = search needs
 
--- src/lib.rt:57:13
 slice-read-c : tie.Need-slice-read-c
 slice-read-c c = search needs
 
--- src/lib.rt:58:24
 add-nodes : tie.Need-add-nodes
 add-nodes c = search needs
 
--- src/lib.rt:58:11
 mul-nodes : tie.Need-mul-nodes
 mul-nodes c = search needs
 
--- src/lib.rt:58:11
 add-nodes-2 : tie.Need-add-nodes-2
 add-nodes-2 c = search needs
 
--- src/lib.rt:58:5
 mul-nodes-2 : tie.Need-mul-nodes-2
 mul-nodes-2 c = search needs
 
--- src/lib.rt:58:5
 slice-write-nodes : tie.Need-slice-write-nodes
 slice-write-nodes c = search needs
 
--- src/lib.rt:53:1
 same-length : tie.Need-same-length
 same-length c = search needs
 
--- src/lib.rt:53:1
 returns : tie.Need-returns
 returns c = raised-is _ _ _
 

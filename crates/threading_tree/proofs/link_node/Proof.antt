@@ -3,59 +3,45 @@ use Rattle.threading_tree.specs.Slots.{linked-first, linked-later}
 use Rattle.threading_tree.proofs.link_node.Statement.{statement}
 use Rattle.threading_tree.proofs.link_node.Tie as tie
 
--- src/lib.rt:79:28
 cast-nodes : tie.Need-cast-nodes
 cast-nodes c = search needs
 
--- src/lib.rt:79:15
 mul-nodes : tie.Need-mul-nodes
 mul-nodes c = search needs
 
--- src/lib.rt:79:15
 add-nodes : tie.Need-add-nodes
 add-nodes c = search needs
 
--- src/lib.rt:79:9
 mul-nodes-2 : tie.Need-mul-nodes-2
 mul-nodes-2 c = search needs
 
--- src/lib.rt:79:9
 slice-write-nodes : tie.Need-slice-write-nodes
 slice-write-nodes c = search needs
 
--- src/lib.rt:80:9
 same-length : tie.Need-same-length
 same-length c = search needs
 
--- src/lib.rt:80:9
 returns : tie.Need-returns
 returns c = linked-first _ _ _ _ (c .if1 .taken)
 
--- src/lib.rt:82:24
 cast-nodes-2 : tie.Need-cast-nodes-2
 cast-nodes-2 c = search needs
 
--- src/lib.rt:82:11
 mul-nodes-3 : tie.Need-mul-nodes-3
 mul-nodes-3 c = search needs
 
--- src/lib.rt:82:11
 add-nodes-2 : tie.Need-add-nodes-2
 add-nodes-2 c = search needs
 
--- src/lib.rt:82:5
 mul-nodes-4 : tie.Need-mul-nodes-4
 mul-nodes-4 c = search needs
 
--- src/lib.rt:82:5
 slice-write-nodes-2 : tie.Need-slice-write-nodes-2
 slice-write-nodes-2 c = search needs
 
--- src/lib.rt:74:1
 same-length-2 : tie.Need-same-length-2
 same-length-2 c = search needs
 
--- src/lib.rt:74:1
 returns-2 : tie.Need-returns-2
 returns-2 c = linked-later _ _ _ _ (c .if1 .left)
 

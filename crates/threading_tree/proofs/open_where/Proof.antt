@@ -4,23 +4,18 @@ use borrow.Author.Needs.{needs}
 use Rattle.threading_tree.proofs.open_where.Statement.{statement}
 use Rattle.threading_tree.proofs.open_where.Tie as tie
 
--- src/lib.rt:308:9
 add-tree-if-necessary-requires : tie.Need-add-tree-if-necessary-requires
 add-tree-if-necessary-requires c κs = open-joinable _ (ends (c .before .before .before .before .before .args .v) (c .before .before .before .before .before .args .v)) _ _ _ (c .before .before .before .before .before .args .warrants) (c .before .before .before .before .before .pre)
 
--- src/lib.rt:308:9
 same-length : tie.Need-same-length
 same-length c = search needs
 
--- src/lib.rt:308:9
 same-length-2 : tie.Need-same-length-2
 same-length-2 c = search needs
 
--- src/lib.rt:308:9
 returns : tie.Need-returns
 returns c = open-does _ (ends (c .before .before .before .before .before .before .before .before .before .before .args .v) (c .before .before .before .before .before .before .before .before .before .before .args .v)) _ _ _ (c .before .before .before .before .before .before .before .before .before .before .args .warrants) (c .before .before .before .before .before .before .before .if1 .taken) _ _ _ (c .before .before .before .before .add-tree-if-necessary .ensures) (c .before .before .before .before .add-tree-if-necessary .kept .0) (c .before .before .before .before .add-tree-if-necessary .kept .1 .0)
 
--- src/lib.rt:303:1
 returns-2 : tie.Need-returns-2
 returns-2 c = open-not _ (ends (c .before .before .before .args .v) (c .before .before .before .args .v)) _ _ _ (c .before .before .before .args .warrants) (c .if1 .left)
 

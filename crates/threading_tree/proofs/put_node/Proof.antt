@@ -5,95 +5,72 @@ use Rattle.threading_tree.specs.Slots.{placed-is}
 use Rattle.threading_tree.proofs.put_node.Statement.{statement}
 use Rattle.threading_tree.proofs.put_node.Tie as tie
 
--- src/lib.rt:66:11
 mul-nodes : tie.Need-mul-nodes
 mul-nodes c = search needs
 
--- src/lib.rt:66:11
 add-nodes : tie.Need-add-nodes
 add-nodes c = search needs
 
--- src/lib.rt:66:5
 mul-nodes-2 : tie.Need-mul-nodes-2
 mul-nodes-2 c = search needs
 
--- src/lib.rt:66:5
 slice-write-nodes : tie.Need-slice-write-nodes
 slice-write-nodes c = search needs
 
--- src/lib.rt:67:11
 mul-nodes-3 : tie.Need-mul-nodes-3
 mul-nodes-3 c = search needs
 
--- src/lib.rt:67:11
 add-nodes-2 : tie.Need-add-nodes-2
 add-nodes-2 c = search needs
 
--- src/lib.rt:67:5
 mul-nodes-4 : tie.Need-mul-nodes-4
 mul-nodes-4 c = search needs
 
--- src/lib.rt:67:5
 slice-write-nodes-2 : tie.Need-slice-write-nodes-2
 slice-write-nodes-2 c = simp length-set (omega arith)
 
--- src/lib.rt:68:11
 mul-nodes-5 : tie.Need-mul-nodes-5
 mul-nodes-5 c = search needs
 
--- src/lib.rt:68:11
 add-nodes-3 : tie.Need-add-nodes-3
 add-nodes-3 c = search needs
 
--- src/lib.rt:68:5
 mul-nodes-6 : tie.Need-mul-nodes-6
 mul-nodes-6 c = search needs
 
--- src/lib.rt:68:5
 slice-write-nodes-3 : tie.Need-slice-write-nodes-3
 slice-write-nodes-3 c = simp length-set (omega arith)
 
--- src/lib.rt:69:11
 mul-nodes-7 : tie.Need-mul-nodes-7
 mul-nodes-7 c = search needs
 
--- src/lib.rt:69:11
 add-nodes-4 : tie.Need-add-nodes-4
 add-nodes-4 c = search needs
 
--- src/lib.rt:69:5
 mul-nodes-8 : tie.Need-mul-nodes-8
 mul-nodes-8 c = search needs
 
--- src/lib.rt:69:5
 slice-write-nodes-4 : tie.Need-slice-write-nodes-4
 slice-write-nodes-4 c = simp length-set (omega arith)
 
--- src/lib.rt:70:24
 cast-nodes : tie.Need-cast-nodes
 cast-nodes c = search needs
 
--- src/lib.rt:70:11
 mul-nodes-9 : tie.Need-mul-nodes-9
 mul-nodes-9 c = search needs
 
--- src/lib.rt:70:11
 add-nodes-5 : tie.Need-add-nodes-5
 add-nodes-5 c = search needs
 
--- src/lib.rt:70:5
 mul-nodes-10 : tie.Need-mul-nodes-10
 mul-nodes-10 c = search needs
 
--- src/lib.rt:70:5
 slice-write-nodes-5 : tie.Need-slice-write-nodes-5
 slice-write-nodes-5 c = simp length-set (omega arith)
 
--- src/lib.rt:62:1
 same-length : tie.Need-same-length
 same-length c = search needs
 
--- src/lib.rt:62:1
 returns : tie.Need-returns
 returns c = placed-is _ _ _ _ _ _
 

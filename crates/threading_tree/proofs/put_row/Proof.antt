@@ -4,75 +4,57 @@ use borrow.Author.Needs.{needs}
 use Rattle.threading_tree.proofs.put_row.Statement.{statement}
 use Rattle.threading_tree.proofs.put_row.Tie as tie
 
--- src/lib.rt:280:9
 mul-out : tie.Need-mul-out
 mul-out c = search needs
 
--- src/lib.rt:280:9
 add-out : tie.Need-add-out
 add-out c = search needs
 
--- src/lib.rt:280:5
 mul-out-2 : tie.Need-mul-out-2
 mul-out-2 c = search needs
 
--- src/lib.rt:280:5
 slice-write-out : tie.Need-slice-write-out
 slice-write-out c = search needs
 
--- src/lib.rt:281:9
 mul-out-3 : tie.Need-mul-out-3
 mul-out-3 c = search needs
 
--- src/lib.rt:281:9
 add-out-2 : tie.Need-add-out-2
 add-out-2 c = search needs
 
--- src/lib.rt:281:5
 mul-out-4 : tie.Need-mul-out-4
 mul-out-4 c = search needs
 
--- src/lib.rt:281:5
 slice-write-out-2 : tie.Need-slice-write-out-2
 slice-write-out-2 c = simp length-set (omega arith)
 
--- src/lib.rt:282:9
 mul-out-5 : tie.Need-mul-out-5
 mul-out-5 c = search needs
 
--- src/lib.rt:282:9
 add-out-3 : tie.Need-add-out-3
 add-out-3 c = search needs
 
--- src/lib.rt:282:5
 mul-out-6 : tie.Need-mul-out-6
 mul-out-6 c = search needs
 
--- src/lib.rt:282:5
 slice-write-out-3 : tie.Need-slice-write-out-3
 slice-write-out-3 c = simp length-set (omega arith)
 
--- src/lib.rt:283:9
 mul-out-7 : tie.Need-mul-out-7
 mul-out-7 c = search needs
 
--- src/lib.rt:283:9
 add-out-4 : tie.Need-add-out-4
 add-out-4 c = search needs
 
--- src/lib.rt:283:5
 mul-out-8 : tie.Need-mul-out-8
 mul-out-8 c = search needs
 
--- src/lib.rt:283:5
 slice-write-out-4 : tie.Need-slice-write-out-4
 slice-write-out-4 c = simp length-set (omega arith)
 
--- src/lib.rt:276:1
 same-length : tie.Need-same-length
 same-length c = search needs
 
--- src/lib.rt:276:1
 returns : tie.Need-returns
 returns c = search needs
 

@@ -4,47 +4,36 @@ use borrow.Author.Needs.{needs}
 use Rattle.threading_tree.proofs.take_unless.Statement.{statement}
 use Rattle.threading_tree.proofs.take_unless.Tie as tie
 
--- src/lib.rt:319:9
 returns : tie.Need-returns
 returns c = take-not _ (ends (c .before .before .before .args .a) (c .before .before .before .args .b)) _ _ _ (c .before .before .before .args .only) (c .if1 .taken)
 
--- src/lib.rt:321:9
 add-edge-to-junction-tree-nodes-requires : tie.Need-add-edge-to-junction-tree-nodes-requires
 add-edge-to-junction-tree-nodes-requires c κs = take-walking _ (ends (c .before .before .before .before .before .args .a) (c .before .before .before .before .before .args .b)) _ _ _ (c .before .before .before .before .before .args .only) (c .before .before .before .before .before .pre)
 
--- src/lib.rt:322:22
 enum-known-r : tie.Need-enum-known-r
 enum-known-r c = search needs
 
--- src/lib.rt:323:9
 enum-told : tie.Need-enum-told
 enum-told c = search needs
 
--- src/lib.rt:323:9
 grown-refusal-requires : tie.Need-grown-refusal-requires
 grown-refusal-requires c κs = search needs
 
--- src/lib.rt:323:9
 same-length : tie.Need-same-length
 same-length c = search needs
 
--- src/lib.rt:323:9
 same-length-2 : tie.Need-same-length-2
 same-length-2 c = search needs
 
--- src/lib.rt:323:9
 returns-2 : tie.Need-returns-2
 returns-2 c = take-full _ (ends (c .before .before .before .before .before .before .before .before .before .before .before .before .before .args .a) (c .before .before .before .before .before .before .before .before .before .before .before .before .before .args .b)) _ _ _ (c .before .before .before .before .before .before .before .before .before .before .before .before .before .args .only) (c .before .before .before .before .before .before .before .before .before .before .before .before .before .pre) (c .before .before .before .before .before .before .before .before .before .before .if1 .left) _ _ _ (c .before .before .before .before .before .before .before .add-edge-to-junction-tree-nodes .ensures) _ (c .before .enum-told .given .1) _ (c .grown-refusal .ensures)
 
--- src/lib.rt:314:1
 same-length-3 : tie.Need-same-length-3
 same-length-3 c = search needs
 
--- src/lib.rt:314:1
 same-length-4 : tie.Need-same-length-4
 same-length-4 c = search needs
 
--- src/lib.rt:314:1
 returns-3 : tie.Need-returns-3
 returns-3 c = take-does _ (ends (c .before .before .before .before .before .before .before .before .before .before .before .before .before .args .a) (c .before .before .before .before .before .before .before .before .before .before .before .before .before .args .b)) _ _ _ (c .before .before .before .before .before .before .before .before .before .before .before .before .before .args .only) (c .before .before .before .before .before .before .before .before .before .before .before .before .before .pre) (c .before .before .before .before .before .before .before .before .before .before .if1 .left) _ _ _ (c .before .before .before .before .before .before .before .add-edge-to-junction-tree-nodes .ensures) _ (c .before .r .given .1) (c .before .before .before .before .before .before .before .add-edge-to-junction-tree-nodes .kept .0) (c .before .before .before .before .before .before .before .add-edge-to-junction-tree-nodes .kept .1 .0)
 

@@ -12,35 +12,27 @@ Inv-loop nodes n cap link total₀ at₀ total at = Summing n nodes link at tota
 abbrev μ-loop : tie.MeasureT-loop
 μ-loop nodes n cap link total₀ at₀ total at = left (2 ^ 32) nodes at
 
--- src/lib.rt:364:5
 loop-holds : tie.Need-loop-holds Inv-loop μ-loop
 loop-holds c = summing-start _ _ _ _ (c .before .pre)
 
--- src/lib.rt:365:18
 evidence-count-requires : tie.Need-evidence-count-requires Inv-loop μ-loop
 evidence-count-requires c κs = summing-slot _ _ _ _ (c .before .before .before .pre) _ _ (c .before .loop .inv) (c .loop-test .taken)
 
--- src/lib.rt:365:18
 cast-total : tie.Need-cast-total Inv-loop μ-loop
 cast-total c = fits-named _ _ (c .evidence-count .ensures) (fits-widen _ (c .before .before .before .shared-slice-known .given _))
 
--- src/lib.rt:365:9
 add-total : tie.Need-add-total Inv-loop μ-loop
 add-total c = record { fits = summing-fits _ _ _ _ (c .before .before .before .before .pre) _ _ (c .before .before .loop .inv) (c .before .loop-test .taken) _ _ (c .evidence-count .ensures) refl (λ i. c .before .before .before .shared-slice-known .given i .fits) }
 
--- src/lib.rt:366:9
 next-sibling-requires : tie.Need-next-sibling-requires Inv-loop μ-loop
 next-sibling-requires c κs = summing-slot _ _ _ _ (c .before .before .before .before .pre) _ _ (c .before .before .loop .inv) (c .before .loop-test .taken)
 
--- src/lib.rt:364:5
 loop-less : tie.Need-loop-less Inv-loop μ-loop
 loop-less c = summing-falls _ _ _ _ (c .before .before .before .before .before .pre) _ _ (c .before .before .before .loop .inv) (c .before .before .loop-test .taken) _ _ (c .before .evidence-count .ensures) (c .next-sibling .ensures) (λ i. c .before .before .before .before .shared-slice-known .given i .fits)
 
--- src/lib.rt:364:5
 loop-again : tie.Need-loop-again Inv-loop μ-loop
 loop-again c = summing-next _ _ _ _ (c .before .before .before .before .before .pre) _ _ (c .before .before .before .loop .inv) (c .before .before .loop-test .taken) _ _ (c .before .evidence-count .ensures) (c .next-sibling .ensures)
 
--- src/lib.rt:358:1
 returns : tie.Need-returns Inv-loop μ-loop
 returns c = summing-end _ _ _ _ (c .before .before .before .pre) _ _ (c .before .loop .inv) (c .loop-test .left)
 

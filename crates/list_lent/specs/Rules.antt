@@ -2,17 +2,17 @@
 use mathlib.Core.Path.{_≡_, refl, sym, ap, _∙_}
 use mathlib.Core.Bool.{Bool, true, false, _&&_}
 use mathlib.Core.List.{List, [], _∷_, _++_}
-use Prim.Native.Nat.{ℕ, zero, suc, _<_, _≤_}
+use Prim.Native.Nat.{ℕ, _<_, _≤_}
 use native.Mathlib.Omega.{arith}
 use Rattle.definition.specs.Refusal.{Rule, firstBroken}
 use Rattle.definition.specs.Limits.{Input, settingsFit, columnFits, longEnough, sampleRules, listRules}
 use Rattle.definition.proofs.Checks.{checked}
 use Rattle.limits.specs.Bounds.{InLimits, settings-most, k-most}
-use Rattle.limits.specs.Rules.{rule, Numbered, first-broken, first-hold, broken, holds, all-hold}
+use Rattle.limits.specs.Rules.{rule, Numbered, last-untested, last-broken, last-holds}
 use Rattle.limits.specs.Lengths.{acceptedLengths}
 use Rattle.limits.specs.declared.LengthsTold.{LengthsTold}
-use Rattle.list_call.specs.declared.Lent as lent
-use Rattle.list_call.specs.Lent.{toldOf, lentOf, outputsTold, outputsLent, graphTold, graphLent, searchTold, searchLent, long-is}
+use Rattle.list_lent.specs.declared.Lent as lent
+use Rattle.list_lent.specs.Lent.{toldOf, lentOf, outputsTold, outputsLent, graphTold, graphLent, searchTold, searchLent, long-is}
 
 -- 1 to 6
 early : Input → List Rule
@@ -30,31 +30,23 @@ pub none-long : longEnough [] [] ≡ true
 unfolding longEnough
 none-long = refl
 
+-- n is what the code's check answered where 7 is taken to hold
 module _ (i : Input) (n : ℕ) (h : n ≡ firstBroken (listRules i [] [])) where
-  early-is : n ≡ firstBroken (early i)
-  early-is = go (firstBroken (early i)) refl
-    where
-      z : n ≡ firstBroken (early i ++ (rule 7 true ∷ []))
-      z = h ∙ ap firstBroken (late-is i [] []) ∙ ap (λ (b : Bool). firstBroken (early i ++ (rule 7 b ∷ []))) none-long
-
-      go : (m : ℕ) → firstBroken (early i) ≡ m → n ≡ firstBroken (early i)
-      go zero e =
-          z ∙ sym (first-hold (early i) (rule 7 true ∷ []) zero (early-numbered i) (sym e) (omega arith)) ∙ sym (holds 7 true [] refl) ∙ sym all-hold ∙ sym e
-      go (suc m) e = z ∙ sym (first-broken (early i) (rule 7 true ∷ []) (suc m) (sym e) (omega arith)) ∙ sym e
+  early-is : n ≡ firstBroken (early i ++ (rule 7 true ∷ []))
+  early-is = h ∙ ap firstBroken (late-is i [] []) ∙ ap (λ (b : Bool). firstBroken (early i ++ (rule 7 b ∷ []))) none-long
 
   pub early-refused : (told lent : List ℕ) → 0 < n → n ≡ firstBroken (listRules i told lent)
   early-refused told lent l =
-      first-broken (early i) (rule 7 (longEnough told lent) ∷ []) n early-is l ∙ ap firstBroken (sym (late-is i told lent))
+      last-untested (early i) (early-numbered i) 7 n early-is l (longEnough told lent) ∙ ap firstBroken (sym (late-is i told lent))
 
   module _ (l : n ≤ 0) (told lent : List ℕ) where
-    rest-is : firstBroken (rule 7 (longEnough told lent) ∷ []) ≡ firstBroken (listRules i told lent)
-    rest-is = first-hold (early i) (rule 7 (longEnough told lent) ∷ []) n (early-numbered i) early-is l ∙ ap firstBroken (sym (late-is i told lent))
-
     late-refused : longEnough told lent ≡ false → 7 ≡ firstBroken (listRules i told lent)
-    late-refused e = broken 7 (longEnough told lent) [] e ∙ rest-is
+    late-refused e =
+        last-broken (early i) (early-numbered i) 7 n early-is l (longEnough told lent) e ∙ ap firstBroken (sym (late-is i told lent))
 
     late-accepted : longEnough told lent ≡ true → 0 ≡ firstBroken (listRules i told lent)
-    late-accepted e = all-hold ∙ holds 7 (longEnough told lent) [] e ∙ rest-is
+    late-accepted e =
+        last-holds (early i) (early-numbered i) 7 n early-is l (longEnough told lent) e ∙ ap firstBroken (sym (late-is i told lent))
 
   -- the settings are within the limits
   pub within-limits : n ≤ 0 → (i .sample .k ≤ 128) × InLimits (i .asked) (i .graphMaxima) (i .searchMaxima)

@@ -1,8 +1,8 @@
 -- `outputs_fit` meets its contract: the first slice shorter than told decides. Assumes nothing.
 use mathlib.Core.Path.{_∙_}
 use Rattle.limits.specs.Long.{is-short, no-short, none-short}
-use Rattle.list_call.proofs.outputs_fit.Statement.{statement}
-use Rattle.list_call.proofs.outputs_fit.Tie as tie
+use Rattle.list_lent.proofs.outputs_fit.Statement.{statement}
+use Rattle.list_lent.proofs.outputs_fit.Tie as tie
 
 returns : tie.Need-returns
 returns c = is-short _ _ _ _ (c .if1 .taken)

@@ -12,7 +12,7 @@ use Rattle.limits.specs.Lengths.{listSlices, listWorkspaceTold, acceptedLengths
 use Rattle.limits.specs.Long.{long-head}
 use Rattle.limits.specs.declared.Workspace.{Workspace}
 use Rattle.limits.specs.declared.LengthsTold.{LengthsTold}
-use Rattle.list_call.specs.declared.Lent as lent
+use Rattle.list_lent.specs.declared.Lent as lent
 
 -- what rule 7 compares with
 abbrev pub toldOf : Input → List ℕ

@@ -1,9 +1,9 @@
 -- `check` meets its contract. Assumes nothing.
 use mathlib.Core.List.{[]}
-use Rattle.list_call.specs.Rules.{none-long, early-refused, within-limits, short-outputs, short-graph, short-search, none-short}
+use Rattle.list_lent.specs.Rules.{none-long, early-refused, within-limits, short-outputs, short-graph, short-search, none-short}
 use Rattle.limits.specs.Tests.{told-no, told-yes}
-use Rattle.list_call.proofs.check.Statement.{statement}
-use Rattle.list_call.proofs.check.Tie as tie
+use Rattle.list_lent.proofs.check.Statement.{statement}
+use Rattle.list_lent.proofs.check.Tie as tie
 
 check-list-requires : tie.Need-check-list-requires
 check-list-requires c κs = tt
