@@ -12,13 +12,12 @@ use origins::OriginAnswer;
 use path_rows::PathRow;
 use row_counts::columns_told;
 use row_counts::rows_told;
-ghost use mathlib.Core.Path.{_≡_};
 ghost use Rattle.definition.specs.Calls.{originCall};
 ghost use Rattle.limits.specs.Handed.{sampleOf, graphMaximaOf, searchMaximaOf};
 ghost use Rattle.limits.specs.Lengths.{Told};
 ghost use Rattle.origins.specs.Parts.{origin, Names};
 ghost use Rattle.graph_call.specs.Outcome.{Graphed};
-ghost use Rattle.list_work.specs.Works.{inputFor};
+ghost use Rattle.list_interface.specs.Handed.{inputFor};
 ghost use Rattle.list_work.specs.Outcome.{outputsOf, tablesOf};
 ghost use Rattle.row_counts.specs.Told.{columnsTold};
 ghost use Rattle.caller.specs.Records.{ColumnsFit, Cleared, ListCalled};
@@ -63,7 +62,9 @@ pub extern "C" fn punelavoh_graph(
     w_nodes: &mut [u32],
     w_open: &mut [u32],
 ) -> GraphAnswer
-    ensures { λ r. ⌜ Graphed (sampleOf k quality (now (reference .entry)) (now (ends .entry)) (now (bases .entry)) (now (qualities .entry))) (graphMaximaOf maxima) r (now (edges .entry)) (now (edges .exit)) (now (nodes .entry)) (now (nodes .exit)) (now («w_vertices» .entry)) (now («w_vertices» .exit)) (now («w_edges» .entry)) (now («w_edges» .exit)) (now («w_index» .entry)) (now («w_index» .exit)) (now («w_nodes» .entry)) (now («w_nodes» .exit)) (now («w_open» .entry)) (now («w_open» .exit)) ⌝ }
+    ensures { λ r. ⌜ (
+        let sample = sampleOf k quality (now (reference .entry)) (now (ends .entry)) (now (bases .entry)) (now (qualities .entry)) in
+        Graphed sample (graphMaximaOf maxima) r (now (edges .entry)) (now (edges .exit)) (now (nodes .entry)) (now (nodes .exit)) (now («w_vertices» .entry)) (now («w_vertices» .exit)) (now («w_edges» .entry)) (now («w_edges» .exit)) (now («w_index» .entry)) (now («w_index» .exit)) (now («w_nodes» .entry)) (now («w_nodes» .exit)) (now («w_open» .entry)) (now («w_open» .exit))) ⌝ }
 {
     graph_call::graph(
         k,
@@ -143,7 +144,13 @@ pub extern "C" fn punelavoh_list(
     row_closings: &mut [u32],
     row_edges: &mut [u32],
 ) -> ListAnswer
-    ensures { λ r. ⌜ ListCalled (inputFor a (now (reference .entry)) (now (ends .entry)) (now (bases .entry)) (now (qualities .entry)) (now (column .entry))) r (now (rows .entry)) (now (rows .exit)) (outputsOf (now («row_scores» .entry)) (now («row_closings» .entry)) (now («row_edges» .entry)) (now («out_bases» .entry)) (now (sequences .entry)) (now (places .entry))) (outputsOf (now («row_scores» .exit)) (now («row_closings» .exit)) (now («row_edges» .exit)) (now («out_bases» .exit)) (now (sequences .exit)) (now (places .exit))) (tablesOf (now («w_vertices» .entry)) (now («w_edges» .entry)) (now («w_index» .entry)) (now («w_nodes» .entry)) (now («w_targets» .entry)) (now («w_paths» .entry)) (now («w_scores» .entry)) (now («w_active» .entry)) (now («w_queue» .entry)) (now («w_closed» .entry)) (now («w_order» .entry)) (now («w_marks» .entry)) (now («w_walks» .entry))) (tablesOf (now («w_vertices» .exit)) (now («w_edges» .exit)) (now («w_index» .exit)) (now («w_nodes» .exit)) (now («w_targets» .exit)) (now («w_paths» .exit)) (now («w_scores» .exit)) (now («w_active» .exit)) (now («w_queue» .exit)) (now («w_closed» .exit)) (now («w_order» .exit)) (now («w_marks» .exit)) (now («w_walks» .exit))) ⌝ }
+    ensures { λ r. ⌜ (
+        let input = inputFor a (now (reference .entry)) (now (ends .entry)) (now (bases .entry)) (now (qualities .entry)) (now (column .entry)) in
+        let outputs = outputsOf (now («row_scores» .entry)) (now («row_closings» .entry)) (now («row_edges» .entry)) (now («out_bases» .entry)) (now (sequences .entry)) (now (places .entry)) in
+        let written = outputsOf (now («row_scores» .exit)) (now («row_closings» .exit)) (now («row_edges» .exit)) (now («out_bases» .exit)) (now (sequences .exit)) (now (places .exit)) in
+        let tables = tablesOf (now («w_vertices» .entry)) (now («w_edges» .entry)) (now («w_index» .entry)) (now («w_nodes» .entry)) (now («w_targets» .entry)) (now («w_paths» .entry)) (now («w_scores» .entry)) (now («w_active» .entry)) (now («w_queue» .entry)) (now («w_closed» .entry)) (now («w_order» .entry)) (now («w_marks» .entry)) (now («w_walks» .entry)) in
+        let left = tablesOf (now («w_vertices» .exit)) (now («w_edges» .exit)) (now («w_index» .exit)) (now («w_nodes» .exit)) (now («w_targets» .exit)) (now («w_paths» .exit)) (now («w_scores» .exit)) (now («w_active» .exit)) (now («w_queue» .exit)) (now («w_closed» .exit)) (now («w_order» .exit)) (now («w_marks» .exit)) (now («w_walks» .exit)) in
+        ListCalled input r (now (rows .entry)) (now (rows .exit)) outputs written tables left) ⌝ }
 {
     let lent = rows.len();
     let r = list_columns(

@@ -222,7 +222,9 @@ fn make_graph(
     w_o: &mut [u32],
 ) -> GraphAnswer
     requires { ⌜ Lent (sampleOf k quality (now reference) (now ends) (now bases) (now qualities)) (graphMaximaOf maxima) (now edges) (now nodes) (now «w_v») (now «w_e») (now «w_i») (now «w_n») (now «w_o») ⌝ }
-    ensures { λ r. ⌜ Made (sampleOf k quality (now (reference .entry)) (now (ends .entry)) (now (bases .entry)) (now (qualities .entry))) (graphMaximaOf maxima) r (now (edges .entry)) (now (edges .exit)) (now (nodes .entry)) (now (nodes .exit)) (now («w_v» .entry)) (now («w_v» .exit)) (now («w_e» .entry)) (now («w_e» .exit)) (now («w_i» .entry)) (now («w_i» .exit)) (now («w_n» .entry)) (now («w_n» .exit)) (now («w_o» .entry)) (now («w_o» .exit)) ⌝ }
+    ensures { λ r. ⌜ (
+        let sample = sampleOf k quality (now (reference .entry)) (now (ends .entry)) (now (bases .entry)) (now (qualities .entry)) in
+        Made sample (graphMaximaOf maxima) r (now (edges .entry)) (now (edges .exit)) (now (nodes .entry)) (now (nodes .exit)) (now («w_v» .entry)) (now («w_v» .exit)) (now («w_e» .entry)) (now («w_e» .exit)) (now («w_i» .entry)) (now («w_i» .exit)) (now («w_n» .entry)) (now («w_n» .exit)) (now («w_o» .entry)) (now («w_o» .exit))) ⌝ }
 {
     let r = fill(
         k,
@@ -263,7 +265,9 @@ pub fn graph(
     w_nodes: &mut [u32],
     w_open: &mut [u32],
 ) -> GraphAnswer
-    ensures { λ r. ⌜ Graphed (sampleOf k quality (now (reference .entry)) (now (ends .entry)) (now (bases .entry)) (now (qualities .entry))) (graphMaximaOf maxima) r (now (edges .entry)) (now (edges .exit)) (now (nodes .entry)) (now (nodes .exit)) (now («w_vertices» .entry)) (now («w_vertices» .exit)) (now («w_edges» .entry)) (now («w_edges» .exit)) (now («w_index» .entry)) (now («w_index» .exit)) (now («w_nodes» .entry)) (now («w_nodes» .exit)) (now («w_open» .entry)) (now («w_open» .exit)) ⌝ }
+    ensures { λ r. ⌜ (
+        let sample = sampleOf k quality (now (reference .entry)) (now (ends .entry)) (now (bases .entry)) (now (qualities .entry)) in
+        Graphed sample (graphMaximaOf maxima) r (now (edges .entry)) (now (edges .exit)) (now (nodes .entry)) (now (nodes .exit)) (now («w_vertices» .entry)) (now («w_vertices» .exit)) (now («w_edges» .entry)) (now («w_edges» .exit)) (now («w_index» .entry)) (now («w_index» .exit)) (now («w_nodes» .entry)) (now («w_nodes» .exit)) (now («w_open» .entry)) (now («w_open» .exit))) ⌝ }
 {
     let l = GraphLent {
         edge_rows: edges.len(),

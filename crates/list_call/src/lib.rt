@@ -9,7 +9,7 @@ use list_lent::check;
 use list_work::work;
 ghost use mathlib.Core.Path.{_≡_};
 ghost use Prim.Native.Nat.{_≤_};
-ghost use Rattle.list_work.specs.Works.{inputFor};
+ghost use Rattle.list_interface.specs.Handed.{inputFor};
 ghost use lib.ListN.{length, replicate};
 ghost use Rattle.definition.specs.Calls.{writtenAt};
 ghost use Rattle.list_work.specs.Outcome.{outputsOf, tablesOf};
@@ -68,8 +68,18 @@ fn list_within(
     w_marks: &mut [u32],
     w_walks: &mut [u32],
 ) -> ListAnswer
-    requires { ⌜ Within (inputFor a (now reference) (now ends) (now bases) (now qualities) (now column)) (outputsOf (now «row_scores») (now «row_closings») (now «row_edges») (now «out_bases») (now sequences) (now places)) (tablesOf (now «w_vertices») (now «w_edges») (now «w_index») (now «w_nodes») (now «w_targets») (now «w_paths») (now «w_scores») (now «w_active») (now «w_queue») (now «w_closed») (now «w_order») (now «w_marks») (now «w_walks»)) ⌝ }
-    ensures { λ r. ⌜ Done (inputFor a (now (reference .entry)) (now (ends .entry)) (now (bases .entry)) (now (qualities .entry)) (now (column .entry))) r (outputsOf (now («row_scores» .entry)) (now («row_closings» .entry)) (now («row_edges» .entry)) (now («out_bases» .entry)) (now (sequences .entry)) (now (places .entry))) (outputsOf (now («row_scores» .exit)) (now («row_closings» .exit)) (now («row_edges» .exit)) (now («out_bases» .exit)) (now (sequences .exit)) (now (places .exit))) (tablesOf (now («w_vertices» .entry)) (now («w_edges» .entry)) (now («w_index» .entry)) (now («w_nodes» .entry)) (now («w_targets» .entry)) (now («w_paths» .entry)) (now («w_scores» .entry)) (now («w_active» .entry)) (now («w_queue» .entry)) (now («w_closed» .entry)) (now («w_order» .entry)) (now («w_marks» .entry)) (now («w_walks» .entry))) (tablesOf (now («w_vertices» .exit)) (now («w_edges» .exit)) (now («w_index» .exit)) (now («w_nodes» .exit)) (now («w_targets» .exit)) (now («w_paths» .exit)) (now («w_scores» .exit)) (now («w_active» .exit)) (now («w_queue» .exit)) (now («w_closed» .exit)) (now («w_order» .exit)) (now («w_marks» .exit)) (now («w_walks» .exit))) ⌝ }
+    requires { ⌜ (
+        let input = inputFor a (now reference) (now ends) (now bases) (now qualities) (now column) in
+        let outputs = outputsOf (now «row_scores») (now «row_closings») (now «row_edges») (now «out_bases») (now sequences) (now places) in
+        let tables = tablesOf (now «w_vertices») (now «w_edges») (now «w_index») (now «w_nodes») (now «w_targets») (now «w_paths») (now «w_scores») (now «w_active») (now «w_queue») (now «w_closed») (now «w_order») (now «w_marks») (now «w_walks») in
+        Within input outputs tables) ⌝ }
+    ensures { λ r. ⌜ (
+        let input = inputFor a (now (reference .entry)) (now (ends .entry)) (now (bases .entry)) (now (qualities .entry)) (now (column .entry)) in
+        let outputs = outputsOf (now («row_scores» .entry)) (now («row_closings» .entry)) (now («row_edges» .entry)) (now («out_bases» .entry)) (now (sequences .entry)) (now (places .entry)) in
+        let written = outputsOf (now («row_scores» .exit)) (now («row_closings» .exit)) (now («row_edges» .exit)) (now («out_bases» .exit)) (now (sequences .exit)) (now (places .exit)) in
+        let tables = tablesOf (now («w_vertices» .entry)) (now («w_edges» .entry)) (now («w_index» .entry)) (now («w_nodes» .entry)) (now («w_targets» .entry)) (now («w_paths» .entry)) (now («w_scores» .entry)) (now («w_active» .entry)) (now («w_queue» .entry)) (now («w_closed» .entry)) (now («w_order» .entry)) (now («w_marks» .entry)) (now («w_walks» .entry)) in
+        let left = tablesOf (now («w_vertices» .exit)) (now («w_edges» .exit)) (now («w_index» .exit)) (now («w_nodes» .exit)) (now («w_targets» .exit)) (now («w_paths» .exit)) (now («w_scores» .exit)) (now («w_active» .exit)) (now («w_queue» .exit)) (now («w_closed» .exit)) (now («w_order» .exit)) (now («w_marks» .exit)) (now («w_walks» .exit)) in
+        Done input r outputs written tables left) ⌝ }
 {
     let g = a.graph;
     let s = a.search;
@@ -159,7 +169,13 @@ pub fn list_columns(
     w_marks: &mut [u32],
     w_walks: &mut [u32],
 ) -> ListAnswer
-    ensures { λ r. ⌜ Called (inputFor a (now (reference .entry)) (now (ends .entry)) (now (bases .entry)) (now (qualities .entry)) (now (column .entry))) rows r (outputsOf (now («row_scores» .entry)) (now («row_closings» .entry)) (now («row_edges» .entry)) (now («out_bases» .entry)) (now (sequences .entry)) (now (places .entry))) (outputsOf (now («row_scores» .exit)) (now («row_closings» .exit)) (now («row_edges» .exit)) (now («out_bases» .exit)) (now (sequences .exit)) (now (places .exit))) (tablesOf (now («w_vertices» .entry)) (now («w_edges» .entry)) (now («w_index» .entry)) (now («w_nodes» .entry)) (now («w_targets» .entry)) (now («w_paths» .entry)) (now («w_scores» .entry)) (now («w_active» .entry)) (now («w_queue» .entry)) (now («w_closed» .entry)) (now («w_order» .entry)) (now («w_marks» .entry)) (now («w_walks» .entry))) (tablesOf (now («w_vertices» .exit)) (now («w_edges» .exit)) (now («w_index» .exit)) (now («w_nodes» .exit)) (now («w_targets» .exit)) (now («w_paths» .exit)) (now («w_scores» .exit)) (now («w_active» .exit)) (now («w_queue» .exit)) (now («w_closed» .exit)) (now («w_order» .exit)) (now («w_marks» .exit)) (now («w_walks» .exit))) ⌝ }
+    ensures { λ r. ⌜ (
+        let input = inputFor a (now (reference .entry)) (now (ends .entry)) (now (bases .entry)) (now (qualities .entry)) (now (column .entry)) in
+        let outputs = outputsOf (now («row_scores» .entry)) (now («row_closings» .entry)) (now («row_edges» .entry)) (now («out_bases» .entry)) (now (sequences .entry)) (now (places .entry)) in
+        let written = outputsOf (now («row_scores» .exit)) (now («row_closings» .exit)) (now («row_edges» .exit)) (now («out_bases» .exit)) (now (sequences .exit)) (now (places .exit)) in
+        let tables = tablesOf (now («w_vertices» .entry)) (now («w_edges» .entry)) (now («w_index» .entry)) (now («w_nodes» .entry)) (now («w_targets» .entry)) (now («w_paths» .entry)) (now («w_scores» .entry)) (now («w_active» .entry)) (now («w_queue» .entry)) (now («w_closed» .entry)) (now («w_order» .entry)) (now («w_marks» .entry)) (now («w_walks» .entry)) in
+        let left = tablesOf (now («w_vertices» .exit)) (now («w_edges» .exit)) (now («w_index» .exit)) (now («w_nodes» .exit)) (now («w_targets» .exit)) (now («w_paths» .exit)) (now («w_scores» .exit)) (now («w_active» .exit)) (now («w_queue» .exit)) (now («w_closed» .exit)) (now («w_order» .exit)) (now («w_marks» .exit)) (now («w_walks» .exit)) in
+        Called input rows r outputs written tables left) ⌝ }
 {
     let l = Lent {
         rows: rows,

@@ -7,7 +7,7 @@ use list_interface::Settings;
 ghost use mathlib.Core.Path.{_≡_};
 ghost use Rattle.definition.specs.Refusal.{firstBroken};
 ghost use Rattle.definition.specs.Limits.{longEnough, listRules};
-ghost use Rattle.list_work.specs.Works.{inputFor};
+ghost use Rattle.list_interface.specs.Handed.{inputFor};
 ghost use Rattle.list_lent.specs.Lent.{toldOf, lentOf, outputsTold, outputsLent, graphTold, graphLent, searchTold, searchLent};
 
 // The lengths of the slices lent.

@@ -46,7 +46,8 @@ use Rattle.list_interface.specs.declared.ListAnswer.{ListAnswer}
 use Rattle.list_interface.specs.declared.Settings.{Settings}
 use Rattle.list_interface.specs.Answers.{refusedAnswer, foundAnswer, Told32}
 use Rattle.list_work.specs.Outcome.{Outputs, outputsOf, Tables, writtenList, Listed, found, listed-refused, listed-done, listed-none}
-use Rattle.list_work.specs.Works.{inputFor, Outs, checked-rules, active-some}
+use Rattle.list_interface.specs.Handed.{inputFor}
+use Rattle.list_work.specs.Works.{Outs, checked-rules, active-some}
 use Rattle.search_setup.specs.Chains.{Chains, Chained, Small}
 
 abbrev pub searchRefusal : Search → ℕ

@@ -1,26 +1,17 @@
 -- What the work is handed: an input in order, output slices that are long enough, and a workspace of just the lengths told. Assumes nothing.
 use mathlib.Core.Path.{_≡_}
 use mathlib.Core.Bool.{true, _&&_}
-use mathlib.Core.List.{List}
-use Prim.Native.Nat.{ℕ, _+_, _*_, _≤_}
+use Prim.Native.Nat.{_+_, _*_, _≤_}
 use lib.Dec.{leb}
 use lib.ListN.{length}
-use lib.Ieee.{Float}
 use borrow.Author.Tests.{leb-true}
 use Rattle.laws.specs.ListLaws.{and-left, and-right}
 use Rattle.laws.specs.Numbers.{within}
 use Rattle.definition.specs.Refusal.{firstBroken}
 use Rattle.definition.specs.Limits.{Input, graphMaximaFit, searchMaximaFit, settingsFit, sampleRules}
 use Rattle.definition.proofs.Checks.{Checked}
-use Rattle.limits.specs.Handed.{graphMaximaOf, searchMaximaOf, sampleOf, inputOf}
 use Rattle.limits.specs.Workspaces.{vertexTable, edgeTable, kmerIndex, nodeTable, targetTable, pathTable, pathScores, activeNodes, waitingQueue, closedPaths, pivotalOrder, pivotalMarks, pathWalks}
-use Rattle.list_interface.specs.declared.Settings.{Settings}
 use Rattle.list_work.specs.Outcome.{Outputs, Tables}
-
--- what the call is handed, as the definition has it
-abbrev pub inputFor : Settings → List ℕ → List ℕ → List ℕ → List ℕ → List Float → Input
-inputFor a reference ends bases qualities column =
-    inputOf (sampleOf (a .k) (a .quality) reference ends bases qualities) (a .asked) (a .threshold) (a .recovery) (graphMaximaOf (a .graph)) (searchMaximaOf (a .search)) column
 
 -- the output slices are long enough
 pub record Outs (i : Input) (o : Outputs) : Type 0 where

@@ -15,7 +15,8 @@ use search_setup::lay_chains;
 use search_setup::search_setting;
 ghost use mathlib.Core.Path.{_≡_};
 ghost use Rattle.list_work.specs.Outcome.{found, Listed, outputsOf, tablesOf};
-ghost use Rattle.list_work.specs.Works.{inputFor, Works};
+ghost use Rattle.list_interface.specs.Handed.{inputFor};
+ghost use Rattle.list_work.specs.Works.{Works};
 ghost use Rattle.list_work.specs.Search.{searchRefusal, Seeks, Sought};
 
 fn search_refusal(r: Search) -> u32
@@ -57,8 +58,15 @@ fn search_list(
     marks: &mut [u32],
     walks: &mut [u32],
 ) -> ListAnswer
-    requires { ⌜ Seeks a (now reference) (now bases) (now column) (outputsOf (now «row_scores») (now «row_closings») (now «row_edges») (now «out_bases») (now sequences) (now places)) (tablesOf (now vertices) (now edges) (now only) (now nodes) (now to) (now paths) (now scores) (now active) (now queue) (now shut) (now order) (now marks) (now walks)) b ⌝ }
-    ensures { λ r. ⌜ Sought a (now (reference .entry)) (now (bases .entry)) (now (column .entry)) (tablesOf (now (vertices .entry)) (now (edges .entry)) (now (only .entry)) (now (nodes .entry)) (now (to .entry)) (now (paths .entry)) (now (scores .entry)) (now (active .entry)) (now (queue .entry)) (now (shut .entry)) (now (order .entry)) (now (marks .entry)) (now (walks .entry))) b r (outputsOf (now («row_scores» .entry)) (now («row_closings» .entry)) (now («row_edges» .entry)) (now («out_bases» .entry)) (now (sequences .entry)) (now (places .entry))) (outputsOf (now («row_scores» .exit)) (now («row_closings» .exit)) (now («row_edges» .exit)) (now («out_bases» .exit)) (now (sequences .exit)) (now (places .exit))) ⌝ }
+    requires { ⌜ (
+        let outputs = outputsOf (now «row_scores») (now «row_closings») (now «row_edges») (now «out_bases») (now sequences) (now places) in
+        let tables = tablesOf (now vertices) (now edges) (now only) (now nodes) (now to) (now paths) (now scores) (now active) (now queue) (now shut) (now order) (now marks) (now walks) in
+        Seeks a (now reference) (now bases) (now column) outputs tables b) ⌝ }
+    ensures { λ r. ⌜ (
+        let outputs = outputsOf (now («row_scores» .entry)) (now («row_closings» .entry)) (now («row_edges» .entry)) (now («out_bases» .entry)) (now (sequences .entry)) (now (places .entry)) in
+        let written = outputsOf (now («row_scores» .exit)) (now («row_closings» .exit)) (now («row_edges» .exit)) (now («out_bases» .exit)) (now (sequences .exit)) (now (places .exit)) in
+        let tables = tablesOf (now (vertices .entry)) (now (edges .entry)) (now (only .entry)) (now (nodes .entry)) (now (to .entry)) (now (paths .entry)) (now (scores .entry)) (now (active .entry)) (now (queue .entry)) (now (shut .entry)) (now (order .entry)) (now (marks .entry)) (now (walks .entry)) in
+        Sought a (now (reference .entry)) (now (bases .entry)) (now (column .entry)) tables b r outputs written) ⌝ }
 {
     let size = a.k as usize;
     let most = a.search;
@@ -142,8 +150,16 @@ pub fn work(
     w_marks: &mut [u32],
     w_walks: &mut [u32],
 ) -> ListAnswer
-    requires { ⌜ Works (inputFor a (now reference) (now ends) (now bases) (now qualities) (now column)) (outputsOf (now «row_scores») (now «row_closings») (now «row_edges») (now «out_bases») (now sequences) (now places)) (tablesOf (now «w_vertices») (now «w_edges») (now «w_index») (now «w_nodes») (now «w_targets») (now «w_paths») (now «w_scores») (now «w_active») (now «w_queue») (now «w_closed») (now «w_order») (now «w_marks») (now «w_walks»)) ⌝ }
-    ensures { λ r. ⌜ Listed (inputFor a (now (reference .entry)) (now (ends .entry)) (now (bases .entry)) (now (qualities .entry)) (now (column .entry))) (found (inputFor a (now (reference .entry)) (now (ends .entry)) (now (bases .entry)) (now (qualities .entry)) (now (column .entry)))) r (outputsOf (now («row_scores» .entry)) (now («row_closings» .entry)) (now («row_edges» .entry)) (now («out_bases» .entry)) (now (sequences .entry)) (now (places .entry))) (outputsOf (now («row_scores» .exit)) (now («row_closings» .exit)) (now («row_edges» .exit)) (now («out_bases» .exit)) (now (sequences .exit)) (now (places .exit))) ⌝ }
+    requires { ⌜ (
+        let input = inputFor a (now reference) (now ends) (now bases) (now qualities) (now column) in
+        let outputs = outputsOf (now «row_scores») (now «row_closings») (now «row_edges») (now «out_bases») (now sequences) (now places) in
+        let tables = tablesOf (now «w_vertices») (now «w_edges») (now «w_index») (now «w_nodes») (now «w_targets») (now «w_paths») (now «w_scores») (now «w_active») (now «w_queue») (now «w_closed») (now «w_order») (now «w_marks») (now «w_walks») in
+        Works input outputs tables) ⌝ }
+    ensures { λ r. ⌜ (
+        let input = inputFor a (now (reference .entry)) (now (ends .entry)) (now (bases .entry)) (now (qualities .entry)) (now (column .entry)) in
+        let outputs = outputsOf (now («row_scores» .entry)) (now («row_closings» .entry)) (now («row_edges» .entry)) (now («out_bases» .entry)) (now (sequences .entry)) (now (places .entry)) in
+        let written = outputsOf (now («row_scores» .exit)) (now («row_closings» .exit)) (now («row_edges» .exit)) (now («out_bases» .exit)) (now (sequences .exit)) (now (places .exit)) in
+        Listed input (found input) r outputs written) ⌝ }
 {
     let maxima = a.graph;
     let size = maxima.vertices as usize;

@@ -13,13 +13,13 @@ use Rattle.laws.specs.ListLaws.{All, cons, all-mono, all-zip}
 use Rattle.definition.specs.Refusal.{firstBroken}
 use Rattle.definition.specs.Limits.{Input, basesStride}
 use Rattle.definition.specs.Listing.{Row, Answer, refusal, listed, answer}
-use Rattle.definition.specs.Text.{Text, textOf, columnOf, with, textRules, graphMaxima, searchMaxima, firstLine, refusedLine, printedOf, printed}
+use Rattle.definition.specs.Text.{Text, textOf, with, textRules, graphMaxima, searchMaxima, firstLine, refusedLine, printedOf}
 use Rattle.definition.proofs.Demand.{paths-spelled, no-nan, within-bounds}
 use Rattle.definition.proofs.Late.{no-zero}
 use Rattle.list_lent.specs.Lent.{toldOf, lentOf}
 use Rattle.list_work.specs.Outcome.{Outputs, Tables, outputsAfter, writtenList, summary}
 use Rattle.list_call.specs.Within.{lengthsOf, Called}
-use Rattle.list_work.specs.Works.{inputFor}
+use Rattle.list_interface.specs.Handed.{inputFor}
 use Rattle.list_interface.specs.declared.ListAnswer.{ListAnswer}
 use Rattle.list_interface.specs.declared.Settings as call
 use Rattle.paths_text.specs.Listing.{Columns, Held, one-more, linesFrom, list-prints, list-most}

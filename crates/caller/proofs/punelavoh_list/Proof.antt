@@ -42,7 +42,7 @@ use denote.Triple.Clauses.{ensured, Lasts, lasts}
 use denote.Triple.Table.{entered, cited}
 use denote.Triple.Walked.{says, Stays, gave-slice, stay-dropped, walkOf, AllGo, goes-gave-slice, goes-dropped, Walks, ends-at, walked, walk-meets}
 use denote.Exit.{yes}
-use Rattle.list_work.specs.Works.{inputFor}
+use Rattle.list_interface.specs.Handed.{inputFor}
 use Rattle.list_work.specs.Outcome.{outputsOf, tablesOf as tablesOf′}
 use Rattle.caller.specs.Records.{columnsTold, ColumnsFit, Cleared, ListCalled}
 use Rattle.list_call.specs.Within.{Called}

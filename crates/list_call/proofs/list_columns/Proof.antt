@@ -1,5 +1,5 @@
 -- `list_columns` meets its contract: refused by the first broken rule with nothing touched, or `list_within`. Assumes nothing.
-use Rattle.list_work.specs.Works.{inputFor}
+use Rattle.list_interface.specs.Handed.{inputFor}
 use Rattle.list_work.specs.Outcome.{outputsOf, tablesOf}
 use Rattle.list_call.specs.Call.{call-refused, call-within, call-done}
 use Rattle.list_call.proofs.list_columns.Statement.{statement}

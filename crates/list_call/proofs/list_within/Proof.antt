@@ -1,7 +1,7 @@
 -- `list_within` meets its contract: the work over the parts told, each of which is cleared afterwards. Assumes nothing.
 use mathlib.Core.Path.{sym, _∙_}
 use lib.Seq.{length-take-le, length-front}
-use Rattle.list_work.specs.Works.{inputFor}
+use Rattle.list_interface.specs.Handed.{inputFor}
 use Rattle.list_call.specs.Outcome.{floatZero}
 use Rattle.list_call.specs.Parts.{in-limits, room-told, part-kept, part-cleared, parts-lent, all-cleared}
 use Rattle.list_call.proofs.list_within.Statement.{statement}
