@@ -19,9 +19,9 @@ use search_state::Step;
 use turn_rules::all_closed;
 use turn_rules::extend_refusal;
 use turn_rules::first_new;
+use turn_rules::is_dropped;
 use turn_rules::step_refusal;
 use turn_rules::too_many;
-use turn_rules::too_undecided;
 ghost use mathlib.Core.Path.{_≡_};
 ghost use Rattle.junction_kbest.specs.Extend.{ExtendsTaken, TakenExtended};
 ghost use Rattle.junction_kbest.specs.Take.{TakesPath, PathTaken};
@@ -136,7 +136,7 @@ fn take_path(
     ensures { λ r. ⌜ PathTaken g (now (vertices .entry)) (now (edges .entry)) (now (nodes .entry)) (now (only .entry)) (now (to .entry)) (now (column .entry)) (now (paths .entry)) (now (scores .entry)) (now (active .entry)) (now (shut .entry)) (now (marks .entry)) p path r (now (paths .exit)) (now (scores .exit)) (now (active .exit)) (now (shut .exit)) (now (marks .exit)) ⌝ }
 {
     let row = path_at(paths, scores, path);
-    if too_undecided(row.since) {
+    if is_dropped(row.since) {
         return Step::On(p);
     }
     let taken = follow_chain(paths, scores, only, to, path);

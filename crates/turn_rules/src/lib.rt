@@ -27,7 +27,7 @@ pub fn too_many(p: Progress) -> bool
 }
 
 // Whether a taken path is dropped: it has more than 5 decisions since guidance.
-pub fn too_undecided(since: u32) -> bool
+pub fn is_dropped(since: u32) -> bool
     ensures { λ r. ⌜ r ≡ ltb 5 since ⌝ }
 {
     since > 5

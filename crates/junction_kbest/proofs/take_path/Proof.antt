@@ -8,8 +8,8 @@ use Rattle.junction_kbest.proofs.take_path.Tie as tie
 path-at-requires : tie.Need-path-at-requires
 path-at-requires c κs = take-inside _ _ _ _ _ _ _ _ _ _ _ _ _ _ _ (c .before .before .before .before .before .before .before .before .before .before .before .before .before .before .pre)
 
-too-undecided-requires : tie.Need-too-undecided-requires
-too-undecided-requires c κs = tt
+is-dropped-requires : tie.Need-is-dropped-requires
+is-dropped-requires c κs = tt
 
 same-length : tie.Need-same-length
 same-length c = search needs
@@ -18,13 +18,13 @@ same-length-2 : tie.Need-same-length-2
 same-length-2 c = search needs
 
 returns : tie.Need-returns
-returns c = path-dropped _ _ _ _ _ _ _ _ _ _ _ _ _ _ _ (c .before .before .path-at .ensures) (is-dropped (c .before .too-undecided .ensures) (c .if1 .taken))
+returns c = path-dropped _ _ _ _ _ _ _ _ _ _ _ _ _ _ _ (c .before .before .path-at .ensures) (is-dropped (c .before .is-dropped .ensures) (c .if1 .taken))
 
 follow-chain-requires : tie.Need-follow-chain-requires
 follow-chain-requires c κs = take-table _ _ _ _ _ _ _ _ _ _ _ _ _ _ _ (c .before .before .before .before .before .before .before .before .before .before .before .before .before .before .before .before .before .before .before .pre)
 
 extend-taken-requires : tie.Need-extend-taken-requires
-extend-taken-requires c κs = path-extends _ _ _ _ _ _ _ _ _ _ _ _ _ _ _ (c .before .before .before .before .before .before .before .before .before .before .before .path-at .ensures) (goes-on (c .before .before .before .before .before .before .before .before .before .before .too-undecided .ensures) (c .before .before .before .before .before .before .before .before .before .if1 .left)) _ (c .before .before .before .before .before .before .follow-chain .ensures) _ (c .before .before .before .before .before .before .before .before .before .before .before .before .before .before .before .before .before .before .before .before .before .before .before .before .before .before .pre)
+extend-taken-requires c κs = path-extends _ _ _ _ _ _ _ _ _ _ _ _ _ _ _ (c .before .before .before .before .before .before .before .before .before .before .before .path-at .ensures) (goes-on (c .before .before .before .before .before .before .before .before .before .before .is-dropped .ensures) (c .before .before .before .before .before .before .before .before .before .if1 .left)) _ (c .before .before .before .before .before .before .follow-chain .ensures) _ (c .before .before .before .before .before .before .before .before .before .before .before .before .before .before .before .before .before .before .before .before .before .before .before .before .before .before .pre)
 
 same-length-3 : tie.Need-same-length-3
 same-length-3 c = search needs
@@ -45,14 +45,14 @@ same-length-8 : tie.Need-same-length-8
 same-length-8 c = search needs
 
 returns-2 : tie.Need-returns-2
-returns-2 c = path-extended _ _ _ _ _ _ _ _ _ _ _ _ _ _ _ (c .before .before .before .before .before .before .before .before .before .before .before .before .before .before .before .before .before .before .before .before .before .before .before .before .path-at .ensures) (goes-on (c .before .before .before .before .before .before .before .before .before .before .before .before .before .before .before .before .before .before .before .before .before .before .before .too-undecided .ensures) (c .before .before .before .before .before .before .before .before .before .before .before .before .before .before .before .before .before .before .before .before .before .before .if1 .left)) _ (c .before .before .before .before .before .before .before .before .before .before .before .before .before .before .before .before .before .before .before .follow-chain .ensures) _ _ _ _ _ _ (c .before .before .before .before .before .before .before .before .before .before .before .before .extend-taken .ensures)
+returns-2 c = path-extended _ _ _ _ _ _ _ _ _ _ _ _ _ _ _ (c .before .before .before .before .before .before .before .before .before .before .before .before .before .before .before .before .before .before .before .before .before .before .before .before .path-at .ensures) (goes-on (c .before .before .before .before .before .before .before .before .before .before .before .before .before .before .before .before .before .before .before .before .before .before .before .is-dropped .ensures) (c .before .before .before .before .before .before .before .before .before .before .before .before .before .before .before .before .before .before .before .before .before .before .if1 .left)) _ (c .before .before .before .before .before .before .before .before .before .before .before .before .before .before .before .before .before .before .before .follow-chain .ensures) _ _ _ _ _ _ (c .before .before .before .before .before .before .before .before .before .before .before .before .extend-taken .ensures)
 
 pub take-path-spec : {M : Type 1} → statement M
 take-path-spec =
     tie.close
     (tie.spec
     path-at-requires
-    too-undecided-requires
+    is-dropped-requires
     same-length
     same-length-2
     returns
