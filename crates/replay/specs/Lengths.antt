@@ -1,9 +1,9 @@
 -- How much of each slice is lent. Assumes nothing.
-use mathlib.Core.Path.{_≡_, sym, _∙_}
+use mathlib.Core.Path.{_≡_, sym, subst, _∙_}
 use mathlib.Core.List.{List, _++_}
 use Prim.Native.Nat.{ℕ, _≤_}
 use lib.ListN.{length, take, drop, replicate, length-replicate}
-use lib.Seq.{length-front}
+use lib.Seq.{length-take-le, length-front}
 use Rattle.list_lent.specs.declared.Lent.{Lent}
 
 -- Each length is at most that of its slice.
@@ -27,6 +27,13 @@ pub record Fits (l : Lent) (of-row-scores of-row-closings of-row-edges of-bases 
   pub order : l .order ≤ of-order
   pub marks : l .marks ≤ of-marks
   pub walks : l .walks ≤ of-walks
+
+-- a part of an array lies within it, and is as long as told
+pub array-part : {A : Type 0} (v : A) (m : ℕ) {n : ℕ} → n ≤ m → n ≤ length (replicate m v)
+array-part v m {n} h = subst (λ (k : ℕ). n ≤ k) (sym (length-replicate m v)) h
+
+pub part-count : {A : Type 0} (v : A) (m : ℕ) {n : ℕ} → n ≤ m → n ≡ length (take n (replicate m v))
+part-count v m {n} h = sym (length-take-le n (replicate m v) (array-part v m h))
 
 -- an array of which a part was lent for writing keeps its length
 pub array-kept : {A : Type 0} (v : A) (m n : ℕ) (e : List A) → length e ≡ length (take n (replicate m v)) → m ≡ length (e ++ drop n (replicate m v))

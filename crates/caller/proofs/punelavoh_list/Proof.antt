@@ -44,19 +44,20 @@ use denote.Triple.Walked.{says, Stays, gave-slice, stay-dropped, walkOf, AllGo, 
 use denote.Exit.{yes}
 use Rattle.list_interface.specs.Handed.{inputFor}
 use Rattle.list_work.specs.Outcome.{outputsOf, tablesOf as tablesOf′}
-use Rattle.caller.specs.Records.{columnsTold, ColumnsFit, Cleared, ListCalled}
+use Rattle.row_counts.specs.Told.{columnsTold}
+use Rattle.caller.specs.Records.{ColumnsFit, Cleared, ListCalled}
 use Rattle.list_call.specs.Within.{Called}
 use Rattle.path_rows.specs.Rows.{Filled}
 use denote.Struct.Laws as LL
-use Rattle.list_work.specs.declared.Settings.{Settings}
-use Rattle.list_work.proofs.Settings as Settings′
-use Rattle.list_work.proofs.Settings.Laws as Settings″
+use Rattle.list_interface.specs.declared.Settings.{Settings}
+use Rattle.list_interface.proofs.Settings as Settings′
+use Rattle.list_interface.proofs.Settings.Laws as Settings″
 use Rattle.path_rows.specs.declared.PathRow.{PathRow}
 use Rattle.path_rows.proofs.PathRow as PathRow′
 use Rattle.path_rows.proofs.PathRow.Laws as PathRow″
-use Rattle.list_work.specs.declared.ListAnswer.{ListAnswer}
-use Rattle.list_work.proofs.ListAnswer as ListAnswer′
-use Rattle.list_work.proofs.ListAnswer.Laws as ListAnswer″
+use Rattle.list_interface.specs.declared.ListAnswer.{ListAnswer}
+use Rattle.list_interface.proofs.ListAnswer as ListAnswer′
+use Rattle.list_interface.proofs.ListAnswer.Laws as ListAnswer″
 use Rattle.caller.proofs.Again.{LentAgain, lends-again, comes-back}
 use Rattle.caller.proofs.Sharing.{shares-on}
 use Rattle.caller.proofs.Leaving.{resumes, frees-all}
@@ -65,10 +66,10 @@ use Rattle.list_call.proofs.list_columns as list-columns
 use Rattle.list_call.proofs.list_columns.Symbol as list-columns-def
 use Rattle.list_call.proofs.list_columns.Symbol.{name as #list-columns}
 use Rattle.list_call.proofs.list_columns.Met as list-columns-thm
-use Rattle.caller.proofs.rows_told as rows-told
-use Rattle.caller.proofs.rows_told.Symbol as rows-told-def
-use Rattle.caller.proofs.rows_told.Symbol.{name as #rows-told}
-use Rattle.caller.proofs.rows_told.Met as rows-told-thm
+use Rattle.row_counts.proofs.rows_told as rows-told
+use Rattle.row_counts.proofs.rows_told.Symbol as rows-told-def
+use Rattle.row_counts.proofs.rows_told.Symbol.{name as #rows-told}
+use Rattle.row_counts.proofs.rows_told.Met as rows-told-thm
 use Rattle.path_rows.proofs.write_rows as write-rows
 use Rattle.path_rows.proofs.write_rows.Symbol as write-rows-def
 use Rattle.path_rows.proofs.write_rows.Symbol.{name as #write-rows}
@@ -353,7 +354,7 @@ module _ {M : Type 1} (𝓤 : URA M) (H : Heap 𝓤) (A : Atoms 𝓤) (W : Given
   abbrev Last : List PathRow → List ℕ → List ℕ → List ℕ → List ℕ → List ℕ → List ℕ → List ℕ → List ℕ → List ℕ → List Float → List ℕ → List ℕ → List ℕ → List ℕ → List ℕ → List ℕ → List Float → List ℕ → List ℕ → List (Item 𝓤)
   Last z₆ z₇ z₈ z₉ z₁₀ z₁₁ z₁₂ z₁₃ z₁₄ z₁₅ z₁₆ z₁₇ z₁₈ z₁₉ z₂₀ z₂₁ z₂₂ z₂₃ z₂₄ z₂₅ = ‵ (flft κ₀ q₀) ∷ ‵ (flft κ₁ q₁) ∷ ‵ (flft κ₂ q₂) ∷ ‵ (flft κ₃ q₃) ∷ ‵ (flft κ₄ q₄) ∷ ‵ (flft κ₅ q₅) ∷ ‵ (flft κ₆ q₆) ∷ ‵ (flft κ₇ q₇) ∷ ‵ (flft κ₈ q₈) ∷ ‵ (flft κ₉ q₉) ∷ ‵ (flft κ₁₀ q₁₀) ∷ ‵ (flft κ₁₁ q₁₁) ∷ ‵ (flft κ₁₂ q₁₂) ∷ ‵ (flft κ₁₃ q₁₃) ∷ ‵ (flft κ₁₄ q₁₄) ∷ ‵ (flft κ₁₅ q₁₅) ∷ ‵ (flft κ₁₆ q₁₆) ∷ ‵ (flft κ₁₇ q₁₇) ∷ ‵ (flft κ₁₈ q₁₈) ∷ ‵ (flft κ₁₉ q₁₉) ∷ ‵ (flft κ₂₀ q₂₀) ∷ ‵ (flft κ₂₁ q₂₁) ∷ ‵ (flft κ₂₂ q₂₂) ∷ ‵ (flft κ₂₃ q₂₃) ∷ ‵ (flft κ₂₄ q₂₄) ∷ ‵ (finally PathRow′.the-row (x₆ .name) z₆) ∷ ‵ (finally u8 (x₇ .name) z₇) ∷ ‵ (finally u32 (x₈ .name) z₈) ∷ ‵ (finally u32 (x₉ .name) z₉) ∷ ‵ (finally u32 (x₁₀ .name) z₁₀) ∷ ‵ (finally u32 (x₁₁ .name) z₁₁) ∷ ‵ (finally u32 (x₁₂ .name) z₁₂) ∷ ‵ (finally u32 (x₁₃ .name) z₁₃) ∷ ‵ (finally u32 (x₁₄ .name) z₁₄) ∷ ‵ (finally u32 (x₁₅ .name) z₁₅) ∷ ‵ (finally f64 (x₁₆ .name) z₁₆) ∷ ‵ (finally u16 (x₁₇ .name) z₁₇) ∷ ‵ (finally u32 (x₁₈ .name) z₁₈) ∷ ‵ (finally u32 (x₁₉ .name) z₁₉) ∷ ‵ (finally u32 (x₂₀ .name) z₂₀) ∷ ‵ (finally u32 (x₂₁ .name) z₂₁) ∷ ‵ (finally u32 (x₂₂ .name) z₂₂) ∷ ‵ (finally f64 (x₂₃ .name) z₂₃) ∷ ‵ (finally u32 (x₂₄ .name) z₂₄) ∷ ‵ (finally u32 (x₂₅ .name) z₂₅) ∷ []
 
-  exits : (r : ListAnswer) (z₆ : List PathRow) (z₇ : List ℕ) (z₈ : List ℕ) (z₉ : List ℕ) (z₁₀ : List ℕ) (z₁₁ : List ℕ) (z₁₂ : List ℕ) (z₁₃ : List ℕ) (z₁₄ : List ℕ) (z₁₅ : List ℕ) (z₁₆ : List Float) (z₁₇ : List ℕ) (z₁₈ : List ℕ) (z₁₉ : List ℕ) (z₂₀ : List ℕ) (z₂₁ : List ℕ) (z₂₂ : List ℕ) (z₂₃ : List Float) (z₂₄ : List ℕ) (z₂₅ : List ℕ) → Is ListAnswer′.the-row r (LL.vals ListAnswer′.the-type ListAnswer″.the-laws r) → length z₆ ≡ length (x₆ .now) → length z₇ ≡ length (x₇ .now) → length z₈ ≡ length (x₈ .now) → length z₉ ≡ length (x₉ .now) → length z₁₀ ≡ length (x₁₀ .now) → length z₁₁ ≡ length (x₁₁ .now) → length z₁₂ ≡ length (x₁₂ .now) → length z₁₃ ≡ length (x₁₃ .now) → length z₁₄ ≡ length (x₁₄ .now) → length z₁₅ ≡ length (x₁₅ .now) → length z₁₆ ≡ length (x₁₆ .now) → length z₁₇ ≡ length (x₁₇ .now) → length z₁₈ ≡ length (x₁₈ .now) → length z₁₉ ≡ length (x₁₉ .now) → length z₂₀ ≡ length (x₂₀ .now) → length z₂₁ ≡ length (x₂₁ .now) → length z₂₂ ≡ length (x₂₂ .now) → length z₂₃ ≡ length (x₂₃ .now) → length z₂₄ ≡ length (x₂₄ .now) → length z₂₅ ≡ length (x₂₅ .now) → ListCalled (inputFor x₀ (x₁ .now) (x₂ .now) (x₃ .now) (x₄ .now) (x₅ .now)) r (x₆ .now) z₆ (outputsOf (x₂₃ .now) (x₂₄ .now) (x₂₅ .now) (x₇ .now) (x₈ .now) (x₉ .now)) (outputsOf z₂₃ z₂₄ z₂₅ z₇ z₈ z₉) (tablesOf′ (x₁₀ .now) (x₁₁ .now) (x₁₂ .now) (x₁₃ .now) (x₁₄ .now) (x₁₅ .now) (x₁₆ .now) (x₁₇ .now) (x₁₈ .now) (x₁₉ .now) (x₂₀ .now) (x₂₁ .now) (x₂₂ .now)) (tablesOf′ z₁₀ z₁₁ z₁₂ z₁₃ z₁₄ z₁₅ z₁₆ z₁₇ z₁₈ z₁₉ z₂₀ z₂₁ z₂₂) → ent 𝓤 (⋆ 𝓤 H A (Last z₆ z₇ z₈ z₉ z₁₀ z₁₁ z₁₂ z₁₃ z₁₄ z₁₅ z₁₆ z₁₇ z₁₈ z₁₉ z₂₀ z₂₁ z₂₂ z₂₃ z₂₄ z₂₅)) (Post (LL.val ListAnswer′.the-type ListAnswer″.the-laws r))
+  exits : (r : ListAnswer) (z₆ : List PathRow) (z₇ : List ℕ) (z₈ : List ℕ) (z₉ : List ℕ) (z₁₀ : List ℕ) (z₁₁ : List ℕ) (z₁₂ : List ℕ) (z₁₃ : List ℕ) (z₁₄ : List ℕ) (z₁₅ : List ℕ) (z₁₆ : List Float) (z₁₇ : List ℕ) (z₁₈ : List ℕ) (z₁₉ : List ℕ) (z₂₀ : List ℕ) (z₂₁ : List ℕ) (z₂₂ : List ℕ) (z₂₃ : List Float) (z₂₄ : List ℕ) (z₂₅ : List ℕ) → Is ListAnswer′.the-row r (LL.vals ListAnswer′.the-type ListAnswer″.the-laws r) → length z₆ ≡ length (x₆ .now) → length z₇ ≡ length (x₇ .now) → length z₈ ≡ length (x₈ .now) → length z₉ ≡ length (x₉ .now) → length z₁₀ ≡ length (x₁₀ .now) → length z₁₁ ≡ length (x₁₁ .now) → length z₁₂ ≡ length (x₁₂ .now) → length z₁₃ ≡ length (x₁₃ .now) → length z₁₄ ≡ length (x₁₄ .now) → length z₁₅ ≡ length (x₁₅ .now) → length z₁₆ ≡ length (x₁₆ .now) → length z₁₇ ≡ length (x₁₇ .now) → length z₁₈ ≡ length (x₁₈ .now) → length z₁₉ ≡ length (x₁₉ .now) → length z₂₀ ≡ length (x₂₀ .now) → length z₂₁ ≡ length (x₂₁ .now) → length z₂₂ ≡ length (x₂₂ .now) → length z₂₃ ≡ length (x₂₃ .now) → length z₂₄ ≡ length (x₂₄ .now) → length z₂₅ ≡ length (x₂₅ .now) → (let input = inputFor x₀ (x₁ .now) (x₂ .now) (x₃ .now) (x₄ .now) (x₅ .now) in let outputs = outputsOf (x₂₃ .now) (x₂₄ .now) (x₂₅ .now) (x₇ .now) (x₈ .now) (x₉ .now) in let written = outputsOf z₂₃ z₂₄ z₂₅ z₇ z₈ z₉ in let tables = tablesOf′ (x₁₀ .now) (x₁₁ .now) (x₁₂ .now) (x₁₃ .now) (x₁₄ .now) (x₁₅ .now) (x₁₆ .now) (x₁₇ .now) (x₁₈ .now) (x₁₉ .now) (x₂₀ .now) (x₂₁ .now) (x₂₂ .now) in let left = tablesOf′ z₁₀ z₁₁ z₁₂ z₁₃ z₁₄ z₁₅ z₁₆ z₁₇ z₁₈ z₁₉ z₂₀ z₂₁ z₂₂ in ListCalled input r (x₆ .now) z₆ outputs written tables left) → ent 𝓤 (⋆ 𝓤 H A (Last z₆ z₇ z₈ z₉ z₁₀ z₁₁ z₁₂ z₁₃ z₁₄ z₁₅ z₁₆ z₁₇ z₁₈ z₁₉ z₂₀ z₂₁ z₂₂ z₂₃ z₂₄ z₂₅)) (Post (LL.val ListAnswer′.the-type ListAnswer″.the-laws r))
   exits r z₆ z₇ z₈ z₉ z₁₀ z₁₁ z₁₂ z₁₃ z₁₄ z₁₅ z₁₆ z₁₇ z₁₈ z₁₉ z₂₀ z₂₁ z₂₂ z₂₃ z₂₄ z₂₅ ok s₆ s₇ s₈ s₉ s₁₀ s₁₁ s₁₂ s₁₃ s₁₄ s₁₅ s₁₆ s₁₇ s₁₈ s₁₉ s₂₀ s₂₁ s₂₂ s₂₃ s₂₄ s₂₅ shown =
       qed W (Last z₆ z₇ z₈ z₉ z₁₀ z₁₁ z₁₂ z₁₃ z₁₄ z₁₅ z₁₆ z₁₇ z₁₈ z₁₉ z₂₀ z₂₁ z₂₂ z₂₃ z₂₄ z₂₅) ∵
       suffices ! _ (ends-at 𝓤 H A f.ended stayed (f.clauses 𝓤 H A at-mem run) W ((κs, qs, tt, a, vals), tt) (LL.val ListAnswer′.the-type ListAnswer″.the-laws r) r (tt, (tt, (tt, (tt, (tt, (tt, (z₆, (z₇, (z₈, (z₉, (z₁₀, (z₁₁, (z₁₂, (z₁₃, (z₁₄, (z₁₅, (z₁₆, (z₁₇, (z₁₈, (z₁₉, (z₂₀, (z₂₁, (z₂₂, (z₂₃, (z₂₄, (z₂₅, tt)))))))))))))))))))))))))) (tt, (tt, (tt, (tt, (tt, (tt, (s₆, (s₇, (s₈, (s₉, (s₁₀, (s₁₁, (s₁₂, (s₁₃, (s₁₄, (s₁₅, (s₁₆, (s₁₇, (s₁₈, (s₁₉, (s₂₀, (s₂₁, (s₂₂, (s₂₃, (s₂₄, (s₂₅, tt))))))))))))))))))))))))))) $ says ! shown $
@@ -685,7 +686,7 @@ module _ {M : Type 1} (𝓤 : URA M) (H : Heap 𝓤) (A : Atoms 𝓤) (W : Given
           ∷ ‵ (froom ListAnswer″.mir l₀ 0)
           ∷ ‵ (fdies ListAnswer″.mir l₀) ∷ []
 
-      rest : (r : ListAnswer) (z₇ : List ℕ) (z₈ : List ℕ) (z₉ : List ℕ) (z₁₀ : List ℕ) (z₁₁ : List ℕ) (z₁₂ : List ℕ) (z₁₃ : List ℕ) (z₁₄ : List ℕ) (z₁₅ : List ℕ) (z₁₆ : List Float) (z₁₇ : List ℕ) (z₁₈ : List ℕ) (z₁₉ : List ℕ) (z₂₀ : List ℕ) (z₂₁ : List ℕ) (z₂₂ : List ℕ) (z₂₃ : List Float) (z₂₄ : List ℕ) (z₂₅ : List ℕ) → Is ListAnswer′.the-row r (LL.vals ListAnswer′.the-type ListAnswer″.the-laws r) → length z₇ ≡ length (x₇ .now) → length z₈ ≡ length (x₈ .now) → length z₉ ≡ length (x₉ .now) → length z₁₀ ≡ length (x₁₀ .now) → length z₁₁ ≡ length (x₁₁ .now) → length z₁₂ ≡ length (x₁₂ .now) → length z₁₃ ≡ length (x₁₃ .now) → length z₁₄ ≡ length (x₁₄ .now) → length z₁₅ ≡ length (x₁₅ .now) → length z₁₆ ≡ length (x₁₆ .now) → length z₁₇ ≡ length (x₁₇ .now) → length z₁₈ ≡ length (x₁₈ .now) → length z₁₉ ≡ length (x₁₉ .now) → length z₂₀ ≡ length (x₂₀ .now) → length z₂₁ ≡ length (x₂₁ .now) → length z₂₂ ≡ length (x₂₂ .now) → length z₂₃ ≡ length (x₂₃ .now) → length z₂₄ ≡ length (x₂₄ .now) → length z₂₅ ≡ length (x₂₅ .now) → Called (inputFor x₀ (x₁ .now) (x₂ .now) (x₃ .now) (x₄ .now) (x₅ .now)) (length (x₆ .now)) r (outputsOf (x₂₃ .now) (x₂₄ .now) (x₂₅ .now) (x₇ .now) (x₈ .now) (x₉ .now)) (outputsOf z₂₃ z₂₄ z₂₅ z₇ z₈ z₉) (tablesOf′ (x₁₀ .now) (x₁₁ .now) (x₁₂ .now) (x₁₃ .now) (x₁₄ .now) (x₁₅ .now) (x₁₆ .now) (x₁₇ .now) (x₁₈ .now) (x₁₉ .now) (x₂₀ .now) (x₂₁ .now) (x₂₂ .now)) (tablesOf′ z₁₀ z₁₁ z₁₂ z₁₃ z₁₄ z₁₅ z₁₆ z₁₇ z₁₈ z₁₉ z₂₀ z₂₁ z₂₂) → (u₂ u₃ u₄ u₅ u₆ u₈ u₉ u₁₀ u₁₁ u₁₂ u₁₃ u₁₄ u₁₅ u₁₆ u₁₇ u₁₈ u₁₉ u₂₀ u₂₁ u₂₂ u₂₃ u₂₇ u₃₀ u₃₁ u₃₂ u₃₃ u₃₄ u₃₅ u₃₆ u₃₇ u₃₈ u₃₉ u₄₀ u₄₁ u₄₂ u₄₃ u₄₄ u₄₅ u₄₆ u₄₇ u₄₈ u₄₉ u₅₀ u₅₁ u₅₂ u₅₃ u₅₄ u₅₅ u₅₆ u₅₇ u₅₈ u₅₉ u₆₀ u₆₁ u₆₂ u₆₃ u₆₄ u₆₅ u₆₆ u₆₇ : Val) → ent 𝓤 (⋆ 𝓤 H A (Kept r z₇ z₈ z₉ z₁₀ z₁₁ z₁₂ z₁₃ z₁₄ z₁₅ z₁₆ z₁₇ z₁₈ z₁₉ z₂₀ z₂₁ z₂₂ z₂₃ z₂₄ z₂₅ u₂ u₃ u₄ u₅ u₆ u₈ u₉ u₁₀ u₁₁ u₁₂ u₁₃ u₁₄ u₁₅ u₁₆ u₁₇ u₁₈ u₁₉ u₂₀ u₂₁ u₂₂ u₂₃ u₂₇ u₃₀ u₃₁ u₃₂ u₃₃ u₃₄ u₃₅ u₃₆ u₃₇ u₃₈ u₃₉ u₄₀ u₄₁ u₄₂ u₄₃ u₄₄ u₄₅ u₄₆ u₄₇ u₄₈ u₄₉ u₅₀ u₅₁ u₅₂ u₅₃ u₅₄ u₅₅ u₅₆ u₅₇ u₅₈ u₅₉ u₆₀ u₆₁ u₆₂ u₆₃ u₆₄ u₆₅ u₆₆ u₆₇)) (Wp 𝓤 H C Λ En mir′.t-41 (atReturn 𝓤 H En Post))
+      rest : (r : ListAnswer) (z₇ : List ℕ) (z₈ : List ℕ) (z₉ : List ℕ) (z₁₀ : List ℕ) (z₁₁ : List ℕ) (z₁₂ : List ℕ) (z₁₃ : List ℕ) (z₁₄ : List ℕ) (z₁₅ : List ℕ) (z₁₆ : List Float) (z₁₇ : List ℕ) (z₁₈ : List ℕ) (z₁₉ : List ℕ) (z₂₀ : List ℕ) (z₂₁ : List ℕ) (z₂₂ : List ℕ) (z₂₃ : List Float) (z₂₄ : List ℕ) (z₂₅ : List ℕ) → Is ListAnswer′.the-row r (LL.vals ListAnswer′.the-type ListAnswer″.the-laws r) → length z₇ ≡ length (x₇ .now) → length z₈ ≡ length (x₈ .now) → length z₉ ≡ length (x₉ .now) → length z₁₀ ≡ length (x₁₀ .now) → length z₁₁ ≡ length (x₁₁ .now) → length z₁₂ ≡ length (x₁₂ .now) → length z₁₃ ≡ length (x₁₃ .now) → length z₁₄ ≡ length (x₁₄ .now) → length z₁₅ ≡ length (x₁₅ .now) → length z₁₆ ≡ length (x₁₆ .now) → length z₁₇ ≡ length (x₁₇ .now) → length z₁₈ ≡ length (x₁₈ .now) → length z₁₉ ≡ length (x₁₉ .now) → length z₂₀ ≡ length (x₂₀ .now) → length z₂₁ ≡ length (x₂₁ .now) → length z₂₂ ≡ length (x₂₂ .now) → length z₂₃ ≡ length (x₂₃ .now) → length z₂₄ ≡ length (x₂₄ .now) → length z₂₅ ≡ length (x₂₅ .now) → (let input = inputFor x₀ (x₁ .now) (x₂ .now) (x₃ .now) (x₄ .now) (x₅ .now) in let outputs = outputsOf (x₂₃ .now) (x₂₄ .now) (x₂₅ .now) (x₇ .now) (x₈ .now) (x₉ .now) in let written = outputsOf z₂₃ z₂₄ z₂₅ z₇ z₈ z₉ in let tables = tablesOf′ (x₁₀ .now) (x₁₁ .now) (x₁₂ .now) (x₁₃ .now) (x₁₄ .now) (x₁₅ .now) (x₁₆ .now) (x₁₇ .now) (x₁₈ .now) (x₁₉ .now) (x₂₀ .now) (x₂₁ .now) (x₂₂ .now) in let left = tablesOf′ z₁₀ z₁₁ z₁₂ z₁₃ z₁₄ z₁₅ z₁₆ z₁₇ z₁₈ z₁₉ z₂₀ z₂₁ z₂₂ in Called input (length (x₆ .now)) r outputs written tables left) → (u₂ u₃ u₄ u₅ u₆ u₈ u₉ u₁₀ u₁₁ u₁₂ u₁₃ u₁₄ u₁₅ u₁₆ u₁₇ u₁₈ u₁₉ u₂₀ u₂₁ u₂₂ u₂₃ u₂₇ u₃₀ u₃₁ u₃₂ u₃₃ u₃₄ u₃₅ u₃₆ u₃₇ u₃₈ u₃₉ u₄₀ u₄₁ u₄₂ u₄₃ u₄₄ u₄₅ u₄₆ u₄₇ u₄₈ u₄₉ u₅₀ u₅₁ u₅₂ u₅₃ u₅₄ u₅₅ u₅₆ u₅₇ u₅₈ u₅₉ u₆₀ u₆₁ u₆₂ u₆₃ u₆₄ u₆₅ u₆₆ u₆₇ : Val) → ent 𝓤 (⋆ 𝓤 H A (Kept r z₇ z₈ z₉ z₁₀ z₁₁ z₁₂ z₁₃ z₁₄ z₁₅ z₁₆ z₁₇ z₁₈ z₁₉ z₂₀ z₂₁ z₂₂ z₂₃ z₂₄ z₂₅ u₂ u₃ u₄ u₅ u₆ u₈ u₉ u₁₀ u₁₁ u₁₂ u₁₃ u₁₄ u₁₅ u₁₆ u₁₇ u₁₈ u₁₉ u₂₀ u₂₁ u₂₂ u₂₃ u₂₇ u₃₀ u₃₁ u₃₂ u₃₃ u₃₄ u₃₅ u₃₆ u₃₇ u₃₈ u₃₉ u₄₀ u₄₁ u₄₂ u₄₃ u₄₄ u₄₅ u₄₆ u₄₇ u₄₈ u₄₉ u₅₀ u₅₁ u₅₂ u₅₃ u₅₄ u₅₅ u₅₆ u₅₇ u₅₈ u₅₉ u₆₀ u₆₁ u₆₂ u₆₃ u₆₄ u₆₅ u₆₆ u₆₇)) (Wp 𝓤 H C Λ En mir′.t-41 (atReturn 𝓤 H En Post))
       rest r z₇ z₈ z₉ z₁₀ z₁₁ z₁₂ z₁₃ z₁₄ z₁₅ z₁₆ z₁₇ z₁₈ z₁₉ z₂₀ z₂₁ z₂₂ z₂₃ z₂₄ z₂₅ is s₇ s₈ s₉ s₁₀ s₁₁ s₁₂ s₁₃ s₁₄ s₁₅ s₁₆ s₁₇ s₁₈ s₁₉ s₂₀ s₂₁ s₂₂ s₂₃ s₂₄ s₂₅ e u₂ u₃ u₄ u₅ u₆ u₈ u₉ u₁₀ u₁₁ u₁₂ u₁₃ u₁₄ u₁₅ u₁₆ u₁₇ u₁₈ u₁₉ u₂₀ u₂₁ u₂₂ u₂₃ u₂₇ u₃₀ u₃₁ u₃₂ u₃₃ u₃₄ u₃₅ u₃₆ u₃₇ u₃₈ u₃₉ u₄₀ u₄₁ u₄₂ u₄₃ u₄₄ u₄₅ u₄₆ u₄₇ u₄₈ u₄₉ u₅₀ u₅₁ u₅₂ u₅₃ u₅₄ u₅₅ u₅₆ u₅₇ u₅₈ u₅₉ u₆₀ u₆₁ u₆₂ u₆₃ u₆₄ u₆₅ u₆₆ u₆₇ =
           qed W (Kept r z₇ z₈ z₉ z₁₀ z₁₁ z₁₂ z₁₃ z₁₄ z₁₅ z₁₆ z₁₇ z₁₈ z₁₉ z₂₀ z₂₁ z₂₂ z₂₃ z₂₄ z₂₅ u₂ u₃ u₄ u₅ u₆ u₈ u₉ u₁₀ u₁₁ u₁₂ u₁₃ u₁₄ u₁₅ u₁₆ u₁₇ u₁₈ u₁₉ u₂₀ u₂₁ u₂₂ u₂₃ u₂₇ u₃₀ u₃₁ u₃₂ u₃₃ u₃₄ u₃₅ u₃₆ u₃₇ u₃₈ u₃₉ u₄₀ u₄₁ u₄₂ u₄₃ u₄₄ u₄₅ u₄₆ u₄₇ u₄₈ u₄₉ u₅₀ u₅₁ u₅₂ u₅₃ u₅₄ u₅₅ u₅₆ u₅₇ u₅₈ u₅₉ u₆₀ u₆₁ u₆₂ u₆₃ u₆₄ u₆₅ u₆₆ u₆₇) ∵
           exec ! C Λ En mir′.t-41 (atRet En Post) $
@@ -1208,10 +1209,10 @@ module _ {M : Type 1} (𝓤 : URA M) (H : Heap 𝓤) (A : Atoms 𝓤) (W : Given
         split ! $
         split ! $
         move ! (2 ∷ []) $
-        use1 W (some (λ (ws : Lasts list-columns.ended (κ₀, (κ₁, (κ₂, (κ₃, (κ₄, ((ν₂₃ ∷ []), ((ν₂₄ ∷ []), ((ν₂₅ ∷ []), (κ₆, (κ₇, (κ₈, (κ₉, (κ₁₀, (κ₁₁, (κ₁₂, (κ₁₃, (κ₁₄, (κ₁₅, (κ₁₆, (κ₁₇, (κ₁₈, (κ₁₉, (κ₂₀, (κ₂₁, tt)))))))))))))))))))))))) (x₀, ((length (x₆ .now)), (x₁, (x₂, (x₃, (x₄, (x₅, ((record { ptr = x₂₃ .ptr; name = δ₂₃; now = x₂₃ .now }), ((record { ptr = x₂₄ .ptr; name = δ₂₄; now = x₂₄ .now }), ((record { ptr = x₂₅ .ptr; name = δ₂₅; now = x₂₅ .now }), (x₇, (x₈, (x₉, (x₁₀, (x₁₁, (x₁₂, (x₁₃, (x₁₄, (x₁₅, (x₁₆, (x₁₇, (x₁₈, (x₁₉, (x₂₀, (x₂₁, (x₂₂, tt))))))))))))))))))))))))))). ‵ (lasts list-columns.ended (κ₀, (κ₁, (κ₂, (κ₃, (κ₄, ((ν₂₃ ∷ []), ((ν₂₄ ∷ []), ((ν₂₅ ∷ []), (κ₆, (κ₇, (κ₈, (κ₉, (κ₁₀, (κ₁₁, (κ₁₂, (κ₁₃, (κ₁₄, (κ₁₅, (κ₁₆, (κ₁₇, (κ₁₈, (κ₁₉, (κ₂₀, (κ₂₁, tt)))))))))))))))))))))))) (x₀, ((length (x₆ .now)), (x₁, (x₂, (x₃, (x₄, (x₅, ((record { ptr = x₂₃ .ptr; name = δ₂₃; now = x₂₃ .now }), ((record { ptr = x₂₄ .ptr; name = δ₂₄; now = x₂₄ .now }), ((record { ptr = x₂₅ .ptr; name = δ₂₅; now = x₂₅ .now }), (x₇, (x₈, (x₉, (x₁₀, (x₁₁, (x₁₂, (x₁₃, (x₁₄, (x₁₅, (x₁₆, (x₁₇, (x₁₈, (x₁₉, (x₂₀, (x₂₁, (x₂₂, tt)))))))))))))))))))))))))) ws) ⊛ raw (fact 𝓤 (Called (inputFor x₀ (x₁ .now) (x₂ .now) (x₃ .now) (x₄ .now) (x₅ .now)) (length (x₆ .now)) r (outputsOf (x₂₃ .now) (x₂₄ .now) (x₂₅ .now) (x₇ .now) (x₈ .now) (x₉ .now)) (outputsOf (ws .1 .1 .1 .1 .1 .1 .1 .0) (ws .1 .1 .1 .1 .1 .1 .1 .1 .0) (ws .1 .1 .1 .1 .1 .1 .1 .1 .1 .0) (ws .1 .1 .1 .1 .1 .1 .1 .1 .1 .1 .0) (ws .1 .1 .1 .1 .1 .1 .1 .1 .1 .1 .1 .0) (ws .1 .1 .1 .1 .1 .1 .1 .1 .1 .1 .1 .1 .0)) (tablesOf′ (x₁₀ .now) (x₁₁ .now) (x₁₂ .now) (x₁₃ .now) (x₁₄ .now) (x₁₅ .now) (x₁₆ .now) (x₁₇ .now) (x₁₈ .now) (x₁₉ .now) (x₂₀ .now) (x₂₁ .now) (x₂₂ .now)) (tablesOf′ (ws .1 .1 .1 .1 .1 .1 .1 .1 .1 .1 .1 .1 .1 .0) (ws .1 .1 .1 .1 .1 .1 .1 .1 .1 .1 .1 .1 .1 .1 .0) (ws .1 .1 .1 .1 .1 .1 .1 .1 .1 .1 .1 .1 .1 .1 .1 .0) (ws .1 .1 .1 .1 .1 .1 .1 .1 .1 .1 .1 .1 .1 .1 .1 .1 .0) (ws .1 .1 .1 .1 .1 .1 .1 .1 .1 .1 .1 .1 .1 .1 .1 .1 .1 .0) (ws .1 .1 .1 .1 .1 .1 .1 .1 .1 .1 .1 .1 .1 .1 .1 .1 .1 .1 .0) (ws .1 .1 .1 .1 .1 .1 .1 .1 .1 .1 .1 .1 .1 .1 .1 .1 .1 .1 .1 .0) (ws .1 .1 .1 .1 .1 .1 .1 .1 .1 .1 .1 .1 .1 .1 .1 .1 .1 .1 .1 .1 .0) (ws .1 .1 .1 .1 .1 .1 .1 .1 .1 .1 .1 .1 .1 .1 .1 .1 .1 .1 .1 .1 .1 .0) (ws .1 .1 .1 .1 .1 .1 .1 .1 .1 .1 .1 .1 .1 .1 .1 .1 .1 .1 .1 .1 .1 .1 .0) (ws .1 .1 .1 .1 .1 .1 .1 .1 .1 .1 .1 .1 .1 .1 .1 .1 .1 .1 .1 .1 .1 .1 .1 .0) (ws .1 .1 .1 .1 .1 .1 .1 .1 .1 .1 .1 .1 .1 .1 .1 .1 .1 .1 .1 .1 .1 .1 .1 .1 .0) (ws .1 .1 .1 .1 .1 .1 .1 .1 .1 .1 .1 .1 .1 .1 .1 .1 .1 .1 .1 .1 .1 .1 .1 .1 .1 .0)))))) (id⊢ 𝓤 _) $ pick ! (λ ws.
+        use1 W (some (λ (ws : Lasts list-columns.ended (κ₀, (κ₁, (κ₂, (κ₃, (κ₄, ((ν₂₃ ∷ []), ((ν₂₄ ∷ []), ((ν₂₅ ∷ []), (κ₆, (κ₇, (κ₈, (κ₉, (κ₁₀, (κ₁₁, (κ₁₂, (κ₁₃, (κ₁₄, (κ₁₅, (κ₁₆, (κ₁₇, (κ₁₈, (κ₁₉, (κ₂₀, (κ₂₁, tt)))))))))))))))))))))))) (x₀, ((length (x₆ .now)), (x₁, (x₂, (x₃, (x₄, (x₅, ((record { ptr = x₂₃ .ptr; name = δ₂₃; now = x₂₃ .now }), ((record { ptr = x₂₄ .ptr; name = δ₂₄; now = x₂₄ .now }), ((record { ptr = x₂₅ .ptr; name = δ₂₅; now = x₂₅ .now }), (x₇, (x₈, (x₉, (x₁₀, (x₁₁, (x₁₂, (x₁₃, (x₁₄, (x₁₅, (x₁₆, (x₁₇, (x₁₈, (x₁₉, (x₂₀, (x₂₁, (x₂₂, tt))))))))))))))))))))))))))). ‵ (lasts list-columns.ended (κ₀, (κ₁, (κ₂, (κ₃, (κ₄, ((ν₂₃ ∷ []), ((ν₂₄ ∷ []), ((ν₂₅ ∷ []), (κ₆, (κ₇, (κ₈, (κ₉, (κ₁₀, (κ₁₁, (κ₁₂, (κ₁₃, (κ₁₄, (κ₁₅, (κ₁₆, (κ₁₇, (κ₁₈, (κ₁₉, (κ₂₀, (κ₂₁, tt)))))))))))))))))))))))) (x₀, ((length (x₆ .now)), (x₁, (x₂, (x₃, (x₄, (x₅, ((record { ptr = x₂₃ .ptr; name = δ₂₃; now = x₂₃ .now }), ((record { ptr = x₂₄ .ptr; name = δ₂₄; now = x₂₄ .now }), ((record { ptr = x₂₅ .ptr; name = δ₂₅; now = x₂₅ .now }), (x₇, (x₈, (x₉, (x₁₀, (x₁₁, (x₁₂, (x₁₃, (x₁₄, (x₁₅, (x₁₆, (x₁₇, (x₁₈, (x₁₉, (x₂₀, (x₂₁, (x₂₂, tt)))))))))))))))))))))))))) ws) ⊛ raw (fact 𝓤 ((let input = inputFor x₀ (x₁ .now) (x₂ .now) (x₃ .now) (x₄ .now) (x₅ .now) in let outputs = outputsOf (x₂₃ .now) (x₂₄ .now) (x₂₅ .now) (x₇ .now) (x₈ .now) (x₉ .now) in let written = outputsOf (ws .1 .1 .1 .1 .1 .1 .1 .0) (ws .1 .1 .1 .1 .1 .1 .1 .1 .0) (ws .1 .1 .1 .1 .1 .1 .1 .1 .1 .0) (ws .1 .1 .1 .1 .1 .1 .1 .1 .1 .1 .0) (ws .1 .1 .1 .1 .1 .1 .1 .1 .1 .1 .1 .0) (ws .1 .1 .1 .1 .1 .1 .1 .1 .1 .1 .1 .1 .0) in let tables = tablesOf′ (x₁₀ .now) (x₁₁ .now) (x₁₂ .now) (x₁₃ .now) (x₁₄ .now) (x₁₅ .now) (x₁₆ .now) (x₁₇ .now) (x₁₈ .now) (x₁₉ .now) (x₂₀ .now) (x₂₁ .now) (x₂₂ .now) in let left = tablesOf′ (ws .1 .1 .1 .1 .1 .1 .1 .1 .1 .1 .1 .1 .1 .0) (ws .1 .1 .1 .1 .1 .1 .1 .1 .1 .1 .1 .1 .1 .1 .0) (ws .1 .1 .1 .1 .1 .1 .1 .1 .1 .1 .1 .1 .1 .1 .1 .0) (ws .1 .1 .1 .1 .1 .1 .1 .1 .1 .1 .1 .1 .1 .1 .1 .1 .0) (ws .1 .1 .1 .1 .1 .1 .1 .1 .1 .1 .1 .1 .1 .1 .1 .1 .1 .0) (ws .1 .1 .1 .1 .1 .1 .1 .1 .1 .1 .1 .1 .1 .1 .1 .1 .1 .1 .0) (ws .1 .1 .1 .1 .1 .1 .1 .1 .1 .1 .1 .1 .1 .1 .1 .1 .1 .1 .1 .0) (ws .1 .1 .1 .1 .1 .1 .1 .1 .1 .1 .1 .1 .1 .1 .1 .1 .1 .1 .1 .1 .0) (ws .1 .1 .1 .1 .1 .1 .1 .1 .1 .1 .1 .1 .1 .1 .1 .1 .1 .1 .1 .1 .1 .0) (ws .1 .1 .1 .1 .1 .1 .1 .1 .1 .1 .1 .1 .1 .1 .1 .1 .1 .1 .1 .1 .1 .1 .0) (ws .1 .1 .1 .1 .1 .1 .1 .1 .1 .1 .1 .1 .1 .1 .1 .1 .1 .1 .1 .1 .1 .1 .1 .0) (ws .1 .1 .1 .1 .1 .1 .1 .1 .1 .1 .1 .1 .1 .1 .1 .1 .1 .1 .1 .1 .1 .1 .1 .1 .0) (ws .1 .1 .1 .1 .1 .1 .1 .1 .1 .1 .1 .1 .1 .1 .1 .1 .1 .1 .1 .1 .1 .1 .1 .1 .1 .0) in Called input (length (x₆ .now)) r outputs written tables left))))) (id⊢ 𝓤 _) $ pick ! (λ ws.
         split ! $
         move ! (1 ∷ []) $
-        heard ! (Called (inputFor x₀ (x₁ .now) (x₂ .now) (x₃ .now) (x₄ .now) (x₅ .now)) (length (x₆ .now)) r (outputsOf (x₂₃ .now) (x₂₄ .now) (x₂₅ .now) (x₇ .now) (x₈ .now) (x₉ .now)) (outputsOf (ws .1 .1 .1 .1 .1 .1 .1 .0) (ws .1 .1 .1 .1 .1 .1 .1 .1 .0) (ws .1 .1 .1 .1 .1 .1 .1 .1 .1 .0) (ws .1 .1 .1 .1 .1 .1 .1 .1 .1 .1 .0) (ws .1 .1 .1 .1 .1 .1 .1 .1 .1 .1 .1 .0) (ws .1 .1 .1 .1 .1 .1 .1 .1 .1 .1 .1 .1 .0)) (tablesOf′ (x₁₀ .now) (x₁₁ .now) (x₁₂ .now) (x₁₃ .now) (x₁₄ .now) (x₁₅ .now) (x₁₆ .now) (x₁₇ .now) (x₁₈ .now) (x₁₉ .now) (x₂₀ .now) (x₂₁ .now) (x₂₂ .now)) (tablesOf′ (ws .1 .1 .1 .1 .1 .1 .1 .1 .1 .1 .1 .1 .1 .0) (ws .1 .1 .1 .1 .1 .1 .1 .1 .1 .1 .1 .1 .1 .1 .0) (ws .1 .1 .1 .1 .1 .1 .1 .1 .1 .1 .1 .1 .1 .1 .1 .0) (ws .1 .1 .1 .1 .1 .1 .1 .1 .1 .1 .1 .1 .1 .1 .1 .1 .0) (ws .1 .1 .1 .1 .1 .1 .1 .1 .1 .1 .1 .1 .1 .1 .1 .1 .1 .0) (ws .1 .1 .1 .1 .1 .1 .1 .1 .1 .1 .1 .1 .1 .1 .1 .1 .1 .1 .0) (ws .1 .1 .1 .1 .1 .1 .1 .1 .1 .1 .1 .1 .1 .1 .1 .1 .1 .1 .1 .0) (ws .1 .1 .1 .1 .1 .1 .1 .1 .1 .1 .1 .1 .1 .1 .1 .1 .1 .1 .1 .1 .0) (ws .1 .1 .1 .1 .1 .1 .1 .1 .1 .1 .1 .1 .1 .1 .1 .1 .1 .1 .1 .1 .1 .0) (ws .1 .1 .1 .1 .1 .1 .1 .1 .1 .1 .1 .1 .1 .1 .1 .1 .1 .1 .1 .1 .1 .1 .0) (ws .1 .1 .1 .1 .1 .1 .1 .1 .1 .1 .1 .1 .1 .1 .1 .1 .1 .1 .1 .1 .1 .1 .1 .0) (ws .1 .1 .1 .1 .1 .1 .1 .1 .1 .1 .1 .1 .1 .1 .1 .1 .1 .1 .1 .1 .1 .1 .1 .1 .0) (ws .1 .1 .1 .1 .1 .1 .1 .1 .1 .1 .1 .1 .1 .1 .1 .1 .1 .1 .1 .1 .1 .1 .1 .1 .1 .0))) (λ e.
+        heard ! ((let input = inputFor x₀ (x₁ .now) (x₂ .now) (x₃ .now) (x₄ .now) (x₅ .now) in let outputs = outputsOf (x₂₃ .now) (x₂₄ .now) (x₂₅ .now) (x₇ .now) (x₈ .now) (x₉ .now) in let written = outputsOf (ws .1 .1 .1 .1 .1 .1 .1 .0) (ws .1 .1 .1 .1 .1 .1 .1 .1 .0) (ws .1 .1 .1 .1 .1 .1 .1 .1 .1 .0) (ws .1 .1 .1 .1 .1 .1 .1 .1 .1 .1 .0) (ws .1 .1 .1 .1 .1 .1 .1 .1 .1 .1 .1 .0) (ws .1 .1 .1 .1 .1 .1 .1 .1 .1 .1 .1 .1 .0) in let tables = tablesOf′ (x₁₀ .now) (x₁₁ .now) (x₁₂ .now) (x₁₃ .now) (x₁₄ .now) (x₁₅ .now) (x₁₆ .now) (x₁₇ .now) (x₁₈ .now) (x₁₉ .now) (x₂₀ .now) (x₂₁ .now) (x₂₂ .now) in let left = tablesOf′ (ws .1 .1 .1 .1 .1 .1 .1 .1 .1 .1 .1 .1 .1 .0) (ws .1 .1 .1 .1 .1 .1 .1 .1 .1 .1 .1 .1 .1 .1 .0) (ws .1 .1 .1 .1 .1 .1 .1 .1 .1 .1 .1 .1 .1 .1 .1 .0) (ws .1 .1 .1 .1 .1 .1 .1 .1 .1 .1 .1 .1 .1 .1 .1 .1 .0) (ws .1 .1 .1 .1 .1 .1 .1 .1 .1 .1 .1 .1 .1 .1 .1 .1 .1 .0) (ws .1 .1 .1 .1 .1 .1 .1 .1 .1 .1 .1 .1 .1 .1 .1 .1 .1 .1 .0) (ws .1 .1 .1 .1 .1 .1 .1 .1 .1 .1 .1 .1 .1 .1 .1 .1 .1 .1 .1 .0) (ws .1 .1 .1 .1 .1 .1 .1 .1 .1 .1 .1 .1 .1 .1 .1 .1 .1 .1 .1 .1 .0) (ws .1 .1 .1 .1 .1 .1 .1 .1 .1 .1 .1 .1 .1 .1 .1 .1 .1 .1 .1 .1 .1 .0) (ws .1 .1 .1 .1 .1 .1 .1 .1 .1 .1 .1 .1 .1 .1 .1 .1 .1 .1 .1 .1 .1 .1 .0) (ws .1 .1 .1 .1 .1 .1 .1 .1 .1 .1 .1 .1 .1 .1 .1 .1 .1 .1 .1 .1 .1 .1 .1 .0) (ws .1 .1 .1 .1 .1 .1 .1 .1 .1 .1 .1 .1 .1 .1 .1 .1 .1 .1 .1 .1 .1 .1 .1 .1 .0) (ws .1 .1 .1 .1 .1 .1 .1 .1 .1 .1 .1 .1 .1 .1 .1 .1 .1 .1 .1 .1 .1 .1 .1 .1 .1 .0) in Called input (length (x₆ .now)) r outputs written tables left)) (λ e.
         fsplit ! $
         drop ! $
         fsplit ! $
@@ -1419,6 +1420,6 @@ punelavoh-list-spec 𝓤 H 𝓜 𝓖 𝓡 =
     (tables 𝓤 H 𝓜 𝓡 code.env .C) (tables 𝓤 H 𝓜 𝓡 code.env .Λ) #punelavoh-list code.function (code.unfolded 𝓤 H 𝓜 𝓡)
     (meets 𝓤 H (𝓖 .A) (givenOf 𝓤 H 𝓜 𝓖) (𝓜 .mem) (𝓡 .run) (tablesOf 𝓤 H 𝓜 (tables 𝓤 H 𝓜 𝓡 code.env))
     (cited 𝓤 H (tripleOf 𝓤 H (𝓖 .A) list-columns.signature (list-columns.spec 𝓤 H (𝓖 .A) (𝓜 .mem) (𝓡 .run))) 𝓜 𝓡 code.env #list-columns list-columns-def.routine code.calls-list-call·list-columns (list-columns-thm.met 𝓤 H 𝓜 𝓖 𝓡))
-    (cited 𝓤 H (tripleOf 𝓤 H (𝓖 .A) rows-told.signature (rows-told.spec 𝓤 H (𝓖 .A) (𝓜 .mem) (𝓡 .run))) 𝓜 𝓡 code.env #rows-told rows-told-def.routine code.calls-caller·rows-told (rows-told-thm.met 𝓤 H 𝓜 𝓖 𝓡))
+    (cited 𝓤 H (tripleOf 𝓤 H (𝓖 .A) rows-told.signature (rows-told.spec 𝓤 H (𝓖 .A) (𝓜 .mem) (𝓡 .run))) 𝓜 𝓡 code.env #rows-told rows-told-def.routine code.calls-row-counts·rows-told (rows-told-thm.met 𝓤 H 𝓜 𝓖 𝓡))
     (cited 𝓤 H (tripleOf 𝓤 H (𝓖 .A) write-rows.signature (write-rows.spec 𝓤 H (𝓖 .A) (𝓜 .mem) (𝓡 .run))) 𝓜 𝓡 code.env #write-rows write-rows-def.routine code.calls-path-rows·write-rows (write-rows-thm.met 𝓤 H 𝓜 𝓖 𝓡))
     (cited 𝓤 H (tripleOf 𝓤 H (𝓖 .A) clear-columns.signature (clear-columns.spec 𝓤 H (𝓖 .A) (𝓜 .mem) (𝓡 .run))) 𝓜 𝓡 code.env #clear-columns clear-columns-def.routine code.calls-caller·clear-columns (clear-columns-thm.met 𝓤 H 𝓜 𝓖 𝓡)))
