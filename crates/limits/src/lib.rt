@@ -379,7 +379,7 @@ fn larger(a: usize, b: usize) -> usize
 }
 
 // As much as the largest of the tables that share a slice needs.
-pub fn walks_told(asked: u32, g: GraphMaxima, s: SearchMaxima) -> usize
+fn walks_told(asked: u32, g: GraphMaxima, s: SearchMaxima) -> usize
     requires { ⌜ InLimits asked (graphMaximaOf g) (searchMaximaOf s) ⌝ }
     ensures { λ r. ⌜ r ≡ pathWalks asked (graphMaximaOf g) (searchMaximaOf s) ⌝ }
 {

@@ -12,6 +12,7 @@ use limits::GraphMaxima;
 use limits::LengthsTold;
 use limits::SearchMaxima;
 use limits::Workspace;
+use limits::workspace_kept;
 ghost use Prim.Native.Nat.{_≤_};
 
 pub fn graph_maxima(call: &[u32], place: usize) -> GraphMaxima
@@ -106,9 +107,9 @@ fn told_for(k: u32, maxima: GraphMaxima) -> LengthsTold {
     limits::lengths(k, 0, maxima, search)
 }
 
-// What the workspace holds where it was told: a call refused by 1 to 7 touches nothing, any other leaves it zero.
+// What the workspace holds where it was told: what it held before, or zero.
 pub fn value_left(refusal: u32) -> u32 {
-    if 0 < refusal && refusal < 8 {
+    if workspace_kept(refusal) {
         return LENT;
     }
     0
