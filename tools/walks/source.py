@@ -39,7 +39,8 @@ def parameters(text):
 
 
 def flat(text):
-    return " ".join(text.split())
+    """A contract that stands on several lines, on one, laid out as `rt fmt` does."""
+    return re.sub(r"(?<=\() | (?=\))", "", " ".join(text.split()))
 
 
 def ghost_names(text):
