@@ -1,4 +1,4 @@
-/* The calls of the static library target/staticlib/libcaller.a; made by tools/c-header.
+/* The calls of the static library target/staticlib/libpunelavoh.a; made by tools/c-header.
    A slice is two arguments: a pointer and a number of elements. The pointer is not null and is aligned for its elements, also where there are none.
    No slice that is written to may overlap another.
    A read is what stands in `bases` up to its end in `ends`, exclusive, from the end of the read before it: ends never fall, and the last is the

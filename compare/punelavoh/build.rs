@@ -8,7 +8,7 @@ fn main() {
     println!("cargo:rerun-if-env-changed=PUNELAVOH_STATICLIB");
     let here = PathBuf::from(env::var_os("CARGO_MANIFEST_DIR").expect("set by cargo"));
     let folder = env::var_os("PUNELAVOH_STATICLIB").map_or(here.join("../../target/staticlib"), PathBuf::from);
-    println!("cargo:rerun-if-changed={}", folder.join("libcaller.a").display());
+    println!("cargo:rerun-if-changed={}", folder.join("libpunelavoh.a").display());
     println!("cargo:rustc-link-search=native={}", folder.display());
-    println!("cargo:rustc-link-lib=static=caller");
+    println!("cargo:rustc-link-lib=static=punelavoh");
 }

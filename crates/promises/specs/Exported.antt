@@ -23,7 +23,7 @@ use Rattle.list_lent.specs.Lent.{workspaceLent, toldOf, lentOf}
 use Rattle.list_call.specs.Within.{lengthsOf}
 use Rattle.path_rows.specs.declared.PathRow.{PathRow}
 use Rattle.path_rows.specs.Rows.{told}
-use Rattle.caller.specs.Records.{slicesOf, ListCalled}
+use Rattle.punelavoh.specs.Records.{slicesOf, ListCalled}
 use Rattle.promises.specs.Reading.{readFrom, readRows}
 use Rattle.promises.specs.Accepted.{made, lent-long}
 use Rattle.promises.specs.Fewer.{fewer-long}

@@ -19,7 +19,7 @@ use Rattle.list_work.specs.Outcome.{Outputs, Tables}
 use Rattle.list_lent.specs.Lent.{workspaceLent, toldOf, lentOf, slices-told}
 use Rattle.list_call.specs.Within.{lengthsOf}
 use Rattle.path_rows.specs.declared.PathRow.{PathRow}
-use Rattle.caller.specs.Records.{slicesOf, ListCalled}
+use Rattle.punelavoh.specs.Records.{slicesOf, ListCalled}
 use Rattle.promises.specs.Exported.{lent-is}
 
 -- ---- the call for the list

@@ -20,22 +20,22 @@ ghost use Rattle.graph_call.specs.Outcome.{Graphed};
 ghost use Rattle.list_interface.specs.Handed.{inputFor};
 ghost use Rattle.list_work.specs.Outcome.{outputsOf, tablesOf};
 ghost use Rattle.row_counts.specs.Told.{columnsTold};
-ghost use Rattle.caller.specs.Records.{ColumnsFit, Cleared, ListCalled};
+ghost use Rattle.punelavoh.specs.Records.{ColumnsFit, Cleared, ListCalled};
 
 // ---- the call for the list; its rows are made in columns, which are workspace
 
 // What is told of the columns becomes 0.
 fn clear_columns(
-    a: Settings,
+    settings: Settings,
     r: ListAnswer,
     scores: &mut [f64],
     closings: &mut [u32],
     edges: &mut [u32],
 )
-    requires { ⌜ ColumnsFit (columnsTold (r .refusal) (a .asked)) (now scores) (now closings) (now edges) ⌝ }
-    ensures { λ _. ⌜ Cleared (columnsTold (r .refusal) (a .asked)) (now (scores .entry)) (now (scores .exit)) (now (closings .entry)) (now (closings .exit)) (now (edges .entry)) (now (edges .exit)) ⌝ }
+    requires { ⌜ ColumnsFit (columnsTold (r .refusal) (settings .asked)) (now scores) (now closings) (now edges) ⌝ }
+    ensures { λ _. ⌜ Cleared (columnsTold (r .refusal) (settings .asked)) (now (scores .entry)) (now (scores .exit)) (now (closings .entry)) (now (closings .exit)) (now (edges .entry)) (now (edges .exit)) ⌝ }
 {
-    let n = columns_told(a, r);
+    let n = columns_told(settings, r);
     clear_scores(scores, n);
     clear(closings, n);
     clear(edges, n);
@@ -89,12 +89,12 @@ pub extern "C" fn punelavoh_graph(
 pub extern "C" fn punelavoh_lengths(
     k: u32,
     paths: u32,
-    g: GraphMaxima,
-    s: SearchMaxima,
+    graph: GraphMaxima,
+    search: SearchMaxima,
 ) -> LengthsTold
-    ensures { λ r. ⌜ Told k paths (graphMaximaOf g) (searchMaximaOf s) r ⌝ }
+    ensures { λ r. ⌜ Told k paths (graphMaximaOf graph) (searchMaximaOf search) r ⌝ }
 {
-    limits::lengths(k, paths, g, s)
+    limits::lengths(k, paths, graph, search)
 }
 
 // Tells which part of the reference (in_reads 0) or of the read bases (in_reads 1) an origin names.
@@ -117,7 +117,7 @@ pub extern "C" fn punelavoh_origin(
 // r * path_edges. The rows are first made in the three columns, which are cleared like the rest of the workspace.
 #[no_mangle]
 pub extern "C" fn punelavoh_list(
-    a: Settings,
+    settings: Settings,
     reference: &[u8],
     ends: &[u32],
     bases: &[u8],
@@ -145,7 +145,7 @@ pub extern "C" fn punelavoh_list(
     row_edges: &mut [u32],
 ) -> ListAnswer
     ensures { λ r. ⌜ (
-        let input = inputFor a (now (reference .entry)) (now (ends .entry)) (now (bases .entry)) (now (qualities .entry)) (now (column .entry)) in
+        let input = inputFor settings (now (reference .entry)) (now (ends .entry)) (now (bases .entry)) (now (qualities .entry)) (now (column .entry)) in
         let outputs = outputsOf (now («row_scores» .entry)) (now («row_closings» .entry)) (now («row_edges» .entry)) (now («out_bases» .entry)) (now (sequences .entry)) (now (places .entry)) in
         let written = outputsOf (now («row_scores» .exit)) (now («row_closings» .exit)) (now («row_edges» .exit)) (now («out_bases» .exit)) (now (sequences .exit)) (now (places .exit)) in
         let tables = tablesOf (now («w_vertices» .entry)) (now («w_edges» .entry)) (now («w_index» .entry)) (now («w_nodes» .entry)) (now («w_targets» .entry)) (now («w_paths» .entry)) (now («w_scores» .entry)) (now («w_active» .entry)) (now («w_queue» .entry)) (now («w_closed» .entry)) (now («w_order» .entry)) (now («w_marks» .entry)) (now («w_walks» .entry)) in
@@ -154,7 +154,7 @@ pub extern "C" fn punelavoh_list(
 {
     let lent = rows.len();
     let r = list_columns(
-        a,
+        settings,
         lent,
         reference,
         ends,
@@ -183,6 +183,6 @@ pub extern "C" fn punelavoh_list(
     );
     let n = rows_told(r);
     path_rows::write_rows(rows, n, row_scores, row_closings, row_edges);
-    clear_columns(a, r, row_scores, row_closings, row_edges);
+    clear_columns(settings, r, row_scores, row_closings, row_edges);
     r
 }

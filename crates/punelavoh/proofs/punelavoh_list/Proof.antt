@@ -45,7 +45,7 @@ use denote.Exit.{yes}
 use Rattle.list_interface.specs.Handed.{inputFor}
 use Rattle.list_work.specs.Outcome.{outputsOf, tablesOf as tablesOf′}
 use Rattle.row_counts.specs.Told.{columnsTold}
-use Rattle.caller.specs.Records.{ColumnsFit, Cleared, ListCalled}
+use Rattle.punelavoh.specs.Records.{ColumnsFit, Cleared, ListCalled}
 use Rattle.list_call.specs.Within.{Called}
 use Rattle.path_rows.specs.Rows.{Filled}
 use denote.Struct.Laws as LL
@@ -58,10 +58,10 @@ use Rattle.path_rows.proofs.PathRow.Laws as PathRow″
 use Rattle.list_interface.specs.declared.ListAnswer.{ListAnswer}
 use Rattle.list_interface.proofs.ListAnswer as ListAnswer′
 use Rattle.list_interface.proofs.ListAnswer.Laws as ListAnswer″
-use Rattle.caller.proofs.Again.{LentAgain, lends-again, comes-back}
-use Rattle.caller.proofs.Sharing.{shares-on}
-use Rattle.caller.proofs.Leaving.{resumes, frees-all}
-use Rattle.caller.specs.Recorded.{rows-asked, columns-asked, list-called}
+use Rattle.punelavoh.proofs.Again.{LentAgain, lends-again, comes-back}
+use Rattle.punelavoh.proofs.Sharing.{shares-on}
+use Rattle.punelavoh.proofs.Leaving.{resumes, frees-all}
+use Rattle.punelavoh.specs.Recorded.{rows-asked, columns-asked, list-called}
 use Rattle.list_call.proofs.list_columns as list-columns
 use Rattle.list_call.proofs.list_columns.Symbol as list-columns-def
 use Rattle.list_call.proofs.list_columns.Symbol.{name as #list-columns}
@@ -74,15 +74,15 @@ use Rattle.path_rows.proofs.write_rows as write-rows
 use Rattle.path_rows.proofs.write_rows.Symbol as write-rows-def
 use Rattle.path_rows.proofs.write_rows.Symbol.{name as #write-rows}
 use Rattle.path_rows.proofs.write_rows.Met as write-rows-thm
-use Rattle.caller.proofs.clear_columns as clear-columns
-use Rattle.caller.proofs.clear_columns.Symbol as clear-columns-def
-use Rattle.caller.proofs.clear_columns.Symbol.{name as #clear-columns}
-use Rattle.caller.proofs.clear_columns.Met as clear-columns-thm
-use Rattle.caller.proofs.punelavoh_list.Key.{name as #punelavoh-list}
-use Rattle.caller.proofs.punelavoh_list as f
-use Rattle.caller.proofs.punelavoh_list.Statement as stated
-use Rattle.caller.proofs.punelavoh_list.Code as code
-use Rattle.caller.proofs.punelavoh_list.Code.Mir as mir′
+use Rattle.punelavoh.proofs.clear_columns as clear-columns
+use Rattle.punelavoh.proofs.clear_columns.Symbol as clear-columns-def
+use Rattle.punelavoh.proofs.clear_columns.Symbol.{name as #clear-columns}
+use Rattle.punelavoh.proofs.clear_columns.Met as clear-columns-thm
+use Rattle.punelavoh.proofs.punelavoh_list.Key.{name as #punelavoh-list}
+use Rattle.punelavoh.proofs.punelavoh_list as f
+use Rattle.punelavoh.proofs.punelavoh_list.Statement as stated
+use Rattle.punelavoh.proofs.punelavoh_list.Code as code
+use Rattle.punelavoh.proofs.punelavoh_list.Code.Mir as mir′
 
 -- nothing is had at exit of a number or a `&`; of a `&mut`, what says its last list
 abbrev stayed : Stays (f.ended .signature .params) (f.ended .kept)

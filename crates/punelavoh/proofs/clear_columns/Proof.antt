@@ -1,8 +1,8 @@
 -- `clear_columns` meets its contract. Assumes nothing.
 use borrow.Author.Needs.{needs}
-use Rattle.caller.specs.Records.{cleared-by}
-use Rattle.caller.proofs.clear_columns.Statement.{statement}
-use Rattle.caller.proofs.clear_columns.Tie as tie
+use Rattle.punelavoh.specs.Records.{cleared-by}
+use Rattle.punelavoh.proofs.clear_columns.Statement.{statement}
+use Rattle.punelavoh.proofs.clear_columns.Tie as tie
 
 columns-told-requires : tie.Need-columns-told-requires
 columns-told-requires c κs = search needs

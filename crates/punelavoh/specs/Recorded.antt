@@ -34,7 +34,7 @@ use Rattle.list_call.specs.Within.{lengthsOf, Called}
 use Rattle.path_rows.specs.declared.PathRow.{PathRow}
 use Rattle.path_rows.specs.Rows.{told, rowAt, finished, finished-is, Filled}
 use Rattle.row_counts.specs.Told.{columnsTold}
-use Rattle.caller.specs.Records.{ColumnsFit, Cleared, slicesOf, CalledFor, ListCalled}
+use Rattle.punelavoh.specs.Records.{ColumnsFit, Cleared, slicesOf, CalledFor, ListCalled}
 
 -- ---- lists written over from the front
 
