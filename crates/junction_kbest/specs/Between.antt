@@ -27,67 +27,67 @@ use Rattle.junction_kbest.specs.declared.Turned.{Turned}
 use Rattle.junction_kbest.specs.declared.Turned.the-variants as turned
 
 -- the stores as a search f has them between turns
-pub record At (f : SearchInput) (g : Setting) (vs es x only to : List ℕ) (column : List Float) (bs : ℕ → List Branches) (closing : ℕ → ℕ) (t : List ℕ) (sc : List Float) (ac queue shut order marks : List ℕ)
+pub record At (f : SearchInput) (g : Setting) (vs es x index targets : List ℕ) (column : List Float) (bs : ℕ → List Branches) (closing : ℕ → ℕ) (t : List ℕ) (sc : List Float) (ac queue closed order marks : List ℕ)
     (p : Progress) (s : State Float) : Type 0 where
-  pub ground : Ground f g vs es x only to
+  pub ground : Ground f g vs es x index targets
   pub fits : columnFits column ≡ true
-  pub holds : Holds f g es x only to bs closing t sc ac queue shut order marks p s
+  pub holds : Holds f g es x index targets bs closing t sc ac queue closed order marks p s
   pub counted : Counted p 0
   pub good : GoodState NotNan f s
-  pub room : Room g t sc ac queue shut
+  pub room : Room g t sc ac queue closed
 
 -- the definition's turn
 abbrev pub turnOf : List Float → SearchInput → Setting → State Float → Turn Float
 turnOf column f g s = turn (columnScoring column) f (g .asked) (g .pushes) s
 
 -- a turn that goes on
-pub record Onward (f : SearchInput) (g : Setting) (vs es x only to : List ℕ) (column : List Float) (order t′ : List ℕ) (sc′ : List Float) (ac′ queue′ shut′ marks′ : List ℕ) (p′ : Progress) (s : State Float) : Type 0 where
+pub record Onward (f : SearchInput) (g : Setting) (vs es x index targets : List ℕ) (column : List Float) (order t′ : List ℕ) (sc′ : List Float) (ac′ queue′ closed′ marks′ : List ℕ) (p′ : Progress) (s : State Float) : Type 0 where
   pub branches : ℕ → List Branches
   pub closings : ℕ → ℕ
   pub state : State Float
   pub is : turnOf column f g s ≡ more state
-  pub at : At f g vs es x only to column branches closings t′ sc′ ac′ queue′ shut′ order marks′ p′ state
+  pub at : At f g vs es x index targets column branches closings t′ sc′ ac′ queue′ closed′ order marks′ p′ state
 
 -- the stores are as they were
-pub record Rests (t : List ℕ) (sc : List Float) (ac queue shut marks t′ : List ℕ) (sc′ : List Float) (ac′ queue′ shut′ marks′ : List ℕ) : Type 0 where
+pub record Rests (t : List ℕ) (sc : List Float) (ac queue closed marks t′ : List ℕ) (sc′ : List Float) (ac′ queue′ closed′ marks′ : List ℕ) : Type 0 where
   pub paths : t′ ≡ t
   pub scores : sc′ ≡ sc
   pub actives : ac′ ≡ ac
   pub waiting : queue′ ≡ queue
-  pub closed : shut′ ≡ shut
+  pub closed : closed′ ≡ closed
   pub marked : marks′ ≡ marks
 
 -- by what came of the turn
 abbrev pub TurnBy : SearchInput → Setting → List ℕ → List ℕ → List ℕ → List ℕ → List ℕ → List Float → List ℕ → State Float → List ℕ → List Float → List ℕ → List ℕ → List ℕ → List ℕ → Turned → List ℕ → List Float → List ℕ → List ℕ → List ℕ → List ℕ → Type 0
-TurnBy f g vs es x only to column order s t sc ac queue shut marks (turned.More p′) t′ sc′ ac′ queue′ shut′ marks′ = Onward f g vs es x only to column order t′ sc′ ac′ queue′ shut′ marks′ p′ s
-TurnBy f g vs es x only to column order s t sc ac queue shut marks turned.Ended t′ sc′ ac′ queue′ shut′ marks′ = (turnOf column f g s ≡ ended s) × Rests t sc ac queue shut marks t′ sc′ ac′ queue′ shut′ marks′
-TurnBy f g vs es x only to column order s t sc ac queue shut marks (turned.Refused k) t′ sc′ ac′ queue′ shut′ marks′ = Stopped (turnOf column f g s) k
+TurnBy f g vs es x index targets column order s t sc ac queue closed marks (turned.More p′) t′ sc′ ac′ queue′ closed′ marks′ = Onward f g vs es x index targets column order t′ sc′ ac′ queue′ closed′ marks′ p′ s
+TurnBy f g vs es x index targets column order s t sc ac queue closed marks turned.Ended t′ sc′ ac′ queue′ closed′ marks′ = (turnOf column f g s ≡ ended s) × Rests t sc ac queue closed marks t′ sc′ ac′ queue′ closed′ marks′
+TurnBy f g vs es x index targets column order s t sc ac queue closed marks (turned.Refused k) t′ sc′ ac′ queue′ closed′ marks′ = Stopped (turnOf column f g s) k
 
 -- what a turn asks: the stores are those of some search, which is not to end yet
-pub record TurnAsks (g : Setting) (vs es x only to : List ℕ) (column : List Float) (t : List ℕ) (sc : List Float) (ac queue shut order marks walk : List ℕ) (p : Progress) : Type 0 where
+pub record TurnAsks (g : Setting) (vs es x index targets : List ℕ) (column : List Float) (t : List ℕ) (sc : List Float) (ac queue closed order marks walks : List ℕ) (p : Progress) : Type 0 where
   pub input : SearchInput
   pub branches : ℕ → List Branches
   pub closings : ℕ → ℕ
   pub state : State Float
-  pub at : At input g vs es x only to column branches closings t sc ac queue shut order marks p state
+  pub at : At input g vs es x index targets column branches closings t sc ac queue closed order marks p state
   pub unmet : p .closed < g .asked
-  pub walks : g .most ≤ length walk
-  pub rows : 32 ≤ length walk
+  pub walks-room : g .most ≤ length walks
+  pub rows : 32 ≤ length walks
 
 -- the same where paths wait, whatever the order of the pivotal edges
-pub record NextTurn (g : Setting) (vs es x only to : List ℕ) (column : List Float) (t : List ℕ) (sc : List Float) (ac queue shut marks walk : List ℕ) (p : Progress) : Type 0 where
+pub record NextTurn (g : Setting) (vs es x index targets : List ℕ) (column : List Float) (t : List ℕ) (sc : List Float) (ac queue closed marks walks : List ℕ) (p : Progress) : Type 0 where
   pub order : List ℕ
-  pub asks : TurnAsks g vs es x only to column t sc ac queue shut order marks walk p
+  pub asks : TurnAsks g vs es x index targets column t sc ac queue closed order marks walks p
   pub some : 0 < p .waiting
 
 -- by the answer, for every search whose stores these are
-pub record TurnMade (g : Setting) (vs es x only to : List ℕ) (column : List Float) (t : List ℕ) (sc : List Float) (ac queue shut marks : List ℕ) (p : Progress) (r : Turned) (t′ : List ℕ) (sc′ : List Float)
-    (ac′ queue′ shut′ marks′ : List ℕ) : Type 0 where
-  pub is : (f : SearchInput) (bs : ℕ → List Branches) (closings : ℕ → ℕ) (order : List ℕ) (s : State Float) → At f g vs es x only to column bs closings t sc ac queue shut order marks p s
-      → p .closed < g .asked → TurnBy f g vs es x only to column order s t sc ac queue shut marks r t′ sc′ ac′ queue′ shut′ marks′
+pub record TurnMade (g : Setting) (vs es x index targets : List ℕ) (column : List Float) (t : List ℕ) (sc : List Float) (ac queue closed marks : List ℕ) (p : Progress) (r : Turned) (t′ : List ℕ) (sc′ : List Float)
+    (ac′ queue′ closed′ marks′ : List ℕ) : Type 0 where
+  pub is : (f : SearchInput) (bs : ℕ → List Branches) (closings : ℕ → ℕ) (order : List ℕ) (s : State Float) → At f g vs es x index targets column bs closings t sc ac queue closed order marks p s
+      → p .closed < g .asked → TurnBy f g vs es x index targets column order s t sc ac queue closed marks r t′ sc′ ac′ queue′ closed′ marks′
 
-module _ (f : SearchInput) (g : Setting) (vs es x only to : List ℕ) (column : List Float) (bs : ℕ → List Branches) (cl : ℕ → ℕ) (t : List ℕ) (sc : List Float) (ac queue shut order marks : List ℕ) (p : Progress)
-    (s : State Float) (A : At f g vs es x only to column bs cl t sc ac queue shut order marks p s) (unmet : p .closed < g .asked) where
+module _ (f : SearchInput) (g : Setting) (vs es x index targets : List ℕ) (column : List Float) (bs : ℕ → List Branches) (cl : ℕ → ℕ) (t : List ℕ) (sc : List Float) (ac queue closed order marks : List ℕ) (p : Progress)
+    (s : State Float) (A : At f g vs es x index targets column bs cl t sc ac queue closed order marks p s) (unmet : p .closed < g .asked) where
   pub closed-unmet : length (s .closed) < g .asked
   closed-unmet = let z = closed-many (A .holds) in omega arith
 
@@ -95,7 +95,7 @@ module _ (f : SearchInput) (g : Setting) (vs es x only to : List ℕ) (column : 
   records-few : p .records ≤ g .pushes + p .closed
   records-few = let a = A .counted in let b = A .holds .pushes-fit in omega arith
 
-  pub roomy : Roomy g t sc ac shut p
+  pub roomy : Roomy g t sc ac closed p
   roomy =
       let r = records-few in
       let a = A .room .paths in
@@ -112,9 +112,9 @@ module _ (f : SearchInput) (g : Setting) (vs es x only to : List ℕ) (column : 
   good-on s′ e = turn-more (column-keeps column (A .fits)) f (g .pushes) (g .asked) s s′ (A .good) e .good
 
 -- slices of the same lengths have the same room
-pub room-kept : (g : Setting) (t : List ℕ) (sc : List Float) (ac queue shut t′ : List ℕ) (sc′ : List Float) (ac′ queue′ shut′ : List ℕ) → length t′ ≡ length t → length sc′ ≡ length sc → length ac′ ≡ length ac
-    → length queue′ ≡ length queue → length shut′ ≡ length shut → Room g t sc ac queue shut → Room g t′ sc′ ac′ queue′ shut′
-room-kept g t sc ac queue shut t′ sc′ ac′ queue′ shut′ a b c d e R =
+pub room-kept : (g : Setting) (t : List ℕ) (sc : List Float) (ac queue closed t′ : List ℕ) (sc′ : List Float) (ac′ queue′ closed′ : List ℕ) → length t′ ≡ length t → length sc′ ≡ length sc → length ac′ ≡ length ac
+    → length queue′ ≡ length queue → length closed′ ≡ length closed → Room g t sc ac queue closed → Room g t′ sc′ ac′ queue′ closed′
+room-kept g t sc ac queue closed t′ sc′ ac′ queue′ closed′ a b c d e R =
     let u = R .paths in
     let v = R .scores in
     let w = R .actives in

@@ -15,22 +15,22 @@ use Rattle.definition.specs.Evidence.{Branches}
 use Rattle.path_heap.specs.Heap.{waiting, waiting-length}
 use Rattle.search_state.specs.declared.Setting.{Setting}
 use Rattle.search_state.specs.declared.Progress.{Progress}
-use Rattle.search_state.specs.State.{pathOf, shutOf, Holds}
+use Rattle.search_state.specs.State.{pathOf, closedRecord, Holds}
 use Rattle.junction_kbest.specs.Turn.{mostWaiting}
 
-module _ {f : SearchInput} {g : Setting} {es x only to : List ℕ} {bs : ℕ → List Branches} {closing : ℕ → ℕ} {t : List ℕ} {sc : List Float} {ac queue shut order marks : List ℕ} {p : Progress}
-    {s : State Float} (H : Holds f g es x only to bs closing t sc ac queue shut order marks p s) where
+module _ {f : SearchInput} {g : Setting} {es x index targets : List ℕ} {bs : ℕ → List Branches} {closing : ℕ → ℕ} {t : List ℕ} {sc : List Float} {ac queue closed order marks : List ℕ} {p : Progress}
+    {s : State Float} (H : Holds f g es x index targets bs closing t sc ac queue closed order marks p s) where
   pub waiting-many : length (s .waiting) ≡ p .waiting
   waiting-many =
       ap (λ (l : List (Path Float)). length l) (H .waiting)
-      ∙ length-map (waiting sc queue (p .waiting)) (pathOf f es only to bs t sc)
+      ∙ length-map (waiting sc queue (p .waiting)) (pathOf f es index targets bs t sc)
       ∙ waiting-length sc queue (p .waiting)
 
   pub closed-many : length (s .closed) ≡ p .closed
   closed-many =
       ap (λ (l : List (Closed Float)). length l) (H .closed)
-      ∙ length-map (take (p .closed) shut) (shutOf es only to closing t sc)
-      ∙ length-take-le (p .closed) shut (H .shut-room)
+      ∙ length-map (take (p .closed) closed) (closedRecord es index targets closing t sc)
+      ∙ length-take-le (p .closed) closed (H .closed-room)
 
   empty-is : (n : ℕ) (cs : List (Closed Float)) → length cs ≡ n → isEmpty cs ≡ eqb n 0
   empty-is n [] e = sym (eq-eqb n 0 (sym e))

@@ -29,7 +29,7 @@ use Rattle.search_state.specs.State.{pathOf, Idle, Holds, Apart, upFrom}
 use Rattle.search_state.specs.Keep.{withRecords, holds-kept}
 use Rattle.path_closing.specs.Joins.{Joining, Joined}
 use Rattle.path_closing.specs.Closes.{Closing, ClosedOn, chainAfter, closing, joined-chain, joined-closing}
-use Rattle.path_closing.specs.Shuts.{withClosed}
+use Rattle.path_closing.specs.ClosesTaken.{withClosed}
 use Rattle.path_extensions.specs.Made.{MadeTo, kept-but, made-idle}
 use Rattle.path_extensions.specs.One.{Run}
 use Rattle.path_extensions.specs.Vertex.{Taking, Extends, extensionsAt}
@@ -39,24 +39,24 @@ use Rattle.junction_kbest.specs.Turn.{join-fails, close-fails, extend-fa
 -- ---- what the contract says
 
 -- there is room for a closed path and eight extensions
-pub record Roomy (g : Setting) (t : List ℕ) (sc : List Float) (ac shut : List ℕ) (p : Progress) : Type 0 where
+pub record Roomy (g : Setting) (t : List ℕ) (sc : List Float) (ac closed : List ℕ) (p : Progress) : Type 0 where
   pub paths : (p .records + 9) * 9 ≤ length t
   pub scores : p .records + 9 ≤ length sc
   pub actives : (p .records + 9) * g .active ≤ length ac
   pub number : p .records + 9 < 2147483648
-  pub closed : p .closed < length shut
+  pub closed : p .closed < length closed
 
 -- the stores as a search f has them, once the path is taken and its chain is known
-pub record Extending (f : SearchInput) (g : Setting) (vs es x only to : List ℕ) (column : List Float) (bs : ℕ → List Branches) (closing : ℕ → ℕ) (t : List ℕ) (sc : List Float) (ac queue shut order marks : List ℕ)
+pub record Extending (f : SearchInput) (g : Setting) (vs es x index targets : List ℕ) (column : List Float) (bs : ℕ → List Branches) (closing : ℕ → ℕ) (t : List ℕ) (sc : List Float) (ac queue closed order marks : List ℕ)
     (p : Progress) (s : State Float) (taken : Taken) : Type 0 where
-  pub ground : Ground f g vs es x only to
+  pub ground : Ground f g vs es x index targets
   pub fits : columnFits column ≡ true
-  pub holds : Holds f g es x only to bs closing t sc ac queue shut order marks p s
+  pub holds : Holds f g es x index targets bs closing t sc ac queue closed order marks p s
   pub idle : Idle t (p .records) (taken .path)
   pub apart : Apart sc queue (p .waiting) (taken .path)
-  pub following : Following only to t (taken .path) taken
+  pub following : Following index targets t (taken .path) taken
   pub guided : sinceOf t (taken .path) ≤ 5
-  pub roomy : Roomy g t sc ac shut p
+  pub roomy : Roomy g t sc ac closed p
 
 -- progress but for records and closings
 pub record Further (p p′ : Progress) : Type 0 where
@@ -71,41 +71,41 @@ pub record Further (p p′ : Progress) : Type 0 where
   pub mark : p′ .mark ≡ p .mark
 
 -- the stores after a step that makes the paths of `want`, for any search f
-pub record Makes (f : SearchInput) (g : Setting) (es x only to queue order : List ℕ) (p p′ : Progress) (want : Made Float) (t′ : List ℕ) (sc′ : List Float) (ac′ shut′ marks′ : List ℕ) : Type 0 where
+pub record Makes (f : SearchInput) (g : Setting) (es x index targets queue order : List ℕ) (p p′ : Progress) (want : Made Float) (t′ : List ℕ) (sc′ : List Float) (ac′ closed′ marks′ : List ℕ) : Type 0 where
   pub branches : ℕ → List Branches
   pub closings : ℕ → ℕ
   pub state : State Float
-  pub is : want ≡ made state (map (pathOf f es only to branches t′ sc′) (upFrom (firstNew p p′) (p′ .records - firstNew p p′)))
-  pub holds : Holds f g es x only to branches closings t′ sc′ ac′ queue shut′ order marks′ p′ state
+  pub is : want ≡ made state (map (pathOf f es index targets branches t′ sc′) (upFrom (firstNew p p′) (p′ .records - firstNew p p′)))
+  pub holds : Holds f g es x index targets branches closings t′ sc′ ac′ queue closed′ order marks′ p′ state
   pub new : (q : ℕ) → firstNew p p′ ≤ q → q < p′ .records → Idle t′ (p′ .records) q
   pub further : Further p p′
 
 abbrev pub MakesBy : SearchInput → Setting → List ℕ → List ℕ → List ℕ → List ℕ → List ℕ → List ℕ → Progress → Step → Made Float → List ℕ → List Float → List ℕ → List ℕ → List ℕ → Type 0
-MakesBy f g es x only to queue order p (On p′) want t′ sc′ ac′ shut′ marks′ = Makes f g es x only to queue order p p′ want t′ sc′ ac′ shut′ marks′
-MakesBy f g es x only to queue order p (Refused k) want t′ sc′ ac′ shut′ marks′ = want ≡ broken k
+MakesBy f g es x index targets queue order p (On p′) want t′ sc′ ac′ closed′ marks′ = Makes f g es x index targets queue order p p′ want t′ sc′ ac′ closed′ marks′
+MakesBy f g es x index targets queue order p (Refused k) want t′ sc′ ac′ closed′ marks′ = want ≡ broken k
 
 -- what the code asks: the stores are those of some search
-pub record ExtendsTaken (g : Setting) (vs es x only to : List ℕ) (column : List Float) (t : List ℕ) (sc : List Float) (ac shut marks out : List ℕ) (p : Progress) (taken : Taken) : Type 0 where
+pub record ExtendsTaken (g : Setting) (vs es x index targets : List ℕ) (column : List Float) (t : List ℕ) (sc : List Float) (ac closed marks out : List ℕ) (p : Progress) (taken : Taken) : Type 0 where
   pub input : SearchInput
   pub branches : ℕ → List Branches
   pub closings : ℕ → ℕ
   pub queue : List ℕ
   pub order : List ℕ
   pub state : State Float
-  pub all : Extending input g vs es x only to column branches closings t sc ac queue shut order marks p state taken
+  pub all : Extending input g vs es x index targets column branches closings t sc ac queue closed order marks p state taken
   pub rows : 32 ≤ length out
 
 -- the definition's extendAt, of the path that was taken
 abbrev pub extendedAt : List Float → SearchInput → List ℕ → List ℕ → List ℕ → (ℕ → List Branches) → List ℕ → List Float → Taken → State Float → Made Float
-extendedAt column f es only to bs t sc taken s =
-    extendAt (columnScoring column) f (pathOf f es only to bs t sc (taken .path)) (chainAfter f (pathOf f es only to bs t sc (taken .path))) (taken .vertex) s
+extendedAt column f es index targets bs t sc taken s =
+    extendAt (columnScoring column) f (pathOf f es index targets bs t sc (taken .path)) (chainAfter f (pathOf f es index targets bs t sc (taken .path))) (taken .vertex) s
 
 -- by the answer, for every search whose stores these are
-pub record TakenExtended (g : Setting) (vs es x only to : List ℕ) (column : List Float) (t : List ℕ) (sc : List Float) (ac shut marks : List ℕ) (p : Progress) (taken : Taken) (r : Step) (t′ : List ℕ)
-    (sc′ : List Float) (ac′ shut′ marks′ : List ℕ) : Type 0 where
+pub record TakenExtended (g : Setting) (vs es x index targets : List ℕ) (column : List Float) (t : List ℕ) (sc : List Float) (ac closed marks : List ℕ) (p : Progress) (taken : Taken) (r : Step) (t′ : List ℕ)
+    (sc′ : List Float) (ac′ closed′ marks′ : List ℕ) : Type 0 where
   pub is : (f : SearchInput) (bs : ℕ → List Branches) (closings : ℕ → ℕ) (queue order : List ℕ) (s : State Float)
-      → Extending f g vs es x only to column bs closings t sc ac queue shut order marks p s taken
-      → MakesBy f g es x only to queue order p r (extendedAt column f es only to bs t sc taken s) t′ sc′ ac′ shut′ marks′
+      → Extending f g vs es x index targets column bs closings t sc ac queue closed order marks p s taken
+      → MakesBy f g es x index targets queue order p r (extendedAt column f es index targets bs t sc taken s) t′ sc′ ac′ closed′ marks′
 
 -- ---- a tree that joins gives guidance
 
@@ -174,8 +174,8 @@ closer-of p p₁ (inr e) =
       mark = refl;
     })
 
-module _ (f : SearchInput) (g : Setting) (vs es x only to : List ℕ) (column : List Float) (bs : ℕ → List Branches) (cl : ℕ → ℕ) (t : List ℕ) (sc : List Float) (ac queue shut order marks : List ℕ) (p : Progress)
-    (s : State Float) (taken : Taken) (E : Extending f g vs es x only to column bs cl t sc ac queue shut order marks p s taken) where
+module _ (f : SearchInput) (g : Setting) (vs es x index targets : List ℕ) (column : List Float) (bs : ℕ → List Branches) (cl : ℕ → ℕ) (t : List ℕ) (sc : List Float) (ac queue closed order marks : List ℕ) (p : Progress)
+    (s : State Float) (taken : Taken) (E : Extending f g vs es x index targets column bs cl t sc ac queue closed order marks p s taken) where
   abbrev r : ℕ
   r = taken .path
 
@@ -183,12 +183,12 @@ module _ (f : SearchInput) (g : Setting) (vs es x only to : List ℕ) (column : 
   v = taken .vertex
 
   abbrev first : Path Float
-  first = pathOf f es only to bs t sc (taken .path)
+  first = pathOf f es index targets bs t sc (taken .path)
 
   abbrev want : Made Float
-  want = extendedAt column f es only to bs t sc taken s
+  want = extendedAt column f es index targets bs t sc taken s
 
-  pub joins : Joining f g vs es x only to bs t sc ac (p .records) taken
+  pub joins : Joining f g vs es x index targets bs t sc ac (p .records) taken
   joins =
       let a = E .roomy .actives in
       let b : p .records * g .active ≤ (p .records + 9) * g .active = mul-le-mul-right (g .active) (omega arith) in
@@ -207,45 +207,45 @@ module _ (f : SearchInput) (g : Setting) (vs es x only to : List ℕ) (column : 
   pub join-refused : (k : ℕ) → joinTree f (taken .vertex) first ≡ refused k → want ≡ broken k
   join-refused k h = join-fails (columnScoring column) f first (chainAfter f first) v s k h
 
-  module _ (t₁ : List ℕ) (sc₁ : List Float) (ac₁ : List ℕ) (J : Joined f g es x only to bs t sc (p .records) taken t₁ sc₁ ac₁) (lt : length t₁ ≡ length t) (ls : length sc₁ ≡ length sc)
+  module _ (t₁ : List ℕ) (sc₁ : List Float) (ac₁ : List ℕ) (J : Joined f g es x index targets bs t sc (p .records) taken t₁ sc₁ ac₁) (lt : length t₁ ≡ length t) (ls : length sc₁ ≡ length sc)
       (la : length ac₁ ≡ length ac) where
     abbrev second : Path Float
-    second = pathOf f es only to (J .branches) t₁ sc₁ (taken .path)
+    second = pathOf f es index targets (J .branches) t₁ sc₁ (taken .path)
 
     same-chain : chainAfter f second ≡ chainAfter f first
-    same-chain = joined-chain f g vs es x only to bs cl t sc ac queue shut order marks p s taken (E .holds) (E .idle .known) (E .apart) t₁ sc₁ ac₁ J
+    same-chain = joined-chain f g vs es x index targets bs cl t sc ac queue closed order marks p s taken (E .holds) (E .idle .known) (E .apart) t₁ sc₁ ac₁ J
 
-    pub closes : Closing f g vs es x only to (J .branches) cl t₁ sc₁ ac₁ queue shut order marks p s taken
+    pub closes : Closing f g vs es x index targets (J .branches) cl t₁ sc₁ ac₁ queue closed order marks p s taken
     closes =
         let a = E .roomy .paths in
         let b = E .roomy .scores in
         let c = E .roomy .actives in
         let d : (p .records + 1) * g .active ≤ (p .records + 9) * g .active = mul-le-mul-right (g .active) (omega arith) in
         let e = E .roomy .number in
-        joined-closing f g vs es x only to bs cl t sc ac queue shut order marks p s taken (E .holds) (E .idle .known) (E .apart) t₁ sc₁ ac₁ J (E .ground) (E .roomy .closed) (omega arith)
+        joined-closing f g vs es x index targets bs cl t sc ac queue closed order marks p s taken (E .holds) (E .idle .known) (E .apart) t₁ sc₁ ac₁ J (E .ground) (E .roomy .closed) (omega arith)
         (omega arith) (omega arith) (omega arith)
 
-    closed-want : {o : Result (State Float)} → closing f es only to (J .branches) t₁ sc₁ taken s ≡ o → closeAt f v second (chainAfter f first) s ≡ o
+    closed-want : {o : Result (State Float)} → closing f es index targets (J .branches) t₁ sc₁ taken s ≡ o → closeAt f v second (chainAfter f first) s ≡ o
     closed-want h = ap (λ (c : List Ends). closeAt f v second c s) (sym same-chain) ∙ h
 
-    pub close-refused : (k : ℕ) → closing f es only to (J .branches) t₁ sc₁ taken s ≡ refused k → want ≡ broken k
+    pub close-refused : (k : ℕ) → closing f es index targets (J .branches) t₁ sc₁ taken s ≡ refused k → want ≡ broken k
     close-refused k h = close-fails (columnScoring column) f first (chainAfter f first) v s second (J .is) k (closed-want h)
 
-    module _ (p₁ : Progress) (t₂ : List ℕ) (sc₂ : List Float) (shut₂ marks₂ : List ℕ) (C : ClosedOn f g es x only to (J .branches) t₁ sc₁ ac₁ queue order p s taken p₁ t₂ sc₂ shut₂ marks₂)
+    module _ (p₁ : Progress) (t₂ : List ℕ) (sc₂ : List Float) (closed₂ marks₂ : List ℕ) (C : ClosedOn f g es x index targets (J .branches) t₁ sc₁ ac₁ queue order p s taken p₁ t₂ sc₂ closed₂ marks₂)
         (lt₂ : length t₂ ≡ length t₁) (ls₂ : length sc₂ ≡ length sc₁) where
       abbrev third : Path Float
-      third = pathOf f es only to (C .branches) t₂ sc₂ (taken .path)
+      third = pathOf f es index targets (C .branches) t₂ sc₂ (taken .path)
 
       chain-third : chainAfter f third ≡ chainAfter f first
       chain-third = ap (chainAfter f) (C .path) ∙ same-chain
 
-      pub takes : Taking g vs es x only to t₂ sc₂ ac₁ (p₁ .records) taken f (C .branches)
+      pub takes : Taking g vs es x index targets t₂ sc₂ ac₁ (p₁ .records) taken f (C .branches)
       takes = record { ground = E .ground; records = C .holds .records; known = C .known; follows = C .following }
 
       closer : Closer p p₁
       closer = closer-of p p₁ (C .progress)
 
-      pub extends : (out : List ℕ) → 32 ≤ length out → Extends g vs es x only to column t₂ sc₂ ac₁ out (p₁ .records) taken
+      pub extends : (out : List ℕ) → 32 ≤ length out → Extends g vs es x index targets column t₂ sc₂ ac₁ out (p₁ .records) taken
       extends out rows =
           let a = E .roomy .paths in
           let b = E .roomy .scores in
@@ -276,8 +276,8 @@ module _ (f : SearchInput) (g : Setting) (vs es x only to : List ℕ) (column : 
           extend-fails (columnScoring column) f first (chainAfter f first) v s second (J .is) (C .state) (closed-want (C .is)) k (extended-want h)
 
       module _ (n′ : ℕ) (t₃ : List ℕ) (sc₃ : List Float) (ac₃ : List ℕ)
-          (R : Run f g es x only to (C .branches) t₂ sc₂ (p₁ .records) (taken .path) t₃ sc₃ ac₃ 6 (extensionsAt column (taken .vertex) f third) n′) where
-        abbrev M : MadeTo f g es x only to (C .branches) t₂ sc₂ (p₁ .records) (taken .path) t₃ sc₃ ac₃ n′ (R .paths)
+          (R : Run f g es x index targets (C .branches) t₂ sc₂ (p₁ .records) (taken .path) t₃ sc₃ ac₃ 6 (extensionsAt column (taken .vertex) f third) n′) where
+        abbrev M : MadeTo f g es x index targets (C .branches) t₂ sc₂ (p₁ .records) (taken .path) t₃ sc₃ ac₃ n′ (R .paths)
         M = R .made
 
         abbrev p₂ : Progress
@@ -286,7 +286,7 @@ module _ (f : SearchInput) (g : Setting) (vs es x only to : List ℕ) (column : 
         from-is : firstNew p p₂ ≡ p₁ .records
         from-is = sym (closer .records)
 
-        pub all-made : Makes f g es x only to queue order p p₂ want t₃ sc₃ ac₃ shut₂ marks₂
+        pub all-made : Makes f g es x index targets queue order p p₂ want t₃ sc₃ ac₃ closed₂ marks₂
         all-made =
             let up = M .up in
             let most = R .most in
@@ -297,9 +297,9 @@ module _ (f : SearchInput) (g : Setting) (vs es x only to : List ℕ) (column : 
               is =
                   extend-makes (columnScoring column) f first (chainAfter f first) v s second (J .is) (C .state) (closed-want (C .is)) (R .paths) (extended-want (R .is))
                   ∙ ap (λ (l : List (Path Float)). made (C .state) l) (M .is)
-                  ∙ ap (λ (n : ℕ). made (C .state) (map (pathOf f es only to (M .bs′) t₃ sc₃) (upFrom n (n′ - n)))) (sym from-is);
+                  ∙ ap (λ (n : ℕ). made (C .state) (map (pathOf f es index targets (M .bs′) t₃ sc₃) (upFrom n (n′ - n)))) (sym from-is);
               holds =
-                  holds-kept f g es x only to (C .branches) (C .closings) t₂ sc₂ ac₁ queue shut₂ order marks₂ p₁ (C .state) (C .holds) (M .bs′) t₃ sc₃ ac₃ n′ r (M .records) up
+                  holds-kept f g es x index targets (C .branches) (C .closings) t₂ sc₂ ac₁ queue closed₂ order marks₂ p₁ (C .state) (C .holds) (M .bs′) t₃ sc₃ ac₃ n′ r (M .records) up
                   (kept-but r (M .kept)) (C .apart) (M .new .parent);
               new = λ q a b. made-idle M (C .known) q (let z = from-is in omega arith) b;
               further =

@@ -42,13 +42,13 @@ head-of (x ∷ xs) h = record { first = x; rest = xs; is = refl }
 
 -- what is not read by the queue, as its scene
 abbrev pub sceneOf : SearchInput → List ℕ → List ℕ → List ℕ → List ℕ → (ℕ → List Branches) → (ℕ → ℕ) → List ℕ → List ℕ → List ℕ → List ℕ → List ℕ → Scene
-sceneOf f es x only to bs cl t ac shut order marks =
-    record { f = f; es = es; x = x; only = only; to = to; bs = bs; closing = cl; t = t; ac = ac; shut = shut; order = order; marks = marks }
+sceneOf f es x index targets bs cl t ac closed order marks =
+    record { f = f; es = es; x = x; index = index; targets = targets; bs = bs; closing = cl; t = t; ac = ac; closed = closed; order = order; marks = marks }
 
-module _ (g : Setting) (vs es x only to : List ℕ) (column : List Float) (t : List ℕ) (sc : List Float) (ac queue shut marks : List ℕ) (p : Progress) where
+module _ (g : Setting) (vs es x index targets : List ℕ) (column : List Float) (t : List ℕ) (sc : List Float) (ac queue closed marks : List ℕ) (p : Progress) where
   -- ---- too many wait
   pub next-over : (b : Bool) → b ≡ ltb (cond (eqb (p .closed) 0) 1000 10000) (p .waiting) → b ≡ true → 0 < p .waiting
-      → TurnMade g vs es x only to column t sc ac queue shut marks p turned.Ended t sc ac queue shut marks
+      → TurnMade g vs es x index targets column t sc ac queue closed marks p turned.Ended t sc ac queue closed marks
   next-over b e h some =
       record {
         is = λ f bs cl order s A unmet.
@@ -56,18 +56,18 @@ module _ (g : Setting) (vs es x only to : List ℕ) (column : List Float) (t : L
             let m = most-waiting (A .holds) in
             let l = ltb-true (cond (eqb (p .closed) 0) 1000 10000) (p .waiting) (sym e ∙ h) in
             let k = head-of (s .waiting) (omega arith) in (
-              turn-over (columnScoring column) f (g .asked) (g .pushes) s (closed-unmet f g vs es x only to column bs cl t sc ac queue shut order marks p s A unmet) (k .first) (k .rest) (k .is)
+              turn-over (columnScoring column) f (g .asked) (g .pushes) s (closed-unmet f g vs es x index targets column bs cl t sc ac queue closed order marks p s A unmet) (k .first) (k .rest) (k .is)
                   (omega arith),
               record { paths = refl; scores = refl; actives = refl; waiting = refl; closed = refl; marked = refl },
             ));
       }
 
-  module _ (walk : List ℕ) where
-    pub next-takes : NextTurn g vs es x only to column t sc ac queue shut marks walk p → Takes sc queue p
+  module _ (walks : List ℕ) where
+    pub next-takes : NextTurn g vs es x index targets column t sc ac queue closed marks walks p → Takes sc queue p
     next-takes P =
         let N = P .asks in
         record {
-          scene = sceneOf (N .input) es x only to (N .branches) (N .closings) t ac shut (P .order) marks;
+          scene = sceneOf (N .input) es x index targets (N .branches) (N .closings) t ac closed (P .order) marks;
           setting = g;
           state = N .state;
           holds = N .at .holds;
@@ -76,13 +76,13 @@ module _ (g : Setting) (vs es x only to : List ℕ) (column : List Float) (t : L
 
   module _ (b : Bool) (over : b ≡ ltb (cond (eqb (p .closed) 0) 1000 10000) (p .waiting)) (few : b ≡ false) (r : Taking) (queue₁ : List ℕ) (T : first.Taken sc queue p r queue₁)
       (lq : length queue₁ ≡ length queue) where
-    module _ (f : SearchInput) (bs : ℕ → List Branches) (cl : ℕ → ℕ) (order : List ℕ) (s : State Float) (A : At f g vs es x only to column bs cl t sc ac queue shut order marks p s) (unmet : p .closed < g .asked) where
-      taken : First (sceneOf f es x only to bs cl t ac shut order marks) g sc p s (r .path) queue₁
-      taken = T .each (sceneOf f es x only to bs cl t ac shut order marks) g s (A .holds)
+    module _ (f : SearchInput) (bs : ℕ → List Branches) (cl : ℕ → ℕ) (order : List ℕ) (s : State Float) (A : At f g vs es x index targets column bs cl t sc ac queue closed order marks p s) (unmet : p .closed < g .asked) where
+      taken : First (sceneOf f es x index targets bs cl t ac closed order marks) g sc p s (r .path) queue₁
+      taken = T .each (sceneOf f es x index targets bs cl t ac closed order marks) g s (A .holds)
 
-      going : Going f g vs es x only to column bs cl t sc ac queue₁ shut order marks (r .left) (withWaiting s (taken .rest)) (r .path)
+      going : Going f g vs es x index targets column bs cl t sc ac queue₁ closed order marks (r .left) (withWaiting s (taken .rest)) (r .path)
       going =
-          subst (λ (q : Progress). Going f g vs es x only to column bs cl t sc ac queue₁ shut order marks q (withWaiting s (taken .rest)) (r .path)) (sym (T .left))
+          subst (λ (q : Progress). Going f g vs es x index targets column bs cl t sc ac queue₁ closed order marks q (withWaiting s (taken .rest)) (r .path)) (sym (T .left))
           (record {
             ground = A .ground;
             fits = A .fits;
@@ -90,22 +90,22 @@ module _ (g : Setting) (vs es x only to : List ℕ) (column : List Float) (t : L
             idle = taken .idle;
             apart = taken .apart;
             roomy =
-                (let R = roomy f g vs es x only to column bs cl t sc ac queue shut order marks p s A unmet in
+                (let R = roomy f g vs es x index targets column bs cl t sc ac queue closed order marks p s A unmet in
                 record { paths = R .paths; scores = R .scores; actives = R .actives; number = R .number; closed = R .closed });
           })
 
       -- the turn is what is made of the taken path, pushed
-      turn-is : (m : Made Float) → takePath (columnScoring column) f (pathOf f es only to bs t sc (r .path)) (withWaiting s (taken .rest)) ≡ m
+      turn-is : (m : Made Float) → takePath (columnScoring column) f (pathOf f es index targets bs t sc (r .path)) (withWaiting s (taken .rest)) ≡ m
           → turnOf column f g s ≡ pushMade (columnScoring column) (g .pushes) s m
       turn-is m e =
           let w = waiting-many (A .holds) in
           let k = most-waiting (A .holds) in
           let l = ltb-false (cond (eqb (p .closed) 0) 1000 10000) (p .waiting) (sym over ∙ few) in
-          turn-takes (columnScoring column) f (g .asked) (g .pushes) s (closed-unmet f g vs es x only to column bs cl t sc ac queue shut order marks p s A unmet)
-          (pathOf f es only to bs t sc (r .path)) (taken .rest) (taken .is) (omega arith) m e
+          turn-takes (columnScoring column) f (g .asked) (g .pushes) s (closed-unmet f g vs es x index targets column bs cl t sc ac queue closed order marks p s A unmet)
+          (pathOf f es index targets bs t sc (r .path)) (taken .rest) (taken .is) (omega arith) m e
 
-    pub next-path-asks : (walk : List ℕ) → NextTurn g vs es x only to column t sc ac queue shut marks walk p → TakesPath g vs es x only to column t sc ac shut marks walk (r .left) (r .path)
-    next-path-asks walk P =
+    pub next-path-asks : (walks : List ℕ) → NextTurn g vs es x index targets column t sc ac queue closed marks walks p → TakesPath g vs es x index targets column t sc ac closed marks walks (r .left) (r .path)
+    next-path-asks walks P =
         let N = P .asks in
         record {
           input = N .input;
@@ -118,47 +118,47 @@ module _ (g : Setting) (vs es x only to : List ℕ) (column : List Float) (t : L
           rows = N .rows;
         }
 
-    module _ (c : Step) (t₁ : List ℕ) (sc₁ : List Float) (ac₁ shut₁ marks₁ : List ℕ) (X : PathTaken g vs es x only to column t sc ac shut marks (r .left) (r .path) c t₁ sc₁ ac₁ shut₁ marks₁) where
-      module _ (f : SearchInput) (bs : ℕ → List Branches) (cl : ℕ → ℕ) (order : List ℕ) (s : State Float) (A : At f g vs es x only to column bs cl t sc ac queue shut order marks p s)
+    module _ (c : Step) (t₁ : List ℕ) (sc₁ : List Float) (ac₁ closed₁ marks₁ : List ℕ) (X : PathTaken g vs es x index targets column t sc ac closed marks (r .left) (r .path) c t₁ sc₁ ac₁ closed₁ marks₁) where
+      module _ (f : SearchInput) (bs : ℕ → List Branches) (cl : ℕ → ℕ) (order : List ℕ) (s : State Float) (A : At f g vs es x index targets column bs cl t sc ac queue closed order marks p s)
           (unmet : p .closed < g .asked) where
         abbrev want : Made Float
-        want = takePath (columnScoring column) f (pathOf f es only to bs t sc (r .path)) (withWaiting s (taken f bs cl order s A unmet .rest))
+        want = takePath (columnScoring column) f (pathOf f es index targets bs t sc (r .path)) (withWaiting s (taken f bs cl order s A unmet .rest))
 
-        makes-by : MakesBy f g es x only to queue₁ order (r .left) c want t₁ sc₁ ac₁ shut₁ marks₁
+        makes-by : MakesBy f g es x index targets queue₁ order (r .left) c want t₁ sc₁ ac₁ closed₁ marks₁
         makes-by = X .is f bs cl queue₁ order (withWaiting s (taken f bs cl order s A unmet .rest)) (going f bs cl order s A unmet)
 
-      pub next-refused : (k : ℕ) → c ≡ Refused k → (n : ℕ) → n ≡ stepRefusal c → (queue′ : List ℕ) → TurnMade g vs es x only to column t sc ac queue shut marks p (turned.Refused n) t₁ sc₁ ac₁ queue′ shut₁ marks₁
+      pub next-refused : (k : ℕ) → c ≡ Refused k → (n : ℕ) → n ≡ stepRefusal c → (queue′ : List ℕ) → TurnMade g vs es x index targets column t sc ac queue closed marks p (turned.Refused n) t₁ sc₁ ac₁ queue′ closed₁ marks₁
       next-refused k e n h queue′ =
           record {
             is = λ f bs cl order s A unmet.
                 (let z : n ≡ k = h ∙ ap stepRefusal e in
                 let w : want f bs cl order s A unmet ≡ broken k =
-                subst (λ (d : Step). MakesBy f g es x only to queue₁ order (r .left) d (want f bs cl order s A unmet) t₁ sc₁ ac₁ shut₁ marks₁) e (makes-by f bs cl order s A unmet)
+                subst (λ (d : Step). MakesBy f g es x index targets queue₁ order (r .left) d (want f bs cl order s A unmet) t₁ sc₁ ac₁ closed₁ marks₁) e (makes-by f bs cl order s A unmet)
                 in
                 rw z (fails (turn-is f bs cl order s A unmet (broken k) w ∙ push-broken (columnScoring column) f (g .asked) (g .pushes) s k)));
           }
 
       module _ (q : Progress) (e : c ≡ On q) where
-        module _ (f : SearchInput) (bs : ℕ → List Branches) (cl : ℕ → ℕ) (order : List ℕ) (s : State Float) (A : At f g vs es x only to column bs cl t sc ac queue shut order marks p s)
+        module _ (f : SearchInput) (bs : ℕ → List Branches) (cl : ℕ → ℕ) (order : List ℕ) (s : State Float) (A : At f g vs es x index targets column bs cl t sc ac queue closed order marks p s)
             (unmet : p .closed < g .asked) where
-          makes : Makes f g es x only to queue₁ order (r .left) q (want f bs cl order s A unmet) t₁ sc₁ ac₁ shut₁ marks₁
-          makes = subst (λ (d : Step). MakesBy f g es x only to queue₁ order (r .left) d (want f bs cl order s A unmet) t₁ sc₁ ac₁ shut₁ marks₁) e (makes-by f bs cl order s A unmet)
+          makes : Makes f g es x index targets queue₁ order (r .left) q (want f bs cl order s A unmet) t₁ sc₁ ac₁ closed₁ marks₁
+          makes = subst (λ (d : Step). MakesBy f g es x index targets queue₁ order (r .left) d (want f bs cl order s A unmet) t₁ sc₁ ac₁ closed₁ marks₁) e (makes-by f bs cl order s A unmet)
 
-        pub next-counts : (walk : List ℕ) → NextTurn g vs es x only to column t sc ac queue shut marks walk p → (r .left .closed ≤ q .closed) × (firstNew (r .left) q ≤ q .records)
-        next-counts walk P =
+        pub next-counts : (walks : List ℕ) → NextTurn g vs es x index targets column t sc ac queue closed marks walks p → (r .left .closed ≤ q .closed) × (firstNew (r .left) q ≤ q .records)
+        next-counts walks P =
             let N = P .asks in
             let M = makes (N .input) (N .branches) (N .closings) (P .order) (N .state) (N .at) (N .unmet) in
             (M .further .closed-low, M .further .low)
 
         -- ---- what was made is pushed
         module _ (from : ℕ) (at : from ≡ firstNew (r .left) q) where
-          module _ (f : SearchInput) (bs : ℕ → List Branches) (cl : ℕ → ℕ) (order : List ℕ) (s : State Float) (A : At f g vs es x only to column bs cl t sc ac queue shut order marks p s)
+          module _ (f : SearchInput) (bs : ℕ → List Branches) (cl : ℕ → ℕ) (order : List ℕ) (s : State Float) (A : At f g vs es x index targets column bs cl t sc ac queue closed order marks p s)
               (unmet : p .closed < g .asked) where
-            abbrev M : Makes f g es x only to queue₁ order (r .left) q (want f bs cl order s A unmet) t₁ sc₁ ac₁ shut₁ marks₁
+            abbrev M : Makes f g es x index targets queue₁ order (r .left) q (want f bs cl order s A unmet) t₁ sc₁ ac₁ closed₁ marks₁
             M = makes f bs cl order s A unmet
 
             abbrev scene : Scene
-            scene = sceneOf f es x only to (M .branches) (M .closings) t₁ ac₁ shut₁ order marks₁
+            scene = sceneOf f es x index targets (M .branches) (M .closings) t₁ ac₁ closed₁ order marks₁
 
             ready : Ready scene g sc₁ queue₁ q from (M .state)
             ready =
@@ -182,8 +182,8 @@ module _ (g : Setting) (vs es x only to : List ℕ) (column : List Float) (t : L
                 ∙ push-made (columnScoring column) f (g .asked) (g .pushes) s (M .state) _
                 ∙ ap (λ (n : ℕ). pushesFrom column scene g sc₁ q n (M .state)) (sym at)
 
-          pub next-pushes : (walk : List ℕ) → NextTurn g vs es x only to column t sc ac queue shut marks walk p → Pushes sc₁ queue₁ g q from
-          next-pushes walk P =
+          pub next-pushes : (walks : List ℕ) → NextTurn g vs es x index targets column t sc ac queue closed marks walks p → Pushes sc₁ queue₁ g q from
+          next-pushes walks P =
               let N = P .asks in
               let h = N .at .room .waiting in
               record {
@@ -194,7 +194,7 @@ module _ (g : Setting) (vs es x only to : List ℕ) (column : List Float) (t : L
               }
 
           module _ (d : Step) (queue₂ : List ℕ) (Y : AllPushed sc₁ queue₁ g q from queue₂ d) where
-            pub next-full : (k : ℕ) → d ≡ Refused k → (n : ℕ) → n ≡ stepRefusal d → TurnMade g vs es x only to column t sc ac queue shut marks p (turned.Refused n) t₁ sc₁ ac₁ queue₂ shut₁ marks₁
+            pub next-full : (k : ℕ) → d ≡ Refused k → (n : ℕ) → n ≡ stepRefusal d → TurnMade g vs es x index targets column t sc ac queue closed marks p (turned.Refused n) t₁ sc₁ ac₁ queue₂ closed₁ marks₁
             next-full k u n h =
                 let F : Filled sc₁ queue₁ g q from k = subst (λ (b : Step). AllPushed sc₁ queue₁ g q from queue₂ b) u Y in
                 record {
@@ -204,12 +204,12 @@ module _ (g : Setting) (vs es x only to : List ℕ) (column : List Float) (t : L
                       rw z (fills (F .number) (E .state) (E .left) (pushed-is f bs cl order s A unmet ∙ E .is)));
                 }
 
-            module _ (p′ : Progress) (u : d ≡ On p′) (lt : length t₁ ≡ length t) (ls : length sc₁ ≡ length sc) (la : length ac₁ ≡ length ac) (lh : length shut₁ ≡ length shut)
+            module _ (p′ : Progress) (u : d ≡ On p′) (lt : length t₁ ≡ length t) (ls : length sc₁ ≡ length sc) (la : length ac₁ ≡ length ac) (lh : length closed₁ ≡ length closed)
                 (lr : length queue₂ ≡ length queue₁) where
               F : Pushed-all sc₁ queue₁ g q from queue₂ p′
               F = subst (λ (b : Step). AllPushed sc₁ queue₁ g q from queue₂ b) u Y
 
-              pub next-more : TurnMade g vs es x only to column t sc ac queue shut marks p (turned.More p′) t₁ sc₁ ac₁ queue₂ shut₁ marks₁
+              pub next-more : TurnMade g vs es x index targets column t sc ac queue closed marks p (turned.More p′) t₁ sc₁ ac₁ queue₂ closed₁ marks₁
               next-more =
                   record {
                     is = λ f bs cl order s A unmet.
@@ -237,8 +237,8 @@ module _ (g : Setting) (vs es x only to : List ℕ) (column : List Float) (t : L
                                 fits = A .fits;
                                 holds = E .holds;
                                 counted = omega arith;
-                                good = good-on f g vs es x only to column bs cl t sc ac queue shut order marks p s A unmet (E .state) is;
-                                room = room-kept g t sc ac queue shut t₁ sc₁ ac₁ queue₂ shut₁ lt ls la (lr ∙ lq) lh (A .room);
+                                good = good-on f g vs es x index targets column bs cl t sc ac queue closed order marks p s A unmet (E .state) is;
+                                room = room-kept g t sc ac queue closed t₁ sc₁ ac₁ queue₂ closed₁ lt ls la (lr ∙ lq) lh (A .room);
                               };
                         });
                   }

@@ -74,40 +74,40 @@ module _ (sc : List Float) (queue : List ℕ) (g : Setting) (p : Progress) (r : 
   recovered-made q e queue′ out P = subst (λ (b : Recovery). RecoveredTurn sc queue g p b queue′ out) (sym e) P
 
 -- by the answer, for every search whose stores these are, where the pivotal edges stand in this order
-pub record TurnMadeIn (order : List ℕ) (g : Setting) (vs es x only to : List ℕ) (column : List Float) (t : List ℕ) (sc : List Float) (ac queue shut marks : List ℕ) (p : Progress) (r : Turned) (t′ : List ℕ)
-    (sc′ : List Float) (ac′ queue′ shut′ marks′ : List ℕ) : Type 0 where
-  pub is : (f : SearchInput) (bs : ℕ → List Branches) (closings : ℕ → ℕ) (s : State Float) → At f g vs es x only to column bs closings t sc ac queue shut order marks p s → p .closed < g .asked
-      → TurnBy f g vs es x only to column order s t sc ac queue shut marks r t′ sc′ ac′ queue′ shut′ marks′
+pub record TurnMadeIn (order : List ℕ) (g : Setting) (vs es x index targets : List ℕ) (column : List Float) (t : List ℕ) (sc : List Float) (ac queue closed marks : List ℕ) (p : Progress) (r : Turned) (t′ : List ℕ)
+    (sc′ : List Float) (ac′ queue′ closed′ marks′ : List ℕ) : Type 0 where
+  pub is : (f : SearchInput) (bs : ℕ → List Branches) (closings : ℕ → ℕ) (s : State Float) → At f g vs es x index targets column bs closings t sc ac queue closed order marks p s → p .closed < g .asked
+      → TurnBy f g vs es x index targets column order s t sc ac queue closed marks r t′ sc′ ac′ queue′ closed′ marks′
 
-pub made-in : (order : List ℕ) (g : Setting) (vs es x only to : List ℕ) (column : List Float) (t : List ℕ) (sc : List Float) (ac queue shut marks : List ℕ) (p : Progress) (r : Turned) (t′ : List ℕ) (sc′ : List Float)
-    (ac′ queue′ shut′ marks′ : List ℕ) → TurnMade g vs es x only to column t sc ac queue shut marks p r t′ sc′ ac′ queue′ shut′ marks′
-    → TurnMadeIn order g vs es x only to column t sc ac queue shut marks p r t′ sc′ ac′ queue′ shut′ marks′
-made-in order g vs es x only to column t sc ac queue shut marks p r t′ sc′ ac′ queue′ shut′ marks′ M = record { is = λ f bs cl s A unmet. M .is f bs cl order s A unmet }
+pub made-in : (order : List ℕ) (g : Setting) (vs es x index targets : List ℕ) (column : List Float) (t : List ℕ) (sc : List Float) (ac queue closed marks : List ℕ) (p : Progress) (r : Turned) (t′ : List ℕ) (sc′ : List Float)
+    (ac′ queue′ closed′ marks′ : List ℕ) → TurnMade g vs es x index targets column t sc ac queue closed marks p r t′ sc′ ac′ queue′ closed′ marks′
+    → TurnMadeIn order g vs es x index targets column t sc ac queue closed marks p r t′ sc′ ac′ queue′ closed′ marks′
+made-in order g vs es x index targets column t sc ac queue closed marks p r t′ sc′ ac′ queue′ closed′ marks′ M = record { is = λ f bs cl s A unmet. M .is f bs cl order s A unmet }
 
 -- what a turn without waiting paths asks, of stores that it is not handed all of
-pub record PivotTurn (es only to t : List ℕ) (sc : List Float) (queue shut order marks walk : List ℕ) (g : Setting) (p : Progress) : Type 0 where
+pub record PivotTurn (es index targets t : List ℕ) (sc : List Float) (queue closed order marks walks : List ℕ) (g : Setting) (p : Progress) : Type 0 where
   pub vertices : List ℕ
   pub nodes : List ℕ
   pub column : List Float
   pub actives : List ℕ
-  pub asks : TurnAsks g vertices es nodes only to column t sc actives queue shut order marks walk p
+  pub asks : TurnAsks g vertices es nodes index targets column t sc actives queue closed order marks walks p
   pub none : p .waiting ≡ 0
 
 -- and what it leaves, whatever those are
-pub record PivotMade (es only to t : List ℕ) (sc : List Float) (queue shut order marks : List ℕ) (g : Setting) (p : Progress) (r : Turned) (t′ : List ℕ) (sc′ : List Float) (queue′ : List ℕ) : Type 0 where
-  pub is : (vs x ac : List ℕ) (column : List Float) → TurnMadeIn order g vs es x only to column t sc ac queue shut marks p r t′ sc′ ac queue′ shut marks
+pub record PivotMade (es index targets t : List ℕ) (sc : List Float) (queue closed order marks : List ℕ) (g : Setting) (p : Progress) (r : Turned) (t′ : List ℕ) (sc′ : List Float) (queue′ : List ℕ) : Type 0 where
+  pub is : (vs x ac : List ℕ) (column : List Float) → TurnMadeIn order g vs es x index targets column t sc ac queue closed marks p r t′ sc′ ac queue′ closed marks
 
 -- ---- the steps
-module _ (g : Setting) (es only to t : List ℕ) (sc : List Float) (queue shut order marks : List ℕ) (p : Progress) (none : p .waiting ≡ 0) where
-  module _ (vs x ac : List ℕ) (column : List Float) (f : SearchInput) (bs : ℕ → List Branches) (cl : ℕ → ℕ) (s : State Float) (A : At f g vs es x only to column bs cl t sc ac queue shut order marks p s)
+module _ (g : Setting) (es index targets t : List ℕ) (sc : List Float) (queue closed order marks : List ℕ) (p : Progress) (none : p .waiting ≡ 0) where
+  module _ (vs x ac : List ℕ) (column : List Float) (f : SearchInput) (bs : ℕ → List Branches) (cl : ℕ → ℕ) (s : State Float) (A : At f g vs es x index targets column bs cl t sc ac queue closed order marks p s)
       (unmet : p .closed < g .asked) where
     abbrev around : Around
     around = record { f = f; vs = vs; x = x; bs = bs; closing = cl; ac = ac; queue = queue }
 
-    abbrev space : Roomy g t sc ac shut p
-    space = roomy f g vs es x only to column bs cl t sc ac queue shut order marks p s A unmet
+    abbrev space : Roomy g t sc ac closed p
+    space = roomy f g vs es x index targets column bs cl t sc ac queue closed order marks p s A unmet
 
-    resting : Resting around es only to t sc shut order marks g p s
+    resting : Resting around es index targets t sc closed order marks g p s
     resting =
         let a = space .actives in
         let m : (p .records + 1) * g .active ≤ (p .records + 9) * g .active = mul-le-mul-right (g .active) (omega arith) in
@@ -117,10 +117,10 @@ module _ (g : Setting) (es only to t : List ℕ) (sc : List Float) (queue shut o
     still = none-wait (A .holds) none
 
     still-unmet : length (s .closed) < g .asked
-    still-unmet = closed-unmet f g vs es x only to column bs cl t sc ac queue shut order marks p s A unmet
+    still-unmet = closed-unmet f g vs es x index targets column bs cl t sc ac queue closed order marks p s A unmet
 
-  pub pivot-asks : (walk : List ℕ) → PivotTurn es only to t sc queue shut order marks walk g p → TriesNext es only to t sc shut order marks walk g p
-  pivot-asks walk P =
+  pub pivot-asks : (walks : List ℕ) → PivotTurn es index targets t sc queue closed order marks walks g p → TriesNext es index targets t sc closed order marks walks g p
+  pivot-asks walks P =
       let N = P .asks in
       let R = space (P .vertices) (P .nodes) (P .actives) (P .column) (N .input) (N .branches) (N .closings) (N .state) (N .at) (N .unmet) in
       let a = R .paths in
@@ -133,17 +133,17 @@ module _ (g : Setting) (es only to t : List ℕ) (sc : List Float) (queue shut o
         paths = omega arith;
         scores = omega arith;
         fits = omega arith;
-        walk-room = N .walks;
+        walk-room = N .walks-room;
       }
 
   module _ (t₁ : List ℕ) (sc₁ : List Float) where
-    module _ (q : Progress) (X : Tried es only to t sc shut order marks g p t₁ sc₁ (recovery.Made q)) (vs x ac : List ℕ) (column : List Float) (f : SearchInput) (bs : ℕ → List Branches) (cl : ℕ → ℕ) (s : State Float)
-        (A : At f g vs es x only to column bs cl t sc ac queue shut order marks p s) (unmet : p .closed < g .asked) where
-      abbrev K : Remade (around vs x ac column f bs cl s A unmet) es only to shut order marks g p s column t₁ sc₁ q
+    module _ (q : Progress) (X : Tried es index targets t sc closed order marks g p t₁ sc₁ (recovery.Made q)) (vs x ac : List ℕ) (column : List Float) (f : SearchInput) (bs : ℕ → List Branches) (cl : ℕ → ℕ) (s : State Float)
+        (A : At f g vs es x index targets column bs cl t sc ac queue closed order marks p s) (unmet : p .closed < g .asked) where
+      abbrev K : Remade (around vs x ac column f bs cl s A unmet) es index targets closed order marks g p s column t₁ sc₁ q
       K = X .1 (around vs x ac column f bs cl s A unmet) s column (resting vs x ac column f bs cl s A unmet)
 
       abbrev scene : Scene
-      scene = sceneOf f es x only to (K .bs) cl t₁ ac shut order marks
+      scene = sceneOf f es x index targets (K .bs) cl t₁ ac closed order marks
 
       ready : Ready scene g sc₁ queue q (p .records) (withPivotal s (K .next .rest))
       ready =
@@ -156,10 +156,10 @@ module _ (g : Setting) (es only to t : List ℕ) (sc : List Float) (queue shut o
           (still vs x ac column f bs cl s A unmet) (K .next .is) _ (K .gives)
           ∙ push-made (columnScoring column) f (g .asked) (g .pushes) s (withPivotal s (K .next .rest)) _
 
-    pub pivot-pushes : (r : Recovery) → Tried es only to t sc shut order marks g p t₁ sc₁ r → (walk : List ℕ) → PivotTurn es only to t sc queue shut order marks walk g p → RecoveredAsks sc₁ queue g p r
-    pivot-pushes recovery.Ended X walk P = tt
-    pivot-pushes (recovery.Refused k) X walk P = tt
-    pivot-pushes (recovery.Made q) X walk P =
+    pub pivot-pushes : (r : Recovery) → Tried es index targets t sc closed order marks g p t₁ sc₁ r → (walks : List ℕ) → PivotTurn es index targets t sc queue closed order marks walks g p → RecoveredAsks sc₁ queue g p r
+    pivot-pushes recovery.Ended X walks P = tt
+    pivot-pushes (recovery.Refused k) X walks P = tt
+    pivot-pushes (recovery.Made q) X walks P =
         let N = P .asks in
         record {
           scene = scene q X (P .vertices) (P .nodes) (P .actives) (P .column) (N .input) (N .branches) (N .closings) (N .state) (N .at) (N .unmet);
@@ -169,8 +169,8 @@ module _ (g : Setting) (es only to t : List ℕ) (sc : List Float) (queue shut o
         }
 
     module _ (lt : length t₁ ≡ length t) (ls : length sc₁ ≡ length sc) (queue₁ : List ℕ) (lq : length queue₁ ≡ length queue) where
-      pushed-turn : (q : Progress) → Tried es only to t sc shut order marks g p t₁ sc₁ (recovery.Made q) → (d : Step) → AllPushed sc₁ queue g q (p .records) queue₁ d
-          → PivotMade es only to t sc queue shut order marks g p (turnedOf d) t₁ sc₁ queue₁
+      pushed-turn : (q : Progress) → Tried es index targets t sc closed order marks g p t₁ sc₁ (recovery.Made q) → (d : Step) → AllPushed sc₁ queue g q (p .records) queue₁ d
+          → PivotMade es index targets t sc queue closed order marks g p (turnedOf d) t₁ sc₁ queue₁
       pushed-turn q X (Refused k) F =
           record {
             is = λ vs x ac column. record {
@@ -203,17 +203,17 @@ module _ (g : Setting) (es only to t : List ℕ) (sc : List Float) (queue shut o
                           fits = A .fits;
                           holds = E .holds;
                           counted = omega arith;
-                          good = good-on f g vs es x only to column bs cl t sc ac queue shut order marks p s A unmet (E .state) is;
-                          room = room-kept g t sc ac queue shut t₁ sc₁ ac queue₁ shut lt ls refl lq refl (A .room);
+                          good = good-on f g vs es x index targets column bs cl t sc ac queue closed order marks p s A unmet (E .state) is;
+                          room = room-kept g t sc ac queue closed t₁ sc₁ ac queue₁ closed lt ls refl lq refl (A .room);
                         };
                   });
             };
           }
 
-      pub pivot-turn : (r : Recovery) → Tried es only to t sc shut order marks g p t₁ sc₁ r → (out : Turned) → RecoveredTurn sc₁ queue g p r queue₁ out
-          → PivotMade es only to t sc queue shut order marks g p out t₁ sc₁ queue₁
+      pub pivot-turn : (r : Recovery) → Tried es index targets t sc closed order marks g p t₁ sc₁ r → (out : Turned) → RecoveredTurn sc₁ queue g p r queue₁ out
+          → PivotMade es index targets t sc queue closed order marks g p out t₁ sc₁ queue₁
       pivot-turn recovery.Ended X out Y =
-          subst (λ (o : Turned). PivotMade es only to t sc queue shut order marks g p o t₁ sc₁ queue₁) (sym (Y .1))
+          subst (λ (o : Turned). PivotMade es index targets t sc queue closed order marks g p o t₁ sc₁ queue₁) (sym (Y .1))
           (record {
             is = λ vs x ac column. record {
               is = λ f bs cl s A unmet. (
@@ -224,7 +224,7 @@ module _ (g : Setting) (es only to t : List ℕ) (sc : List Float) (queue shut o
             };
           })
       pivot-turn (recovery.Refused k) X out Y =
-          subst (λ (o : Turned). PivotMade es only to t sc queue shut order marks g p o t₁ sc₁ queue₁) (sym Y)
+          subst (λ (o : Turned). PivotMade es index targets t sc queue closed order marks g p o t₁ sc₁ queue₁) (sym Y)
           (record {
             is = λ vs x ac column. record {
               is = λ f bs cl s A unmet.
@@ -236,4 +236,4 @@ module _ (g : Setting) (es only to t : List ℕ) (sc : List Float) (queue shut o
             };
           })
       pivot-turn (recovery.Made q) X out Y =
-          subst (λ (o : Turned). PivotMade es only to t sc queue shut order marks g p o t₁ sc₁ queue₁) (sym (Y .is)) (pushed-turn q X (Y .step) (Y .pushed))
+          subst (λ (o : Turned). PivotMade es index targets t sc queue closed order marks g p o t₁ sc₁ queue₁) (sym (Y .is)) (pushed-turn q X (Y .step) (Y .pushed))

@@ -49,34 +49,34 @@ fn extend_taken(
     vertices: &[u32],
     edges: &[u32],
     nodes: &[u32],
-    only: &[u32],
-    to: &[u32],
+    index: &[u32],
+    targets: &[u32],
     column: &[f64],
     paths: &mut [u32],
     scores: &mut [f64],
     active: &mut [u16],
-    shut: &mut [u32],
+    closed: &mut [u32],
     marks: &mut [u32],
-    offers: &mut [u32],
+    walks: &mut [u32],
     g: Setting,
     taken: Taken,
     p: Progress,
 ) -> Step
-    requires { ⌜ ExtendsTaken g (now vertices) (now edges) (now nodes) (now only) (now to) (now column) (now paths) (now scores) (now active) (now shut) (now marks) (now offers) p taken ⌝ }
-    ensures { λ r. ⌜ TakenExtended g (now (vertices .entry)) (now (edges .entry)) (now (nodes .entry)) (now (only .entry)) (now (to .entry)) (now (column .entry)) (now (paths .entry)) (now (scores .entry)) (now (active .entry)) (now (shut .entry)) (now (marks .entry)) p taken r (now (paths .exit)) (now (scores .exit)) (now (active .exit)) (now (shut .exit)) (now (marks .exit)) ⌝ }
+    requires { ⌜ ExtendsTaken g (now vertices) (now edges) (now nodes) (now index) (now targets) (now column) (now paths) (now scores) (now active) (now closed) (now marks) (now walks) p taken ⌝ }
+    ensures { λ r. ⌜ TakenExtended g (now (vertices .entry)) (now (edges .entry)) (now (nodes .entry)) (now (index .entry)) (now (targets .entry)) (now (column .entry)) (now (paths .entry)) (now (scores .entry)) (now (active .entry)) (now (closed .entry)) (now (marks .entry)) p taken r (now (paths .exit)) (now (scores .exit)) (now (active .exit)) (now (closed .exit)) (now (marks .exit)) ⌝ }
 {
-    let a = add_junction_tree(vertices, nodes, only, to, paths, scores, active, g, taken);
+    let a = add_junction_tree(vertices, nodes, index, targets, paths, scores, active, g, taken);
     let PathAnswer::Made(_) = a else {
         return Step::Refused(path_refusal(a));
     };
     let c = close_at_sink(
         nodes,
-        only,
-        to,
+        index,
+        targets,
         paths,
         scores,
         active,
-        shut,
+        closed,
         marks,
         g,
         taken,
@@ -89,13 +89,13 @@ fn extend_taken(
         vertices,
         edges,
         nodes,
-        only,
-        to,
+        index,
+        targets,
         column,
         paths,
         scores,
         active,
-        offers,
+        walks,
         g,
         taken,
         q.records,
@@ -119,40 +119,40 @@ fn take_path(
     vertices: &[u32],
     edges: &[u32],
     nodes: &[u32],
-    only: &[u32],
-    to: &[u32],
+    index: &[u32],
+    targets: &[u32],
     column: &[f64],
     paths: &mut [u32],
     scores: &mut [f64],
     active: &mut [u16],
-    shut: &mut [u32],
+    closed: &mut [u32],
     marks: &mut [u32],
-    offers: &mut [u32],
+    walks: &mut [u32],
     g: Setting,
     p: Progress,
     path: u32,
 ) -> Step
-    requires { ⌜ TakesPath g (now vertices) (now edges) (now nodes) (now only) (now to) (now column) (now paths) (now scores) (now active) (now shut) (now marks) (now offers) p path ⌝ }
-    ensures { λ r. ⌜ PathTaken g (now (vertices .entry)) (now (edges .entry)) (now (nodes .entry)) (now (only .entry)) (now (to .entry)) (now (column .entry)) (now (paths .entry)) (now (scores .entry)) (now (active .entry)) (now (shut .entry)) (now (marks .entry)) p path r (now (paths .exit)) (now (scores .exit)) (now (active .exit)) (now (shut .exit)) (now (marks .exit)) ⌝ }
+    requires { ⌜ TakesPath g (now vertices) (now edges) (now nodes) (now index) (now targets) (now column) (now paths) (now scores) (now active) (now closed) (now marks) (now walks) p path ⌝ }
+    ensures { λ r. ⌜ PathTaken g (now (vertices .entry)) (now (edges .entry)) (now (nodes .entry)) (now (index .entry)) (now (targets .entry)) (now (column .entry)) (now (paths .entry)) (now (scores .entry)) (now (active .entry)) (now (closed .entry)) (now (marks .entry)) p path r (now (paths .exit)) (now (scores .exit)) (now (active .exit)) (now (closed .exit)) (now (marks .exit)) ⌝ }
 {
     let row = path_at(paths, scores, path);
     if is_dropped(row.since) {
         return Step::On(p);
     }
-    let taken = follow_chain(paths, scores, only, to, path);
+    let taken = follow_chain(paths, scores, index, targets, path);
     extend_taken(
         vertices,
         edges,
         nodes,
-        only,
-        to,
+        index,
+        targets,
         column,
         paths,
         scores,
         active,
-        shut,
+        closed,
         marks,
-        offers,
+        walks,
         g,
         taken,
         p,
@@ -164,21 +164,21 @@ fn next_path(
     vertices: &[u32],
     edges: &[u32],
     nodes: &[u32],
-    only: &[u32],
-    to: &[u32],
+    index: &[u32],
+    targets: &[u32],
     column: &[f64],
     paths: &mut [u32],
     scores: &mut [f64],
     active: &mut [u16],
     queue: &mut [u32],
-    shut: &mut [u32],
+    closed: &mut [u32],
     marks: &mut [u32],
-    offers: &mut [u32],
+    walks: &mut [u32],
     g: Setting,
     p: Progress,
 ) -> Turned
-    requires { ⌜ NextTurn g (now vertices) (now edges) (now nodes) (now only) (now to) (now column) (now paths) (now scores) (now active) (now queue) (now shut) (now marks) (now offers) p ⌝ }
-    ensures { λ r. ⌜ TurnMade g (now (vertices .entry)) (now (edges .entry)) (now (nodes .entry)) (now (only .entry)) (now (to .entry)) (now (column .entry)) (now (paths .entry)) (now (scores .entry)) (now (active .entry)) (now (queue .entry)) (now (shut .entry)) (now (marks .entry)) p r (now (paths .exit)) (now (scores .exit)) (now (active .exit)) (now (queue .exit)) (now (shut .exit)) (now (marks .exit)) ⌝ }
+    requires { ⌜ NextTurn g (now vertices) (now edges) (now nodes) (now index) (now targets) (now column) (now paths) (now scores) (now active) (now queue) (now closed) (now marks) (now walks) p ⌝ }
+    ensures { λ r. ⌜ TurnMade g (now (vertices .entry)) (now (edges .entry)) (now (nodes .entry)) (now (index .entry)) (now (targets .entry)) (now (column .entry)) (now (paths .entry)) (now (scores .entry)) (now (active .entry)) (now (queue .entry)) (now (closed .entry)) (now (marks .entry)) p r (now (paths .exit)) (now (scores .exit)) (now (active .exit)) (now (queue .exit)) (now (closed .exit)) (now (marks .exit)) ⌝ }
 {
     if too_many(p) {
         return Turned::Ended;
@@ -189,15 +189,15 @@ fn next_path(
         vertices,
         edges,
         nodes,
-        only,
-        to,
+        index,
+        targets,
         column,
         paths,
         scores,
         active,
-        shut,
+        closed,
         marks,
-        offers,
+        walks,
         g,
         left,
         t.path,
@@ -239,31 +239,31 @@ fn push_recovered(scores: &[f64], queue: &mut [u32], g: Setting, p: Progress, r:
 // A turn where nothing waits: the next pivotal edge is tried, and what is recovered is pushed.
 fn try_pivotal(
     edges: &[u32],
-    only: &[u32],
-    to: &[u32],
+    index: &[u32],
+    targets: &[u32],
     paths: &mut [u32],
     scores: &mut [f64],
     queue: &mut [u32],
-    shut: &[u32],
+    closed: &[u32],
     order: &[u32],
     marks: &[u32],
-    walk: &mut [u32],
+    walks: &mut [u32],
     g: Setting,
     p: Progress,
 ) -> Turned
-    requires { ⌜ PivotTurn (now edges) (now only) (now to) (now paths) (now scores) (now queue) (now shut) (now order) (now marks) (now walk) g p ⌝ }
-    ensures { λ r. ⌜ PivotMade (now (edges .entry)) (now (only .entry)) (now (to .entry)) (now (paths .entry)) (now (scores .entry)) (now (queue .entry)) (now (shut .entry)) (now (order .entry)) (now (marks .entry)) g p r (now (paths .exit)) (now (scores .exit)) (now (queue .exit)) ⌝ }
+    requires { ⌜ PivotTurn (now edges) (now index) (now targets) (now paths) (now scores) (now queue) (now closed) (now order) (now marks) (now walks) g p ⌝ }
+    ensures { λ r. ⌜ PivotMade (now (edges .entry)) (now (index .entry)) (now (targets .entry)) (now (paths .entry)) (now (scores .entry)) (now (queue .entry)) (now (closed .entry)) (now (order .entry)) (now (marks .entry)) g p r (now (paths .exit)) (now (scores .exit)) (now (queue .exit)) ⌝ }
 {
     let r = enqueue_next_pivotal_edge(
         edges,
-        only,
-        to,
+        index,
+        targets,
         paths,
         scores,
-        shut,
+        closed,
         order,
         marks,
-        walk,
+        walks,
         g,
         p,
     );
@@ -275,53 +275,53 @@ fn turn(
     vertices: &[u32],
     edges: &[u32],
     nodes: &[u32],
-    only: &[u32],
-    to: &[u32],
+    index: &[u32],
+    targets: &[u32],
     column: &[f64],
     paths: &mut [u32],
     scores: &mut [f64],
     active: &mut [u16],
     queue: &mut [u32],
-    shut: &mut [u32],
+    closed: &mut [u32],
     order: &[u32],
     marks: &mut [u32],
-    walk: &mut [u32],
+    walks: &mut [u32],
     g: Setting,
     p: Progress,
 ) -> Turned
-    requires { ⌜ TurnAsks g (now vertices) (now edges) (now nodes) (now only) (now to) (now column) (now paths) (now scores) (now active) (now queue) (now shut) (now order) (now marks) (now walk) p ⌝ }
-    ensures { λ r. ⌜ TurnMadeIn (now (order .entry)) g (now (vertices .entry)) (now (edges .entry)) (now (nodes .entry)) (now (only .entry)) (now (to .entry)) (now (column .entry)) (now (paths .entry)) (now (scores .entry)) (now (active .entry)) (now (queue .entry)) (now (shut .entry)) (now (marks .entry)) p r (now (paths .exit)) (now (scores .exit)) (now (active .exit)) (now (queue .exit)) (now (shut .exit)) (now (marks .exit)) ⌝ }
+    requires { ⌜ TurnAsks g (now vertices) (now edges) (now nodes) (now index) (now targets) (now column) (now paths) (now scores) (now active) (now queue) (now closed) (now order) (now marks) (now walks) p ⌝ }
+    ensures { λ r. ⌜ TurnMadeIn (now (order .entry)) g (now (vertices .entry)) (now (edges .entry)) (now (nodes .entry)) (now (index .entry)) (now (targets .entry)) (now (column .entry)) (now (paths .entry)) (now (scores .entry)) (now (active .entry)) (now (queue .entry)) (now (closed .entry)) (now (marks .entry)) p r (now (paths .exit)) (now (scores .exit)) (now (active .exit)) (now (queue .exit)) (now (closed .exit)) (now (marks .exit)) ⌝ }
 {
     if p.waiting > 0 {
         return next_path(
             vertices,
             edges,
             nodes,
-            only,
-            to,
+            index,
+            targets,
             column,
             paths,
             scores,
             active,
             queue,
-            shut,
+            closed,
             marks,
-            walk,
+            walks,
             g,
             p,
         );
     }
     try_pivotal(
         edges,
-        only,
-        to,
+        index,
+        targets,
         paths,
         scores,
         queue,
-        shut,
+        closed,
         order,
         marks,
-        walk,
+        walks,
         g,
         p,
     )
@@ -338,28 +338,28 @@ fn found(r: Turned, p: Progress) -> Search
     }
 }
 
-// Turn after turn, until as many paths have closed as are asked for, the search ends, or a turn is refused. `walk` serves the pivotal edges that are
+// Turn after turn, until as many paths have closed as are asked for, the search ends, or a turn is refused. `walks` serves the pivotal edges that are
 // still to be looked at, the offers of a fork, and the edges of a path that is split, one after the other.
 pub fn find_junction_best_haplotypes(
     vertices: &[u32],
     edges: &[u32],
     nodes: &[u32],
-    only: &[u32],
-    to: &[u32],
+    index: &[u32],
+    targets: &[u32],
     column: &[f64],
     paths: &mut [u32],
     scores: &mut [f64],
     active: &mut [u16],
     queue: &mut [u32],
-    shut: &mut [u32],
+    closed: &mut [u32],
     order: &mut [u32],
     marks: &mut [u32],
-    walk: &mut [u32],
+    walks: &mut [u32],
     g: Setting,
     recovery: bool,
 ) -> Search
-    requires { ⌜ Finds g (now vertices) (now edges) (now nodes) (now only) (now to) (now column) (now paths) (now scores) (now active) (now queue) (now shut) (now order) (now marks) (now walk) ⌝ }
-    ensures { λ r. ⌜ Found g (now (vertices .entry)) (now (edges .entry)) (now (nodes .entry)) (now (only .entry)) (now (to .entry)) (now (column .entry)) recovery r (now (paths .exit)) (now (scores .exit)) (now (active .exit)) (now (queue .exit)) (now (shut .exit)) (now (order .exit)) (now (marks .exit)) ⌝ }
+    requires { ⌜ Finds g (now vertices) (now edges) (now nodes) (now index) (now targets) (now column) (now paths) (now scores) (now active) (now queue) (now closed) (now order) (now marks) (now walks) ⌝ }
+    ensures { λ r. ⌜ Found g (now (vertices .entry)) (now (edges .entry)) (now (nodes .entry)) (now (index .entry)) (now (targets .entry)) (now (column .entry)) recovery r (now (paths .exit)) (now (scores .exit)) (now (active .exit)) (now (queue .exit)) (now (closed .exit)) (now (order .exit)) (now (marks .exit)) ⌝ }
 {
     let mut p = begin(
         vertices,
@@ -367,7 +367,7 @@ pub fn find_junction_best_haplotypes(
         paths,
         scores,
         queue,
-        walk,
+        walks,
         order,
         marks,
         g,
@@ -378,17 +378,17 @@ pub fn find_junction_best_haplotypes(
             vertices,
             edges,
             nodes,
-            only,
-            to,
+            index,
+            targets,
             column,
             paths,
             scores,
             active,
             queue,
-            shut,
+            closed,
             order,
             marks,
-            walk,
+            walks,
             g,
             p,
         );

@@ -145,8 +145,8 @@ module _ {i : Input} {o : Outputs} {w : Tables} {b : Raise} (q : Searches i o w 
       let h = limits .edges-most in
       record { edges = omega arith; vertices = omega arith; sink = omega arith }
 
-  module _ {vs₁ : List ℕ} (link : vs₁ ≡ linked (w .vertices) (b .sink) (b .edges)) {only₁ : List ℕ} (lo : length only₁ ≡ length (w .index)) where
-    lies : Lies vs₁ (w .edges) only₁ (b .vertices) (b .edges)
+  module _ {vs₁ : List ℕ} (link : vs₁ ≡ linked (w .vertices) (b .sink) (b .edges)) {index₁ : List ℕ} (lo : length index₁ ≡ length (w .index)) where
+    lies : Lies vs₁ (w .edges) index₁ (b .vertices) (b .edges)
     lies =
         let a = at .vertices-fit in
         let c = limits .vertices-most in
@@ -165,17 +165,17 @@ module _ {i : Input} {o : Outputs} {w : Tables} {b : Raise} (q : Searches i o w 
       record {
         sink-in = omega arith;
         few = omega arith;
-        tables = ground-tables i rules (q .checks .settings-fit) at refl (lies refl {only₁ = w .index} refl) (w .targets) (q .targets);
+        tables = ground-tables i rules (q .checks .settings-fit) at refl (lies refl {index₁ = w .index} refl) (w .targets) (q .targets);
       }
 
-  module _ {vs₁ only₁ to₁ : List ℕ} (k : Chained (w .vertices) (w .edges) b vs₁ only₁ to₁) (lo : length only₁ ≡ length (w .index)) {g : Setting}
+  module _ {vs₁ index₁ targets₁ : List ℕ} (k : Chained (w .vertices) (w .edges) b vs₁ index₁ targets₁) (lo : length index₁ ≡ length (w .index)) {g : Setting}
       (ge : g ≡ settingFor i (b .vertices) (b .edges) (b .sink) (b .nodes) (i .graphMaxima .nodes) (g .least)) (gl : Least (i .threshold) (g .least)) where
-    ground : Ground (searchInput i (builtFor (i .sample))) g vs₁ (w .edges) (w .nodes) only₁ to₁
+    ground : Ground (searchInput i (builtFor (i .sample))) g vs₁ (w .edges) (w .nodes) index₁ targets₁
     ground =
-        subst (λ (h : Setting). Ground f h vs₁ (w .edges) (w .nodes) only₁ to₁) (sym ge)
+        subst (λ (h : Setting). Ground f h vs₁ (w .edges) (w .nodes) index₁ targets₁) (sym ge)
         (ground-of i rules (q .checks .settings-fit) at (k .vertices) (lies (k .vertices) lo) (q .raised .there) (k .tabled) (g .least) gl (limits .nodes-most))
 
-    pub find-asks : Finds g vs₁ (w .edges) (w .nodes) only₁ to₁ (i .column) (w .paths) (w .scores) (w .active) (w .queue) (w .closed) (w .order) (w .marks) (w .walks)
+    pub find-asks : Finds g vs₁ (w .edges) (w .nodes) index₁ targets₁ (i .column) (w .paths) (w .scores) (w .active) (w .queue) (w .closed) (w .order) (w .marks) (w .walks)
     find-asks =
         let edges : g .edges ≡ b .edges + 1 = ap (λ (h : Setting). h .edges) ge in
         let most : g .most ≡ i .searchMaxima .pathEdges = ap (λ (h : Setting). h .most) ge in
@@ -207,8 +207,8 @@ module _ {i : Input} {o : Outputs} {w : Tables} {b : Raise} (q : Searches i o w 
           rows = v .1;
         }
 
-    module _ {r : Search} {t′ : List ℕ} {sc′ : List Float} {ac′ queue′ shut′ order′ marks′ : List ℕ}
-        (F : Found g vs₁ (w .edges) (w .nodes) only₁ to₁ (i .column) (i .recovery) r t′ sc′ ac′ queue′ shut′ order′ marks′) where
+    module _ {r : Search} {t′ : List ℕ} {sc′ : List Float} {ac′ queue′ closed′ order′ marks′ : List ℕ}
+        (F : Found g vs₁ (w .edges) (w .nodes) index₁ targets₁ (i .column) (i .recovery) r t′ sc′ ac′ queue′ closed′ order′ marks′) where
       searched-is : search (columnScoring (i .column)) (searchInput i (builtFor (i .sample))) (i .asked) (i .searchMaxima .pushes) (i .recovery) ≡ searched (i .column) f g (i .recovery)
       searched-is = sym (ap (λ (h : Setting). searched (i .column) f h (i .recovery)) ge)
 
@@ -220,7 +220,7 @@ module _ {i : Input} {o : Outputs} {w : Tables} {b : Raise} (q : Searches i o w 
           (h ∙ ap refusedAnswer (e ∙ ap searchRefusal d))
 
       module _ {p : Progress} (d : r ≡ Paths p) where
-        there : Ended f g (w .edges) (w .nodes) only₁ to₁ (i .column) (i .recovery) t′ sc′ ac′ queue′ shut′ order′ marks′ p
+        there : Ended f g (w .edges) (w .nodes) index₁ targets₁ (i .column) (i .recovery) t′ sc′ ac′ queue′ closed′ order′ marks′ p
         there = rw d at (F .is f ground)
 
         reached : lastOf (search (columnScoring (i .column)) f (i .asked) (i .searchMaxima .pushes) (i .recovery)) ≡ some (there .state)
@@ -234,7 +234,7 @@ module _ {i : Input} {o : Outputs} {w : Tables} {b : Raise} (q : Searches i o w 
             search-counted (column-keeps (i .column) (q .checks .column-fits)) f (i .asked) (i .searchMaxima .pushes) (i .recovery) (there .state) (some-pushes i (q .checks)) reached
 
         closed-are : length (there .state .closed) ≡ p .closed
-        closed-are = ap length (there .holds .closed) ∙ length-map (take (p .closed) shut′) _ ∙ length-take-le (p .closed) shut′ (there .holds .shut-room)
+        closed-are = ap length (there .holds .closed) ∙ length-map (take (p .closed) closed′) _ ∙ length-take-le (p .closed) closed′ (there .holds .closed-room)
 
         closed-few : p .closed ≤ i .asked
         closed-few = let a = closed-are in let c = counted .closed in omega arith
@@ -265,7 +265,7 @@ module _ {i : Input} {o : Outputs} {w : Tables} {b : Raise} (q : Searches i o w 
             omega arith
 
         pub list-asks : (walks rank : ℕ) → walks ≡ length (w .walks) → rank ≡ length (w .active)
-            → list.Listable (i .sample .reference ++ i .sample .bases) vs₁ (w .edges) only₁ to₁ t′ sc′ shut′ (i .sample .k) (i .searchMaxima .pathEdges) (p .closed) walks rank
+            → list.Listable (i .sample .reference ++ i .sample .bases) vs₁ (w .edges) index₁ targets₁ t′ sc′ closed′ (i .sample .k) (i .searchMaxima .pathEdges) (p .closed) walks rank
             (length (o .scores)) (length (o .closings)) (length (o .edges)) (length (o .bases)) (length (o .sequences)) (length (o .places))
         list-asks walks rank lw lr =
             let few = closed-few in
@@ -288,18 +288,18 @@ module _ {i : Input} {o : Outputs} {w : Tables} {b : Raise} (q : Searches i o w 
             let ranks : (i .asked) * 1 ≤ (i .searchMaxima .pushes + i .asked + 8) * i .searchMaxima .active = mul-le-mul {n₂ = i .searchMaxima .pushes + i .asked + 8} (omega arith) some-active in
             let k-low = k-some i (q .checks) in
             let asked-low = limits .asked-most in
-            subst (λ (m : ℕ). list.Listable (i .sample .reference ++ i .sample .bases) vs₁ (w .edges) only₁ to₁ t′ sc′ shut′ (i .sample .k) m (p .closed) walks rank
+            subst (λ (m : ℕ). list.Listable (i .sample .reference ++ i .sample .bases) vs₁ (w .edges) index₁ targets₁ t′ sc′ closed′ (i .sample .k) m (p .closed) walks rank
             (length (o .scores)) (length (o .closings)) (length (o .edges)) (length (o .bases)) (length (o .sequences)) (length (o .places))) most-is
-            (ended-listable (i .sample) (i .graphMaxima .vertices) (i .graphMaxima .edges) (w .vertices) (w .edges) (b .vertices) (b .edges) (b .sink) at vs₁ kept f g (w .nodes) only₁ to₁ ground
-            (ap (λ (h : Setting). h .edges) ge) (ap (λ (h : Setting). h .sink) ge) (there .branches) (there .closings) t′ sc′ ac′ queue′ shut′ order′ marks′ p (there .state) (there .holds) (good .0)
+            (ended-listable (i .sample) (i .graphMaxima .vertices) (i .graphMaxima .edges) (w .vertices) (w .edges) (b .vertices) (b .edges) (b .sink) at vs₁ kept f g (w .nodes) index₁ targets₁ ground
+            (ap (λ (h : Setting). h .edges) ge) (ap (λ (h : Setting). h .sink) ge) (there .branches) (there .closings) t′ sc′ ac′ queue′ closed′ order′ marks′ p (there .state) (there .holds) (good .0)
             (omega arith) text-small (omega arith) (omega arith)
             walks rank (length (o .scores)) (length (o .closings)) (length (o .edges)) (length (o .bases)) (length (o .sequences)) (length (o .places))
             (rw most-is (omega arith)) (omega arith) (omega arith) (omega arith) (omega arith) (rw most-is (omega arith)) (rw most-is (omega arith)) (rw most-is (omega arith)))
 
-        shows : Shows (i .sample .reference ++ i .sample .bases) vs₁ (w .edges) only₁ to₁ t′ sc′ shut′ (i .sample .k) (p .closed) (builtFor (i .sample)) (there .state .closed)
+        shows : Shows (i .sample .reference ++ i .sample .bases) vs₁ (w .edges) index₁ targets₁ t′ sc′ closed′ (i .sample .k) (p .closed) (builtFor (i .sample)) (there .state .closed)
         shows =
-            ended-shows (i .sample) (i .graphMaxima .vertices) (i .graphMaxima .edges) (w .vertices) (w .edges) (b .vertices) (b .edges) (b .sink) at vs₁ kept f g (w .nodes) only₁ to₁ ground
-            (ap (λ (h : Setting). h .edges) ge) (ap (λ (h : Setting). h .sink) ge) (there .branches) (there .closings) t′ sc′ ac′ queue′ shut′ order′ marks′ p (there .state) (there .holds) (good .0)
+            ended-shows (i .sample) (i .graphMaxima .vertices) (i .graphMaxima .edges) (w .vertices) (w .edges) (b .vertices) (b .edges) (b .sink) at vs₁ kept f g (w .nodes) index₁ targets₁ ground
+            (ap (λ (h : Setting). h .edges) ge) (ap (λ (h : Setting). h .sink) ge) (there .branches) (there .closings) t′ sc′ ac′ queue′ closed′ order′ marks′ p (there .state) (there .holds) (good .0)
             (builtFor (i .sample)) refl refl (good .1)
 
         rows-of : List (Row Float)
@@ -310,7 +310,7 @@ module _ {i : Input} {o : Outputs} {w : Tables} {b : Raise} (q : Searches i o w 
         found-list = found-is i (q .some) (raised-built (q .raised)) _ (searched-is ∙ there .is)
 
         pub search-done : {ss : List Float} {cs ls bs qs ps : List ℕ}
-            → list.Listed (i .sample .reference ++ i .sample .bases) vs₁ (w .edges) only₁ to₁ t′ sc′ shut′ (i .sample .k) (i .searchMaxima .pathEdges) (p .closed)
+            → list.Listed (i .sample .reference ++ i .sample .bases) vs₁ (w .edges) index₁ targets₁ t′ sc′ closed′ (i .sample .k) (i .searchMaxima .pathEdges) (p .closed)
             (o .scores) (o .closings) (o .edges) ss cs ls (o .bases) (o .sequences) (o .places) bs qs ps
             → {a : ListAnswer} → a ≡ foundAnswer p → Listed i (found i) a o (outputsOf ss cs ls bs qs ps)
         unfolding writtenList basesStride rows-of

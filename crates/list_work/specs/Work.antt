@@ -29,11 +29,11 @@ max-first : (a b n : ℕ) → n ≡ max a b → a ≤ n
 max-first a b n e = omega arith
 
 -- the parts of the tables that the search is handed; es, idx and to are the lengths of those tables
-pub record Parts (i : Input) (es idx to : ℕ) (b : Raise) : Type 0 where
+pub record Parts (i : Input) (es idx targets : ℕ) (b : Raise) : Type 0 where
   pub few : b .edges + 1 ≤ 8192
   pub rows : edgeNumbers (b .edges + 1) ≤ es
   pub index : i .graphMaxima .vertices ≤ idx
-  pub targets : b .edges + 1 ≤ to
+  pub targets : b .edges + 1 ≤ targets
 
 module _ {i : Input} {o : Outputs} {w : Tables} (q : Works i o w) where
   pub work-raises : Raises (i .sample) (i .graphMaxima) (w .vertices) (w .edges) (w .index) (w .nodes) (w .walks)

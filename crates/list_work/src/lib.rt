@@ -46,45 +46,45 @@ fn search_list(
     places: &mut [u32],
     vertices: &mut [u32],
     edges: &[u32],
-    only: &mut [u32],
+    index: &mut [u32],
     nodes: &[u32],
-    to: &mut [u32],
+    targets: &mut [u32],
     paths: &mut [u32],
     scores: &mut [f64],
     active: &mut [u16],
     queue: &mut [u32],
-    shut: &mut [u32],
+    closed: &mut [u32],
     order: &mut [u32],
     marks: &mut [u32],
     walks: &mut [u32],
 ) -> ListAnswer
     requires { ⌜ (
         let outputs = outputsOf (now «row_scores») (now «row_closings») (now «row_edges») (now «out_bases») (now sequences) (now places) in
-        let tables = tablesOf (now vertices) (now edges) (now only) (now nodes) (now to) (now paths) (now scores) (now active) (now queue) (now shut) (now order) (now marks) (now walks) in
+        let tables = tablesOf (now vertices) (now edges) (now index) (now nodes) (now targets) (now paths) (now scores) (now active) (now queue) (now closed) (now order) (now marks) (now walks) in
         Seeks a (now reference) (now bases) (now column) outputs tables b) ⌝ }
     ensures { λ r. ⌜ (
         let outputs = outputsOf (now («row_scores» .entry)) (now («row_closings» .entry)) (now («row_edges» .entry)) (now («out_bases» .entry)) (now (sequences .entry)) (now (places .entry)) in
         let written = outputsOf (now («row_scores» .exit)) (now («row_closings» .exit)) (now («row_edges» .exit)) (now («out_bases» .exit)) (now (sequences .exit)) (now (places .exit)) in
-        let tables = tablesOf (now (vertices .entry)) (now (edges .entry)) (now (only .entry)) (now (nodes .entry)) (now (to .entry)) (now (paths .entry)) (now (scores .entry)) (now (active .entry)) (now (queue .entry)) (now (shut .entry)) (now (order .entry)) (now (marks .entry)) (now (walks .entry)) in
+        let tables = tablesOf (now (vertices .entry)) (now (edges .entry)) (now (index .entry)) (now (nodes .entry)) (now (targets .entry)) (now (paths .entry)) (now (scores .entry)) (now (active .entry)) (now (queue .entry)) (now (closed .entry)) (now (order .entry)) (now (marks .entry)) (now (walks .entry)) in
         Sought a (now (reference .entry)) (now (bases .entry)) (now (column .entry)) tables b r outputs written) ⌝ }
 {
     let size = a.k as usize;
     let most = a.search;
     let stride = most.path_edges as usize;
     let g = search_setting(a, b);
-    lay_chains(b, vertices, edges, only, to);
+    lay_chains(b, vertices, edges, index, targets);
     let r = find_junction_best_haplotypes(
         vertices,
         edges,
         nodes,
-        only,
-        to,
+        index,
+        targets,
         column,
         paths,
         scores,
         active,
         queue,
-        shut,
+        closed,
         order,
         marks,
         walks,
@@ -99,11 +99,11 @@ fn search_list(
         bases,
         vertices,
         edges,
-        only,
-        to,
+        index,
+        targets,
         paths,
         scores,
-        shut,
+        closed,
         p.closed,
         size,
         stride,

@@ -38,29 +38,29 @@ use Rattle.search_state.specs.declared.Progress.{Progress}
 use Rattle.search_state.specs.declared.Step.{Step}
 use Rattle.search_state.specs.declared.Step.the-variants.{On, Refused}
 use Rattle.search_state.specs.Ground.{nameOf, Ground}
-use Rattle.search_state.specs.State.{pathOf, shutOf, Records, Holds, Apart, Kept}
+use Rattle.search_state.specs.State.{pathOf, closedRecord, Records, Holds, Apart, Kept}
 use Rattle.search_state.specs.Keep.{withRecords, map-agree, holds-kept, apart-kept}
-use Rattle.path_closing.specs.Shuts.{withClosed, Shuts, Shut, Shutting, ShutBy}
+use Rattle.path_closing.specs.ClosesTaken.{withClosed, ClosesTaken, ClosedTaken, ClosingTaken, ClosedTakenBy}
 use Rattle.path_closing.specs.Joins.{Joined}
 
 -- ---- what the contract says
 
 -- the stores as a search f has them, with room for one record more
-pub record Closing (f : SearchInput) (g : Setting) (vs es x only to : List ℕ) (bs : ℕ → List Branches) (closing : ℕ → ℕ) (t : List ℕ) (sc : List Float) (ac queue shut order marks : List ℕ)
+pub record Closing (f : SearchInput) (g : Setting) (vs es x index targets : List ℕ) (bs : ℕ → List Branches) (closing : ℕ → ℕ) (t : List ℕ) (sc : List Float) (ac queue closed order marks : List ℕ)
     (p : Progress) (s : State Float) (taken : Taken) : Type 0 where
-  pub ground : Ground f g vs es x only to
-  pub holds : Holds f g es x only to bs closing t sc ac queue shut order marks p s
+  pub ground : Ground f g vs es x index targets
+  pub holds : Holds f g es x index targets bs closing t sc ac queue closed order marks p s
   pub known : taken .path < p .records
-  pub following : Following only to t (taken .path) taken
+  pub following : Following index targets t (taken .path) taken
   pub apart : Apart sc queue (p .waiting) (taken .path)
-  pub more : p .closed < length shut
+  pub more : p .closed < length closed
   pub paths : (p .records + 1) * 9 ≤ length t
   pub scores : p .records + 1 ≤ length sc
   pub actives : (p .records + 1) * g .active ≤ length ac
   pub few : p .records + 1 < 2147483648
 
 -- what the code asks: they are those of some search
-pub record Closes (g : Setting) (x only to t : List ℕ) (sc : List Float) (ac shut marks : List ℕ) (p : Progress) (taken : Taken) : Type 0 where
+pub record Closes (g : Setting) (x index targets t : List ℕ) (sc : List Float) (ac closed marks : List ℕ) (p : Progress) (taken : Taken) : Type 0 where
   pub input : SearchInput
   pub vertices : List ℕ
   pub edges : List ℕ
@@ -69,7 +69,7 @@ pub record Closes (g : Setting) (x only to t : List ℕ) (sc : List Float) (ac s
   pub queue : List ℕ
   pub order : List ℕ
   pub state : State Float
-  pub all : Closing input g vertices edges x only to branches closings t sc ac queue shut order marks p state taken
+  pub all : Closing input g vertices edges x index targets branches closings t sc ac queue closed order marks p state taken
 
 -- the chain after the path r, as the definition has it
 abbrev pub chainAfter : SearchInput → Path Float → List Ends
@@ -77,30 +77,30 @@ chainAfter f q = defs.chain f (defs.endFrom (f .source) (q .edges))
 
 -- the definition's `closeAt`, of the path that was taken
 abbrev pub closing : SearchInput → List ℕ → List ℕ → List ℕ → (ℕ → List Branches) → List ℕ → List Float → Taken → State Float → Result (State Float)
-closing f es only to bs t sc taken s = closeAt f (taken .vertex) (pathOf f es only to bs t sc (taken .path)) (chainAfter f (pathOf f es only to bs t sc (taken .path))) s
+closing f es index targets bs t sc taken s = closeAt f (taken .vertex) (pathOf f es index targets bs t sc (taken .path)) (chainAfter f (pathOf f es index targets bs t sc (taken .path))) s
 
 -- the stores after the step
-pub record ClosedOn (f : SearchInput) (g : Setting) (es x only to : List ℕ) (bs : ℕ → List Branches) (t : List ℕ) (sc : List Float) (ac queue order : List ℕ) (p : Progress) (s : State Float) (taken : Taken)
-    (p′ : Progress) (t′ : List ℕ) (sc′ : List Float) (shut′ marks′ : List ℕ) : Type 0 where
+pub record ClosedOn (f : SearchInput) (g : Setting) (es x index targets : List ℕ) (bs : ℕ → List Branches) (t : List ℕ) (sc : List Float) (ac queue order : List ℕ) (p : Progress) (s : State Float) (taken : Taken)
+    (p′ : Progress) (t′ : List ℕ) (sc′ : List Float) (closed′ marks′ : List ℕ) : Type 0 where
   pub branches : ℕ → List Branches
   pub closings : ℕ → ℕ
   pub state : State Float
-  pub is : closing f es only to bs t sc taken s ≡ ok state
-  pub holds : Holds f g es x only to branches closings t′ sc′ ac queue shut′ order marks′ p′ state
-  pub path : pathOf f es only to branches t′ sc′ (taken .path) ≡ pathOf f es only to bs t sc (taken .path)
-  pub following : Following only to t′ (taken .path) taken
+  pub is : closing f es index targets bs t sc taken s ≡ ok state
+  pub holds : Holds f g es x index targets branches closings t′ sc′ ac queue closed′ order marks′ p′ state
+  pub path : pathOf f es index targets branches t′ sc′ (taken .path) ≡ pathOf f es index targets bs t sc (taken .path)
+  pub following : Following index targets t′ (taken .path) taken
   pub apart : Apart sc′ queue (p′ .waiting) (taken .path)
   pub known : taken .path < p′ .records
   pub progress : (p′ ≡ p) ⊎ (p′ ≡ withClosed p)
 
 abbrev pub ClosedBy : SearchInput → Setting → List ℕ → List ℕ → List ℕ → List ℕ → (ℕ → List Branches) → List ℕ → List Float → List ℕ → List ℕ → List ℕ → Progress → State Float → Taken → Step → List ℕ → List Float → List ℕ → List ℕ → Type 0
-ClosedBy f g es x only to bs t sc ac queue order p s taken (On p′) t′ sc′ shut′ marks′ = ClosedOn f g es x only to bs t sc ac queue order p s taken p′ t′ sc′ shut′ marks′
-ClosedBy f g es x only to bs t sc ac queue order p s taken (Refused k) t′ sc′ shut′ marks′ = closing f es only to bs t sc taken s ≡ refused k
+ClosedBy f g es x index targets bs t sc ac queue order p s taken (On p′) t′ sc′ closed′ marks′ = ClosedOn f g es x index targets bs t sc ac queue order p s taken p′ t′ sc′ closed′ marks′
+ClosedBy f g es x index targets bs t sc ac queue order p s taken (Refused k) t′ sc′ closed′ marks′ = closing f es index targets bs t sc taken s ≡ refused k
 
 -- by the answer, for every search whose stores these are
-pub record ClosedAt (g : Setting) (x only to t : List ℕ) (sc : List Float) (ac shut marks : List ℕ) (p : Progress) (taken : Taken) (r : Step) (t′ : List ℕ) (sc′ : List Float) (shut′ marks′ : List ℕ) : Type 0 where
+pub record ClosedAt (g : Setting) (x index targets t : List ℕ) (sc : List Float) (ac closed marks : List ℕ) (p : Progress) (taken : Taken) (r : Step) (t′ : List ℕ) (sc′ : List Float) (closed′ marks′ : List ℕ) : Type 0 where
   pub is : (f : SearchInput) (vs es : List ℕ) (bs : ℕ → List Branches) (closings : ℕ → ℕ) (queue order : List ℕ) (s : State Float)
-      → Closing f g vs es x only to bs closings t sc ac queue shut order marks p s taken → ClosedBy f g es x only to bs t sc ac queue order p s taken r t′ sc′ shut′ marks′
+      → Closing f g vs es x index targets bs closings t sc ac queue closed order marks p s taken → ClosedBy f g es x index targets bs t sc ac queue order p s taken r t′ sc′ closed′ marks′
 
 -- ---- the marks of a path's edges are cleared
 
@@ -118,10 +118,10 @@ all-drop (suc n) (cons h a) = all-drop n a
 abbrev crossedState : List Ends → State Float → State Float
 crossedState ds s = record { waiting = s .waiting; closed = s .closed; pivotal = crossOff ds (s .pivotal); pushes = s .pushes; longest = s .longest }
 
-module _ (f : SearchInput) (g : Setting) (es x only to : List ℕ) (bs : ℕ → List Branches) (cl : ℕ → ℕ) (t : List ℕ) (sc : List Float) (ac queue shut order marks : List ℕ) (p : Progress) (s : State Float)
-    (H : Holds f g es x only to bs cl t sc ac queue shut order marks p s) where
-  holds-crossed : Agrees f only to (nameOf es) → (ds : List ℕ) → All (λ e. e < length to) ds → (marks′ : List ℕ) → Struck only marks ds marks′
-      → Holds f g es x only to bs cl t sc ac queue shut order marks′ p (crossedState (map (nameOf es) ds) s)
+module _ (f : SearchInput) (g : Setting) (es x index targets : List ℕ) (bs : ℕ → List Branches) (cl : ℕ → ℕ) (t : List ℕ) (sc : List Float) (ac queue closed order marks : List ℕ) (p : Progress) (s : State Float)
+    (H : Holds f g es x index targets bs cl t sc ac queue closed order marks p s) where
+  holds-crossed : Agrees f index targets (nameOf es) → (ds : List ℕ) → All (λ e. e < length targets) ds → (marks′ : List ℕ) → Struck index marks ds marks′
+      → Holds f g es x index targets bs cl t sc ac queue closed order marks′ p (crossedState (map (nameOf es) ds) s)
   holds-crossed A ds a marks′ S =
       record {
         records = H .records;
@@ -129,13 +129,13 @@ module _ (f : SearchInput) (g : Setting) (es x only to : List ℕ) (bs : ℕ →
         idle = H .idle;
         once = H .once;
         waiting = H .waiting;
-        shut-known = H .shut-known;
+        closed-known = H .closed-known;
         closed = H .closed;
-        shut-room = H .shut-room;
+        closed-room = H .closed-room;
         pivotal =
             ap (λ (l : List Ends). crossOff (map (nameOf es) ds) l) (H .pivotal)
             ∙ sym
-            (struck-out f only to (nameOf es) A (drop (p .next) (take (p .pivotal) order)) marks ds marks′ (distinct-drop (p .next) (take (p .pivotal) order) (H .pivotal-once))
+            (struck-out f index targets (nameOf es) A (drop (p .next) (take (p .pivotal) order)) marks ds marks′ (distinct-drop (p .next) (take (p .pivotal) order) (H .pivotal-once))
             (all-drop (p .next) (H .pivotal-known)) (all-drop (p .next) (H .pivotal-forks)) (H .marks-room) a S);
         pivotal-once = H .pivotal-once;
         pivotal-known = H .pivotal-known;
@@ -165,44 +165,44 @@ unfolding closingWith
 closing-other cl n c q d = rw (ne-eqb q n d, closingWith)
 
 -- the state with a closed path more
-abbrev shutState : Closed Float → State Float → State Float
-shutState c s = record { waiting = s .waiting; closed = s .closed ++ c ∷ []; pivotal = s .pivotal; pushes = s .pushes; longest = s .longest }
+abbrev closedState : Closed Float → State Float → State Float
+closedState c s = record { waiting = s .waiting; closed = s .closed ++ c ∷ []; pivotal = s .pivotal; pushes = s .pushes; longest = s .longest }
 
-module _ (f : SearchInput) (g : Setting) (es x only to : List ℕ) (bs : ℕ → List Branches) (cl : ℕ → ℕ) (t : List ℕ) (sc : List Float) (ac queue shut order marks : List ℕ) (p : Progress) (s : State Float)
-    (H : Holds f g es x only to bs cl t sc ac queue shut order marks (withRecords p (p .records + 1)) s) (before : All (λ q. q < p .records) (take (p .closed) shut)) (more : p .closed < length shut) (c : ℕ) where
-  shut′ : List ℕ
-  shut′ = set shut (p .closed) (p .records)
+module _ (f : SearchInput) (g : Setting) (es x index targets : List ℕ) (bs : ℕ → List Branches) (cl : ℕ → ℕ) (t : List ℕ) (sc : List Float) (ac queue closed order marks : List ℕ) (p : Progress) (s : State Float)
+    (H : Holds f g es x index targets bs cl t sc ac queue closed order marks (withRecords p (p .records + 1)) s) (before : All (λ q. q < p .records) (take (p .closed) closed)) (more : p .closed < length closed) (c : ℕ) where
+  closed′ : List ℕ
+  closed′ = set closed (p .closed) (p .records)
 
-  numbers : take (p .closed + 1) shut′ ≡ take (p .closed) shut ++ p .records ∷ []
-  unfolding shut′
-  numbers = ap (λ (d : ℕ). take d (set shut (p .closed) (p .records))) (add-one (p .closed)) ∙ take-suc-set shut (p .closed) (p .records) more
+  numbers : take (p .closed + 1) closed′ ≡ take (p .closed) closed ++ p .records ∷ []
+  unfolding closed′
+  numbers = ap (λ (d : ℕ). take d (set closed (p .closed) (p .records))) (add-one (p .closed)) ∙ take-suc-set closed (p .closed) (p .records) more
 
-  earlier : map (shutOf es only to cl t sc) (take (p .closed) shut) ≡ map (shutOf es only to (closingWith cl (p .records) c) t sc) (take (p .closed) shut)
+  earlier : map (closedRecord es index targets cl t sc) (take (p .closed) closed) ≡ map (closedRecord es index targets (closingWith cl (p .records) c) t sc) (take (p .closed) closed)
   earlier =
-      map-agree (shutOf es only to cl t sc) (shutOf es only to (closingWith cl (p .records) c) t sc)
-      (all-mono (λ q l. ap (λ (d : ℕ). closedOf (nameOf es) only to t sc d q) (sym (closing-other cl (p .records) c q (omega arith)))) before)
+      map-agree (closedRecord es index targets cl t sc) (closedRecord es index targets (closingWith cl (p .records) c) t sc)
+      (all-mono (λ q l. ap (λ (d : ℕ). closedOf (nameOf es) index targets t sc d q) (sym (closing-other cl (p .records) c q (omega arith)))) before)
 
-  both : s .closed ++ closedOf (nameOf es) only to t sc c (p .records) ∷ []
-      ≡ map (shutOf es only to (closingWith cl (p .records) c) t sc) (take (p .closed + 1) shut′)
+  both : s .closed ++ closedOf (nameOf es) index targets t sc c (p .records) ∷ []
+      ≡ map (closedRecord es index targets (closingWith cl (p .records) c) t sc) (take (p .closed + 1) closed′)
   both =
-      ap (λ (l : List (Closed Float)). l ++ closedOf (nameOf es) only to t sc c (p .records) ∷ []) (H .closed ∙ earlier)
-      ∙ ap (λ (d : ℕ). map (shutOf es only to (closingWith cl (p .records) c) t sc) (take (p .closed) shut) ++ closedOf (nameOf es) only to t sc d (p .records) ∷ []) (sym (closing-own cl (p .records) c))
-      ∙ sym (map-append (shutOf es only to (closingWith cl (p .records) c) t sc) (take (p .closed) shut) (p .records ∷ []))
-      ∙ ap (λ (l : List ℕ). map (shutOf es only to (closingWith cl (p .records) c) t sc) l) (sym numbers)
+      ap (λ (l : List (Closed Float)). l ++ closedOf (nameOf es) index targets t sc c (p .records) ∷ []) (H .closed ∙ earlier)
+      ∙ ap (λ (d : ℕ). map (closedRecord es index targets (closingWith cl (p .records) c) t sc) (take (p .closed) closed) ++ closedOf (nameOf es) index targets t sc d (p .records) ∷ []) (sym (closing-own cl (p .records) c))
+      ∙ sym (map-append (closedRecord es index targets (closingWith cl (p .records) c) t sc) (take (p .closed) closed) (p .records ∷ []))
+      ∙ ap (λ (l : List ℕ). map (closedRecord es index targets (closingWith cl (p .records) c) t sc) l) (sym numbers)
 
-  holds-shut : Holds f g es x only to bs (closingWith cl (p .records) c) t sc ac queue (set shut (p .closed) (p .records)) order marks (withClosed p)
-      (shutState (closedOf (nameOf es) only to t sc c (p .records)) s)
-  unfolding shut′
-  holds-shut =
+  holds-closed : Holds f g es x index targets bs (closingWith cl (p .records) c) t sc ac queue (set closed (p .closed) (p .records)) order marks (withClosed p)
+      (closedState (closedOf (nameOf es) index targets t sc c (p .records)) s)
+  unfolding closed′
+  holds-closed =
       record {
         records = H .records;
         heap = H .heap;
         idle = H .idle;
         once = H .once;
         waiting = H .waiting;
-        shut-known = rw numbers (all-append (H .shut-known) (cons {x = p .records} (omega arith) nil));
+        closed-known = rw numbers (all-append (H .closed-known) (cons {x = p .records} (omega arith) nil));
         closed = both;
-        shut-room = let q = length-set shut (p .closed) (p .records) in omega arith;
+        closed-room = let q = length-set closed (p .closed) (p .records) in omega arith;
         pivotal = H .pivotal;
         pivotal-once = H .pivotal-once;
         pivotal-known = H .pivotal-known;
@@ -231,31 +231,31 @@ branches-other : (bs : ℕ → List Branches) (n q : ℕ) → q ≢ n → branch
 unfolding branchesWith
 branches-other bs n q d = rw (ne-eqb q n d, branchesWith)
 
-module _ (f : SearchInput) (g : Setting) (vs es x only to : List ℕ) (bs : ℕ → List Branches) (cl : ℕ → ℕ) (t : List ℕ) (sc : List Float) (ac queue shut order marks : List ℕ) (p : Progress) (s : State Float)
-    (taken : Taken) (C : Closing f g vs es x only to bs cl t sc ac queue shut order marks p s taken) where
+module _ (f : SearchInput) (g : Setting) (vs es x index targets : List ℕ) (bs : ℕ → List Branches) (cl : ℕ → ℕ) (t : List ℕ) (sc : List Float) (ac queue closed order marks : List ℕ) (p : Progress) (s : State Float)
+    (taken : Taken) (C : Closing f g vs es x index targets bs cl t sc ac queue closed order marks p s taken) where
   abbrev n : ℕ
   n = p .records
 
   abbrev r : ℕ
   r = taken .path
 
-  H : Holds f g es x only to bs cl t sc ac queue shut order marks p s
+  H : Holds f g es x index targets bs cl t sc ac queue closed order marks p s
   H = C .holds
 
-  G : Held only to (f .source) t sc n
+  G : Held index targets (f .source) t sc n
   G = H .records .held
 
-  A : Agrees f only to (nameOf es)
+  A : Agrees f index targets (nameOf es)
   A = C .ground .agrees
 
   I : Inside t sc n
   I = let a = C .paths in let b = C .scores in record { cells = omega arith; score = omega arith }
 
-  pub closing-table : Table only to t sc (taken .path + 1)
-  closing-table = table-front only to t sc n (r + 1) (G .table) (let q = C .known in omega arith)
+  pub closing-table : Table index targets t sc (taken .path + 1)
+  closing-table = table-front index targets t sc n (r + 1) (G .table) (let q = C .known in omega arith)
 
-  pub closing-shuts : Shuts g x ac t sc shut taken p
-  closing-shuts =
+  pub closing-taken : ClosesTaken g x ac t sc closed taken p
+  closing-taken =
       record {
         active = record { branches = bs r; stands = H .records .actives r (C .known) };
         room = I;
@@ -264,13 +264,13 @@ module _ (f : SearchInput) (g : Setting) (vs es x only to : List ℕ) (bs : ℕ 
         few = C .few;
       }
 
-  pub closed-elsewhere : (taken .vertex ≡ g .sink → ⊥) → ClosedOn f g es x only to bs t sc ac queue order p s taken p t sc shut marks
+  pub closed-elsewhere : (taken .vertex ≡ g .sink → ⊥) → ClosedOn f g es x index targets bs t sc ac queue order p s taken p t sc closed marks
   closed-elsewhere h =
       record {
         branches = bs;
         closings = cl;
         state = s;
-        is = close-elsewhere f (nameOf es) only to A t sc n taken (G .table) (G .rooted) I (C .known) (C .following) (bs r) (taken .vertex) s (λ e. h (e ∙ C .ground .sink));
+        is = close-elsewhere f (nameOf es) index targets A t sc n taken (G .table) (G .rooted) I (C .known) (C .following) (bs r) (taken .vertex) s (λ e. h (e ∙ C .ground .sink));
         holds = H;
         path = refl;
         following = C .following;
@@ -283,18 +283,18 @@ module _ (f : SearchInput) (g : Setting) (vs es x only to : List ℕ) (bs : ℕ 
     sunk : taken .vertex ≡ f .sink
     sunk = at ∙ sym (C .ground .sink)
 
-    own : All (λ e. e < length to) (edges only to t r)
-    own = edges-in only to t sc n (G .table) r (C .known)
+    own : All (λ e. e < length targets) (edges index targets t r)
+    own = edges-in index targets t sc n (G .table) r (C .known)
 
-    pub closed-open : hasStoppingEvidence f (bs (taken .path)) ≡ false → (marks′ : List ℕ) → Struck only marks (edges only to t (taken .path)) marks′
-        → ClosedOn f g es x only to bs t sc ac queue order p s taken p t sc shut marks′
+    pub closed-open : hasStoppingEvidence f (bs (taken .path)) ≡ false → (marks′ : List ℕ) → Struck index marks (edges index targets t (taken .path)) marks′
+        → ClosedOn f g es x index targets bs t sc ac queue order p s taken p t sc closed marks′
     closed-open e marks′ z =
         record {
           branches = bs;
           closings = cl;
-          state = crossedState (map (nameOf es) (edges only to t r)) s;
-          is = close-kept f (nameOf es) only to A t sc n taken (G .table) (G .rooted) I (C .known) (C .following) (bs r) (taken .vertex) s sunk e;
-          holds = holds-crossed f g es x only to bs cl t sc ac queue shut order marks p s H A (edges only to t r) own marks′ z;
+          state = crossedState (map (nameOf es) (edges index targets t r)) s;
+          is = close-kept f (nameOf es) index targets A t sc n taken (G .table) (G .rooted) I (C .known) (C .following) (bs r) (taken .vertex) s sunk e;
+          holds = holds-crossed f g es x index targets bs cl t sc ac queue closed order marks p s H A (edges index targets t r) own marks′ z;
           path = refl;
           following = C .following;
           apart = C .apart;
@@ -303,9 +303,9 @@ module _ (f : SearchInput) (g : Setting) (vs es x only to : List ℕ) (bs : ℕ 
         }
 
     module _ (e : hasStoppingEvidence f (bs (taken .path)) ≡ true) where
-      pub closed-over : g .most < closedRow t sc taken .edges → closing f es only to bs t sc taken s ≡ refused 11
+      pub closed-over : g .most < closedRow t sc taken .edges → closing f es index targets bs t sc taken s ≡ refused 11
       closed-over h =
-          close-over f (nameOf es) only to A t sc n taken (G .table) (G .rooted) I (C .known) (C .following) (bs r) (taken .vertex) s sunk e
+          close-over f (nameOf es) index targets A t sc n taken (G .table) (G .rooted) I (C .known) (C .following) (bs r) (taken .vertex) s sunk e
           (let q = C .ground .most in omega arith)
 
       module _ (h : closedRow t sc taken .edges ≤ g .most) where
@@ -321,14 +321,14 @@ module _ (f : SearchInput) (g : Setting) (vs es x only to : List ℕ) (bs : ℕ 
         bs′ : ℕ → List Branches
         bs′ = branchesWith bs n
 
-        kept : Kept f es only to bs t sc bs′ t′ sc′ n r
+        kept : Kept f es index targets bs t sc bs′ t′ sc′ n r
         unfolding t′ sc′ bs′
         kept =
             record {
               path = λ q l d.
-                  ap (λ (b : List Branches). viewOf f (nameOf es) only to b t′ sc′ q) (branches-other bs n q (omega arith))
-                  ∙ pushed-view only to (f .source) t sc n G I f (nameOf es) (bs q) (closedRow t sc taken) q l;
-              closed = λ c q l. pushed-closed only to (f .source) t sc n G I f (nameOf es) (closedRow t sc taken) c q l;
+                  ap (λ (b : List Branches). viewOf f (nameOf es) index targets b t′ sc′ q) (branches-other bs n q (omega arith))
+                  ∙ pushed-view index targets (f .source) t sc n G I f (nameOf es) (bs q) (closedRow t sc taken) q l;
+              closed = λ c q l. pushed-closed index targets (f .source) t sc n G I f (nameOf es) (closedRow t sc taken) c q l;
               joined = λ q l d. put-same t n (closedRow t sc taken) q 7 l (omega arith);
               parent = λ q l. put-same t n (closedRow t sc taken) q 0 l (omega arith);
               score = λ q l. getD-set-other sc n q (scoreOf sc r) nan (omega arith);
@@ -358,11 +358,11 @@ module _ (f : SearchInput) (g : Setting) (vs es x only to : List ℕ) (bs : ℕ 
             let z : n * g .active + treesOf t′ n ≡ n * g .active = let q = trees-new in omega arith in
             rw (z, branches-own bs n) (actives-none (g .cap) (g .nodes) x ac (n * g .active) (omega arith) (C .ground .nodes) (C .ground .wide))
 
-        records : Records f g es x only to bs′ t′ sc′ ac (n + 1)
+        records : Records f g es x index targets bs′ t′ sc′ ac (n + 1)
         unfolding t′ sc′ bs′
         records =
             record {
-              held = held-closed only to (f .source) t sc n G I taken (C .known) (C .following);
+              held = held-closed index targets (f .source) t sc n G I taken (C .known) (C .following);
               actives = λ q l. go-actives q (eq-or-lt-of-le (omega arith));
               trees = λ q l. go-trees q (eq-or-lt-of-le (omega arith));
               small = λ q l. go-small q (eq-or-lt-of-le (omega arith));
@@ -396,43 +396,43 @@ module _ (f : SearchInput) (g : Setting) (vs es x only to : List ℕ) (bs : ℕ 
             let z : q ≡ n = omega arith in
             rw z (put-at t n (closedRow t sc taken) (I .cells) 0 (omega arith) ∙ add-one r)
 
-        held : Holds f g es x only to bs′ cl t′ sc′ ac queue shut order marks (withRecords p (n + 1)) s
-        held = holds-kept f g es x only to bs cl t sc ac queue shut order marks p s H bs′ t′ sc′ ac (n + 1) r records (omega arith) kept (C .apart) parent-new
+        held : Holds f g es x index targets bs′ cl t′ sc′ ac queue closed order marks (withRecords p (n + 1)) s
+        held = holds-kept f g es x index targets bs cl t sc ac queue closed order marks p s H bs′ t′ sc′ ac (n + 1) r records (omega arith) kept (C .apart) parent-new
 
-        made : (marks′ : List ℕ) → Struck only marks (edges only to t′ r) marks′
-            → ClosedOn f g es x only to bs t sc ac queue order p s taken (withClosed p) t′ sc′ (set shut (p .closed) n) marks′
+        made : (marks′ : List ℕ) → Struck index marks (edges index targets t′ r) marks′
+            → ClosedOn f g es x index targets bs t sc ac queue order p s taken (withClosed p) t′ sc′ (set closed (p .closed) n) marks′
         unfolding t′ sc′ bs′
         made marks′ z =
-            let same : edges only to t′ r ≡ edges only to t r = edges-kept only to t t′ sc sc′ n (G .table) (λ a b i j. put-same t n (closedRow t sc taken) a b i (omega arith)) r (C .known) in
+            let same : edges index targets t′ r ≡ edges index targets t r = edges-kept index targets t t′ sc sc′ n (G .table) (λ a b i j. put-same t n (closedRow t sc taken) a b i (omega arith)) r (C .known) in
             let c = suc (length (s .closed)) in
-            let y : Struck only marks (edges only to t r) marks′ = rw same at z in
+            let y : Struck index marks (edges index targets t r) marks′ = rw same at z in
             record {
               branches = bs′;
               closings = closingWith cl n c;
-              state = crossedState (map (nameOf es) (edges only to t r)) (shutState (closedOf (nameOf es) only to t′ sc′ c n) s);
-              is = close-made f (nameOf es) only to A t sc n taken (G .table) (G .rooted) I (C .known) (C .following) (bs r) (taken .vertex) s sunk e (let q = C .ground .most in omega arith);
+              state = crossedState (map (nameOf es) (edges index targets t r)) (closedState (closedOf (nameOf es) index targets t′ sc′ c n) s);
+              is = close-made f (nameOf es) index targets A t sc n taken (G .table) (G .rooted) I (C .known) (C .following) (bs r) (taken .vertex) s sunk e (let q = C .ground .most in omega arith);
               holds =
-                  holds-crossed f g es x only to bs′ (closingWith cl n c) t′ sc′ ac queue (set shut (p .closed) n) order marks (withClosed p) (shutState (closedOf (nameOf es) only to t′ sc′ c n) s)
-                  (holds-shut f g es x only to bs′ cl t′ sc′ ac queue shut order marks p s held (H .shut-known) (C .more) c) A (edges only to t r) own marks′ y;
+                  holds-crossed f g es x index targets bs′ (closingWith cl n c) t′ sc′ ac queue (set closed (p .closed) n) order marks (withClosed p) (closedState (closedOf (nameOf es) index targets t′ sc′ c n) s)
+                  (holds-closed f g es x index targets bs′ cl t′ sc′ ac queue closed order marks p s held (H .closed-known) (C .more) c) A (edges index targets t r) own marks′ y;
               path =
-                  ap (λ (b : List Branches). viewOf f (nameOf es) only to b t′ sc′ r) (branches-other bs n r (let q = C .known in omega arith))
-                  ∙ pushed-view only to (f .source) t sc n G I f (nameOf es) (bs r) (closedRow t sc taken) r (C .known);
-              following = following-pushed only to (f .source) t sc n G I (closedRow t sc taken) taken (C .known) (C .following);
-              apart = apart-kept f g es x only to bs cl t sc ac queue shut order marks p s H bs′ t′ sc′ ac (n + 1) r records (omega arith) kept (C .apart) parent-new;
+                  ap (λ (b : List Branches). viewOf f (nameOf es) index targets b t′ sc′ r) (branches-other bs n r (let q = C .known in omega arith))
+                  ∙ pushed-view index targets (f .source) t sc n G I f (nameOf es) (bs r) (closedRow t sc taken) r (C .known);
+              following = following-pushed index targets (f .source) t sc n G I (closedRow t sc taken) taken (C .known) (C .following);
+              apart = apart-kept f g es x index targets bs cl t sc ac queue closed order marks p s H bs′ t′ sc′ ac (n + 1) r records (omega arith) kept (C .apart) parent-new;
               known = let q = C .known in omega arith;
               progress = inr refl;
             }
 
         -- the tables as the code leaves them
-        module _ (p″ : Progress) (t″ : List ℕ) (sc″ : List Float) (shut″ : List ℕ) (u : Shut g t sc shut taken p p″ t″ sc″ shut″) where
-          pub shut-table : Table only to t″ sc″ (taken .path + 1)
+        module _ (p″ : Progress) (t″ : List ℕ) (sc″ : List Float) (closed″ : List ℕ) (u : ClosedTaken g t sc closed taken p p″ t″ sc″ closed″) where
+          pub taken-table : Table index targets t″ sc″ (taken .path + 1)
           unfolding t′ sc′
-          shut-table = rw (u .cells, u .scores) (table-front only to t′ sc′ (n + 1) (r + 1) (records .held .table) (let q = C .known in omega arith))
+          taken-table = rw (u .cells, u .scores) (table-front index targets t′ sc′ (n + 1) (r + 1) (records .held .table) (let q = C .known in omega arith))
 
-          pub closed-made : (marks″ : List ℕ) → Struck only marks (edges only to t″ (taken .path)) marks″ → ClosedOn f g es x only to bs t sc ac queue order p s taken p″ t″ sc″ shut″ marks″
+          pub closed-made : (marks″ : List ℕ) → Struck index marks (edges index targets t″ (taken .path)) marks″ → ClosedOn f g es x index targets bs t sc ac queue order p s taken p″ t″ sc″ closed″ marks″
           unfolding t′ sc′
           closed-made marks″ z =
-              let y : Struck only marks (edges only to t′ r) marks″ = rw (u .cells) at z in
+              let y : Struck index marks (edges index targets t′ r) marks″ = rw (u .cells) at z in
               rw (u .progress, u .cells, u .scores, u .numbers) (made marks″ y)
 
 -- ---- what the code asks and says, by what it has read
@@ -443,42 +443,42 @@ on-on e = cc
 refused-on : {B : Type 0} {k : ℕ} {a : Progress} → Refused k ≡ On a → B
 refused-on e = let z : _≡_ {A = ℕ} 0 1 = cc in absurd (omega arith)
 
-module _ (g : Setting) (x only to t : List ℕ) (sc : List Float) (ac shut marks : List ℕ) (p : Progress) (taken : Taken) where
-  pub closed-away : (taken .vertex ≡ g .sink → ⊥) → ClosedAt g x only to t sc ac shut marks p taken (On p) t sc shut marks
-  closed-away h = record { is = λ f vs es bs cl queue order s C. closed-elsewhere f g vs es x only to bs cl t sc ac queue shut order marks p s taken C h }
+module _ (g : Setting) (x index targets t : List ℕ) (sc : List Float) (ac closed marks : List ℕ) (p : Progress) (taken : Taken) where
+  pub closed-away : (taken .vertex ≡ g .sink → ⊥) → ClosedAt g x index targets t sc ac closed marks p taken (On p) t sc closed marks
+  closed-away h = record { is = λ f vs es bs cl queue order s C. closed-elsewhere f g vs es x index targets bs cl t sc ac queue closed order marks p s taken C h }
 
-  pub closes-shuts : Closes g x only to t sc ac shut marks p taken → Shuts g x ac t sc shut taken p
-  closes-shuts P =
-      closing-shuts (P .input) g (P .vertices) (P .edges) x only to (P .branches) (P .closings) t sc ac (P .queue) shut (P .order) marks p (P .state) taken (P .all)
+  pub closes-taken : Closes g x index targets t sc ac closed marks p taken → ClosesTaken g x ac t sc closed taken p
+  closes-taken P =
+      closing-taken (P .input) g (P .vertices) (P .edges) x index targets (P .branches) (P .closings) t sc ac (P .queue) closed (P .order) marks p (P .state) taken (P .all)
 
-  pub closes-marks : Closes g x only to t sc ac shut marks p taken → length to ≤ length marks
+  pub closes-marks : Closes g x index targets t sc ac closed marks p taken → length targets ≤ length marks
   closes-marks P = P .all .holds .marks-room
 
-  module _ (at : taken .vertex ≡ g .sink) (a : Step) (t′ : List ℕ) (sc′ : List Float) (shut′ : List ℕ) (Z : Shutting g x ac t sc shut taken p a t′ sc′ shut′) where
-    module _ (f : SearchInput) (vs es : List ℕ) (bs : ℕ → List Branches) (cl : ℕ → ℕ) (queue order : List ℕ) (s : State Float) (C : Closing f g vs es x only to bs cl t sc ac queue shut order marks p s taken) where
+  module _ (at : taken .vertex ≡ g .sink) (a : Step) (t′ : List ℕ) (sc′ : List Float) (closed′ : List ℕ) (Z : ClosingTaken g x ac t sc closed taken p a t′ sc′ closed′) where
+    module _ (f : SearchInput) (vs es : List ℕ) (bs : ℕ → List Branches) (cl : ℕ → ℕ) (queue order : List ℕ) (s : State Float) (C : Closing f g vs es x index targets bs cl t sc ac queue closed order marks p s taken) where
       evidence : Z .evidence ≡ hasStoppingEvidence f (bs (taken .path))
       evidence = Z .stops .is f (bs (taken .path)) (C .ground .settings .symbolic) (C .ground .settings .threshold) (C .holds .records .actives (taken .path) (C .known))
 
-      refused-by : (b : Bool) (k : ℕ) → b ≡ hasStoppingEvidence f (bs (taken .path)) → ShutBy g t sc shut taken p b (Refused k) t′ sc′ shut′ → closing f es only to bs t sc taken s ≡ refused k
+      refused-by : (b : Bool) (k : ℕ) → b ≡ hasStoppingEvidence f (bs (taken .path)) → ClosedTakenBy g t sc closed taken p b (Refused k) t′ sc′ closed′ → closing f es index targets bs t sc taken s ≡ refused k
       refused-by false k e u = refused-on (u .answer)
       refused-by true k e u =
-          closed-over f g vs es x only to bs cl t sc ac queue shut order marks p s taken C at (sym e) (u .over) ∙ ap (λ (d : ℕ). refused d) (sym (u .number))
+          closed-over f g vs es x index targets bs cl t sc ac queue closed order marks p s taken C at (sym e) (u .over) ∙ ap (λ (d : ℕ). refused d) (sym (u .number))
 
-      on-by : (b : Bool) (q : Progress) → b ≡ hasStoppingEvidence f (bs (taken .path)) → ShutBy g t sc shut taken p b (On q) t′ sc′ shut′ → (marks′ : List ℕ)
-          → Struck only marks (edges only to t′ (taken .path)) marks′ → ClosedOn f g es x only to bs t sc ac queue order p s taken q t′ sc′ shut′ marks′
+      on-by : (b : Bool) (q : Progress) → b ≡ hasStoppingEvidence f (bs (taken .path)) → ClosedTakenBy g t sc closed taken p b (On q) t′ sc′ closed′ → (marks′ : List ℕ)
+          → Struck index marks (edges index targets t′ (taken .path)) marks′ → ClosedOn f g es x index targets bs t sc ac queue order p s taken q t′ sc′ closed′ marks′
       on-by false q e u marks′ z =
-          let y : Struck only marks (edges only to t (taken .path)) marks′ = rw (u .cells) at z in
-          rw (on-on (u .answer), u .cells, u .scores, u .numbers) (closed-open f g vs es x only to bs cl t sc ac queue shut order marks p s taken C at (sym e) marks′ y)
-      on-by true q e u marks′ z = closed-made f g vs es x only to bs cl t sc ac queue shut order marks p s taken C at (sym e) (u .fits) q t′ sc′ shut′ u marks′ z
+          let y : Struck index marks (edges index targets t (taken .path)) marks′ = rw (u .cells) at z in
+          rw (on-on (u .answer), u .cells, u .scores, u .numbers) (closed-open f g vs es x index targets bs cl t sc ac queue closed order marks p s taken C at (sym e) marks′ y)
+      on-by true q e u marks′ z = closed-made f g vs es x index targets bs cl t sc ac queue closed order marks p s taken C at (sym e) (u .fits) q t′ sc′ closed′ u marks′ z
 
-      table-by : (b : Bool) (q : Progress) → b ≡ hasStoppingEvidence f (bs (taken .path)) → ShutBy g t sc shut taken p b (On q) t′ sc′ shut′ → Table only to t′ sc′ (taken .path + 1)
-      table-by false q e u = rw (u .cells, u .scores) (closing-table f g vs es x only to bs cl t sc ac queue shut order marks p s taken C)
-      table-by true q e u = shut-table f g vs es x only to bs cl t sc ac queue shut order marks p s taken C at (sym e) (u .fits) q t′ sc′ shut′ u
+      table-by : (b : Bool) (q : Progress) → b ≡ hasStoppingEvidence f (bs (taken .path)) → ClosedTakenBy g t sc closed taken p b (On q) t′ sc′ closed′ → Table index targets t′ sc′ (taken .path + 1)
+      table-by false q e u = rw (u .cells, u .scores) (closing-table f g vs es x index targets bs cl t sc ac queue closed order marks p s taken C)
+      table-by true q e u = taken-table f g vs es x index targets bs cl t sc ac queue closed order marks p s taken C at (sym e) (u .fits) q t′ sc′ closed′ u
 
     abbrev By : Step → Type 0
-    By d = ShutBy g t sc shut taken p (Z .evidence) d t′ sc′ shut′
+    By d = ClosedTakenBy g t sc closed taken p (Z .evidence) d t′ sc′ closed′
 
-    pub closed-refused : (k : ℕ) → a ≡ Refused k → ClosedAt g x only to t sc ac shut marks p taken a t′ sc′ shut′ marks
+    pub closed-refused : (k : ℕ) → a ≡ Refused k → ClosedAt g x index targets t sc ac closed marks p taken a t′ sc′ closed′ marks
     closed-refused k e =
         rw e
         (record {
@@ -487,12 +487,12 @@ module _ (g : Setting) (x only to t : List ℕ) (sc : List Float) (ac shut marks
         })
 
     module _ (q : Progress) (e : a ≡ On q) where
-      pub closed-table : Closes g x only to t sc ac shut marks p taken → Table only to t′ sc′ (taken .path + 1)
+      pub closed-table : Closes g x index targets t sc ac closed marks p taken → Table index targets t′ sc′ (taken .path + 1)
       closed-table P =
           table-by (P .input) (P .vertices) (P .edges) (P .branches) (P .closings) (P .queue) (P .order) (P .state) (P .all) (Z .evidence) q
           (evidence (P .input) (P .vertices) (P .edges) (P .branches) (P .closings) (P .queue) (P .order) (P .state) (P .all)) (subst By e (Z .by))
 
-      pub closed-on : (marks′ : List ℕ) → Struck only marks (edges only to t′ (taken .path)) marks′ → ClosedAt g x only to t sc ac shut marks p taken (On q) t′ sc′ shut′ marks′
+      pub closed-on : (marks′ : List ℕ) → Struck index marks (edges index targets t′ (taken .path)) marks′ → ClosedAt g x index targets t sc ac closed marks p taken (On q) t′ sc′ closed′ marks′
       closed-on marks′ z =
           record {
             is = λ f vs es bs cl queue order s C.
@@ -500,28 +500,28 @@ module _ (g : Setting) (x only to t : List ℕ) (sc : List Float) (ac shut marks
           }
 
 -- ---- for callers: the step comes after a tree has joined, or has not
-module _ (f : SearchInput) (g : Setting) (vs es x only to : List ℕ) (bs : ℕ → List Branches) (cl : ℕ → ℕ) (t : List ℕ) (sc : List Float) (ac queue shut order marks : List ℕ) (p : Progress) (s : State Float)
-    (taken : Taken) (H : Holds f g es x only to bs cl t sc ac queue shut order marks p s) (known : taken .path < p .records) (apart : Apart sc queue (p .waiting) (taken .path))
-    (t′ : List ℕ) (sc′ : List Float) (ac′ : List ℕ) (J : Joined f g es x only to bs t sc (p .records) taken t′ sc′ ac′) where
+module _ (f : SearchInput) (g : Setting) (vs es x index targets : List ℕ) (bs : ℕ → List Branches) (cl : ℕ → ℕ) (t : List ℕ) (sc : List Float) (ac queue closed order marks : List ℕ) (p : Progress) (s : State Float)
+    (taken : Taken) (H : Holds f g es x index targets bs cl t sc ac queue closed order marks p s) (known : taken .path < p .records) (apart : Apart sc queue (p .waiting) (taken .path))
+    (t′ : List ℕ) (sc′ : List Float) (ac′ : List ℕ) (J : Joined f g es x index targets bs t sc (p .records) taken t′ sc′ ac′) where
   none-new : (q : ℕ) → p .records ≤ q → q < p .records → parentOf t′ q ≡ suc (taken .path)
   none-new q a b = absurd (omega arith)
 
   -- the state stays
-  pub joined-holds : Holds f g es x only to (J .branches) cl t′ sc′ ac′ queue shut order marks p s
+  pub joined-holds : Holds f g es x index targets (J .branches) cl t′ sc′ ac′ queue closed order marks p s
   joined-holds =
-      holds-kept f g es x only to bs cl t sc ac queue shut order marks p s H (J .branches) t′ sc′ ac′ (p .records) (taken .path) (J .records) (omega arith) (J .kept) apart none-new
+      holds-kept f g es x index targets bs cl t sc ac queue closed order marks p s H (J .branches) t′ sc′ ac′ (p .records) (taken .path) (J .records) (omega arith) (J .kept) apart none-new
 
   pub joined-apart : Apart sc′ queue (p .waiting) (taken .path)
   joined-apart =
-      apart-kept f g es x only to bs cl t sc ac queue shut order marks p s H (J .branches) t′ sc′ ac′ (p .records) (taken .path) (J .records) (omega arith) (J .kept) apart none-new
+      apart-kept f g es x index targets bs cl t sc ac queue closed order marks p s H (J .branches) t′ sc′ ac′ (p .records) (taken .path) (J .records) (omega arith) (J .kept) apart none-new
 
   -- and so does the chain after the path
-  pub joined-chain : chainAfter f (pathOf f es only to (J .branches) t′ sc′ (taken .path)) ≡ chainAfter f (pathOf f es only to bs t sc (taken .path))
+  pub joined-chain : chainAfter f (pathOf f es index targets (J .branches) t′ sc′ (taken .path)) ≡ chainAfter f (pathOf f es index targets bs t sc (taken .path))
   joined-chain = ap (λ (c : Closed Float). defs.chain f (defs.endFrom (f .source) (c .edges))) (J .kept .closed 0 (taken .path) known)
 
   -- what this step asks
-  pub joined-closing : Ground f g vs es x only to → p .closed < length shut → (p .records + 1) * 9 ≤ length t′ → p .records + 1 ≤ length sc′ → (p .records + 1) * g .active ≤ length ac′
-      → p .records + 1 < 2147483648 → Closing f g vs es x only to (J .branches) cl t′ sc′ ac′ queue shut order marks p s taken
+  pub joined-closing : Ground f g vs es x index targets → p .closed < length closed → (p .records + 1) * 9 ≤ length t′ → p .records + 1 ≤ length sc′ → (p .records + 1) * g .active ≤ length ac′
+      → p .records + 1 < 2147483648 → Closing f g vs es x index targets (J .branches) cl t′ sc′ ac′ queue closed order marks p s taken
   joined-closing G more a b c few =
       record {
         ground = G;

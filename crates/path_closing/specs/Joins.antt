@@ -45,42 +45,42 @@ use Rattle.search_state.specs.State.{pathOf, Records, Kept}
 -- ---- what the contract says
 
 -- the stores as a search f has them, when the path is taken: nothing has joined it yet, and no path has been made from it
-pub record Joining (f : SearchInput) (g : Setting) (vs es x only to : List ℕ) (bs : ℕ → List Branches) (t : List ℕ) (sc : List Float) (ac : List ℕ) (n : ℕ) (taken : Taken) : Type 0 where
-  pub ground : Ground f g vs es x only to
-  pub records : Records f g es x only to bs t sc ac n
+pub record Joining (f : SearchInput) (g : Setting) (vs es x index targets : List ℕ) (bs : ℕ → List Branches) (t : List ℕ) (sc : List Float) (ac : List ℕ) (n : ℕ) (taken : Taken) : Type 0 where
+  pub ground : Ground f g vs es x index targets
+  pub records : Records f g es x index targets bs t sc ac n
   pub known : taken .path < n
-  pub following : Following only to t (taken .path) taken
+  pub following : Following index targets t (taken .path) taken
   pub unjoined : joinedOf t (taken .path) ≡ 0
   pub childless : Childless t n (taken .path)
   pub room : n * g .active ≤ length ac
   pub few : n < 2147483648
 
 -- what the code asks: they are those of some search
-pub record Joins (g : Setting) (vs x only to t : List ℕ) (sc : List Float) (ac : List ℕ) (taken : Taken) : Type 0 where
+pub record Joins (g : Setting) (vs x index targets t : List ℕ) (sc : List Float) (ac : List ℕ) (taken : Taken) : Type 0 where
   pub input : SearchInput
   pub edges : List ℕ
   pub branches : ℕ → List Branches
   pub count : ℕ
-  pub all : Joining input g vs edges x only to branches t sc ac count taken
+  pub all : Joining input g vs edges x index targets branches t sc ac count taken
 
 -- the path after the tree has joined, or has not; the other paths stay
-pub record Joined (f : SearchInput) (g : Setting) (es x only to : List ℕ) (bs : ℕ → List Branches) (t : List ℕ) (sc : List Float) (n : ℕ) (taken : Taken) (t′ : List ℕ) (sc′ : List Float) (ac′ : List ℕ) : Type 0 where
+pub record Joined (f : SearchInput) (g : Setting) (es x index targets : List ℕ) (bs : ℕ → List Branches) (t : List ℕ) (sc : List Float) (n : ℕ) (taken : Taken) (t′ : List ℕ) (sc′ : List Float) (ac′ : List ℕ) : Type 0 where
   pub branches : ℕ → List Branches
-  pub is : joinTree f (taken .vertex) (pathOf f es only to bs t sc (taken .path)) ≡ ok (pathOf f es only to branches t′ sc′ (taken .path))
-  pub records : Records f g es x only to branches t′ sc′ ac′ n
-  pub kept : Kept f es only to bs t sc branches t′ sc′ n (taken .path)
+  pub is : joinTree f (taken .vertex) (pathOf f es index targets bs t sc (taken .path)) ≡ ok (pathOf f es index targets branches t′ sc′ (taken .path))
+  pub records : Records f g es x index targets branches t′ sc′ ac′ n
+  pub kept : Kept f es index targets bs t sc branches t′ sc′ n (taken .path)
   pub scores : sc′ ≡ sc
-  pub following : Following only to t′ (taken .path) taken
+  pub following : Following index targets t′ (taken .path) taken
   pub same : (q : ℕ) → q ≢ taken .path → branches q ≡ bs q
 
 abbrev pub JoinedBy : SearchInput → Setting → List ℕ → List ℕ → List ℕ → List ℕ → (ℕ → List Branches) → List ℕ → List Float → ℕ → Taken → PathAnswer → List ℕ → List Float → List ℕ → Type 0
-JoinedBy f g es x only to bs t sc n taken (Made m) t′ sc′ ac′ = Joined f g es x only to bs t sc n taken t′ sc′ ac′
-JoinedBy f g es x only to bs t sc n taken (Refused k) t′ sc′ ac′ = joinTree f (taken .vertex) (pathOf f es only to bs t sc (taken .path)) ≡ refused k
+JoinedBy f g es x index targets bs t sc n taken (Made m) t′ sc′ ac′ = Joined f g es x index targets bs t sc n taken t′ sc′ ac′
+JoinedBy f g es x index targets bs t sc n taken (Refused k) t′ sc′ ac′ = joinTree f (taken .vertex) (pathOf f es index targets bs t sc (taken .path)) ≡ refused k
 
 -- by the answer, for every search whose stores these are
-pub record TreeAdded (g : Setting) (vs x only to t : List ℕ) (sc : List Float) (ac : List ℕ) (taken : Taken) (r : PathAnswer) (t′ : List ℕ) (sc′ : List Float) (ac′ : List ℕ) : Type 0 where
-  pub is : (f : SearchInput) (es : List ℕ) (bs : ℕ → List Branches) (n : ℕ) → Joining f g vs es x only to bs t sc ac n taken
-      → JoinedBy f g es x only to bs t sc n taken r t′ sc′ ac′
+pub record TreeAdded (g : Setting) (vs x index targets t : List ℕ) (sc : List Float) (ac : List ℕ) (taken : Taken) (r : PathAnswer) (t′ : List ℕ) (sc′ : List Float) (ac′ : List ℕ) : Type 0 where
+  pub is : (f : SearchInput) (es : List ℕ) (bs : ℕ → List Branches) (n : ℕ) → Joining f g vs es x index targets bs t sc ac n taken
+      → JoinedBy f g es x index targets bs t sc n taken r t′ sc′ ac′
 
 -- ---- the tree at a vertex
 
@@ -110,20 +110,20 @@ module _ (vs x : List ℕ) (v s : ℕ) (e : s ≡ treeRoot vs v) where
       rooted-some z = record { none = λ y. absurd (ne y); some = λ _. (e, (λ y. z (h ∙ ap (λ (d : ℕ). cols x .kid d) e ∙ y))) }
 
 -- ---- the stores at a taken path
-module _ (f : SearchInput) (g : Setting) (vs es x only to : List ℕ) (bs : ℕ → List Branches) (t : List ℕ) (sc : List Float) (ac : List ℕ) (n : ℕ) (taken : Taken) (J : Joining f g vs es x only to bs t sc ac n taken) where
+module _ (f : SearchInput) (g : Setting) (vs es x index targets : List ℕ) (bs : ℕ → List Branches) (t : List ℕ) (sc : List Float) (ac : List ℕ) (n : ℕ) (taken : Taken) (J : Joining f g vs es x index targets bs t sc ac n taken) where
   abbrev r : ℕ
   r = taken .path
 
   abbrev v : ℕ
   v = taken .vertex
 
-  T : Table only to t sc n
+  T : Table index targets t sc n
   T = J .records .held .table
 
-  pub joining-vertex : taken .vertex < length only
+  pub joining-vertex : taken .vertex < length index
   joining-vertex =
-      subst (λ (d : ℕ). d < length only) (sym (J .following .vertex))
-      (after-low only to (J .ground .agrees .graph) _ (taken .chain) (T .rows r (J .known) .low) (J .following .chain .runs))
+      subst (λ (d : ℕ). d < length index) (sym (J .following .vertex))
+      (after-low index targets (J .ground .agrees .graph) _ (taken .chain) (T .rows r (J .known) .low) (J .following .chain .runs))
 
   pub joining-rootable : Rootable vs x (taken .vertex)
   joining-rootable =
@@ -135,16 +135,16 @@ module _ (f : SearchInput) (g : Setting) (vs es x only to : List ℕ) (bs : ℕ 
       }
 
   pub joining-inside : Inside t sc (taken .path)
-  joining-inside = inside only to t sc n T r (J .known)
+  joining-inside = inside index targets t sc n T r (J .known)
 
-  pub joining-table : Table only to t sc (taken .path + 1)
-  joining-table = table-front only to t sc n (r + 1) T (let q = J .known in omega arith)
+  pub joining-table : Table index targets t sc (taken .path + 1)
+  joining-table = table-front index targets t sc n (r + 1) T (let q = J .known in omega arith)
 
   many : length (bs r) ≡ treesOf t r
   many = let q = actives-many (g .cap) (g .nodes) x ac (r * g .active) (r * g .active + treesOf t r) (bs r) (J .records .actives r (J .known)) in omega arith
 
   -- nothing joins
-  left : joinTree f v (pathOf f es only to bs t sc r) ≡ ok (pathOf f es only to bs t sc r) → Joined f g es x only to bs t sc n taken t sc ac
+  left : joinTree f v (pathOf f es index targets bs t sc r) ≡ ok (pathOf f es index targets bs t sc r) → Joined f g es x index targets bs t sc n taken t sc ac
   left h =
       record {
         branches = bs;
@@ -156,15 +156,15 @@ module _ (f : SearchInput) (g : Setting) (vs es x only to : List ℕ) (bs : ℕ 
         same = λ q d. refl;
       }
 
-  pub joined-none : Rooted vs x (taken .vertex) 0 → Joined f g es x only to bs t sc n taken t sc ac
+  pub joined-none : Rooted vs x (taken .vertex) 0 → Joined f g es x index targets bs t sc n taken t sc ac
   joined-none k = go (k .none refl)
     where
-      go : (treeRoot vs v ≡ 0) ⊎ ((treeRoot vs v ≡ 0 → ⊥) × (cols x .kid (treeRoot vs v) ≡ 0)) → Joined f g es x only to bs t sc n taken t sc ac
-      go (inl z) = left (join-none only to t sc n r v T (J .known) f (nameOf es) (bs r) (J .ground .no-tree v joining-vertex z))
+      go : (treeRoot vs v ≡ 0) ⊎ ((treeRoot vs v ≡ 0 → ⊥) × (cols x .kid (treeRoot vs v) ≡ 0)) → Joined f g es x index targets bs t sc n taken t sc ac
+      go (inl z) = left (join-none index targets t sc n r v T (J .known) f (nameOf es) (bs r) (J .ground .no-tree v joining-vertex z))
       go (inr (ne, z)) =
           let w = J .ground .tree v joining-vertex ne in
           let h : hasBranch (w .below) ≡ false = leads-has (g .nodes) x _ (w .below) (w .leads) ∙ ap not (eq-eqb _ 0 z) in
-          left (join-bare only to t sc n r v T (J .known) f (nameOf es) (bs r) (w .below) (w .is) h)
+          left (join-bare index targets t sc n r v T (J .known) f (nameOf es) (bs r) (w .below) (w .is) h)
 
   -- ---- a tree that has a branch, in the slot s
   module _ (s : ℕ) (k : Rooted vs x (taken .vertex) s) (ne : s ≡ 0 → ⊥) where
@@ -177,10 +177,10 @@ module _ (f : SearchInput) (g : Setting) (vs es x only to : List ℕ) (bs : ℕ 
     has : hasBranch (tree .below) ≡ true
     has = leads-has (g .nodes) x _ (tree .below) (tree .leads) ∙ ap not (ne-eqb _ 0 (k .some ne .1))
 
-    seen-is : any (eqb v) (seen only to 0 t r) ≡ any (eqb v) (visited (hasTree f) only to (f .source) t r)
+    seen-is : any (eqb v) (seen index targets 0 t r) ≡ any (eqb v) (visited (hasTree f) index targets (f .source) t r)
     seen-is =
-        ap (λ (d : ℕ). any (eqb v) (seen only to d t r)) (sym (J .ground .source))
-        ∙ seen-visited (hasTree f) only to (f .source) v (rw (tree .is)) t r
+        ap (λ (d : ℕ). any (eqb v) (seen index targets d t r)) (sym (J .ground .source))
+        ∙ seen-visited (hasTree f) index targets (f .source) v (rw (tree .is)) t r
 
     pub joining-small : s < 65536
     joining-small =
@@ -191,17 +191,17 @@ module _ (f : SearchInput) (g : Setting) (vs es x only to : List ℕ) (bs : ℕ 
         omega arith
 
     -- "unless the path has visited it"
-    pub joined-had : true ≡ any (eqb (taken .vertex)) (seen only to 0 t (taken .path)) → Joined f g es x only to bs t sc n taken t sc ac
-    joined-had h = left (join-had only to t sc n r v T (J .known) f (nameOf es) (bs r) (tree .below) (tree .is) has (sym seen-is ∙ sym h))
+    pub joined-had : true ≡ any (eqb (taken .vertex)) (seen index targets 0 t (taken .path)) → Joined f g es x index targets bs t sc n taken t sc ac
+    joined-had h = left (join-had index targets t sc n r v T (J .known) f (nameOf es) (bs r) (tree .below) (tree .is) has (sym seen-is ∙ sym h))
 
-    module _ (fresh : false ≡ any (eqb (taken .vertex)) (seen only to 0 t (taken .path))) where
-      not-yet : any (eqb v) (visited (hasTree f) only to (f .source) t r) ≡ false
+    module _ (fresh : false ≡ any (eqb (taken .vertex)) (seen index targets 0 t (taken .path))) where
+      not-yet : any (eqb v) (visited (hasTree f) index targets (f .source) t r) ≡ false
       not-yet = sym seen-is ∙ sym fresh
 
       -- "More active trees than the maximum is 11."
-      pub joined-over : g .active ≤ treesOf t (taken .path) → joinTree f (taken .vertex) (pathOf f es only to bs t sc (taken .path)) ≡ refused 11
+      pub joined-over : g .active ≤ treesOf t (taken .path) → joinTree f (taken .vertex) (pathOf f es index targets bs t sc (taken .path)) ≡ refused 11
       joined-over h =
-          join-over only to t sc n r v T (J .known) f (nameOf es) (bs r) (tree .below) (tree .is) has not-yet many (let q = J .ground .active in omega arith)
+          join-over index targets t sc n r v T (J .known) f (nameOf es) (bs r) (tree .below) (tree .is) has not-yet many (let q = J .ground .active in omega arith)
 
       module _ (h : treesOf t (taken .path) < g .active) where
         -- the place in `active` where the slot is stored
@@ -265,15 +265,15 @@ module _ (f : SearchInput) (g : Setting) (vs es x only to : List ℕ) (bs : ℕ 
             in
             rw (own, e) j
 
-        records : Records f g es x only to bs′ t′ sc ac′ n
+        records : Records f g es x index targets bs′ t′ sc ac′ n
         unfolding t′ ac′
         records =
             record {
-              held = held-joined only to (f .source) t sc n r v (J .records .held) (J .known);
+              held = held-joined index targets (f .source) t sc n r v (J .records .held) (J .known);
               actives = λ q l. go-actives q l (ℕ-discrete q r);
               trees = λ q l. go-trees q l (ℕ-discrete q r);
               small = λ q l. go-small q l (ℕ-discrete q r);
-              short = λ q l. rw (joined-same only to t sc n r v T (J .known) q 3 l (omega arith)) (J .records .short q l);
+              short = λ q l. rw (joined-same index targets t sc n r v T (J .known) q 3 l (omega arith)) (J .records .short q l);
               number = J .records .number;
             }
           where
@@ -289,56 +289,56 @@ module _ (f : SearchInput) (g : Setting) (vs es x only to : List ℕ) (bs : ℕ 
             go-small q l (yes e) = rw (e, own) (all-append (J .records .small r (J .known)) (cons (J .ground .small v (tree .below) (tree .is)) nil))
             go-small q l (no d) = rw (other q d) (J .records .small q l)
 
-        made : Joined f g es x only to bs t sc n taken t′ sc ac′
+        made : Joined f g es x index targets bs t sc n taken t′ sc ac′
         unfolding t′
         made =
             record {
               branches = bs′;
               is =
-                  join-made only to t sc n r v T (J .known) f (nameOf es) (bs r) (tree .below) (tree .is) has not-yet many (J .unjoined) (let q = J .ground .active in omega arith)
-                  ∙ ap (λ (d : List Branches). ok (viewOf f (nameOf es) only to d t′ sc r)) (sym own);
+                  join-made index targets t sc n r v T (J .known) f (nameOf es) (bs r) (tree .below) (tree .is) has not-yet many (J .unjoined) (let q = J .ground .active in omega arith)
+                  ∙ ap (λ (d : List Branches). ok (viewOf f (nameOf es) index targets d t′ sc r)) (sym own);
               records = records;
               kept =
                   record {
                     path = λ q l d.
-                        ap (λ (c : List Branches). viewOf f (nameOf es) only to c t′ sc q) (other q d)
-                        ∙ joined-view only to (f .source) t sc n r v (J .records .held) (J .known) f (nameOf es) (bs q) (J .childless) q l d;
-                    closed = λ c q l. joined-closed only to (f .source) t sc n r v (J .records .held) (J .known) f (nameOf es) c q l;
+                        ap (λ (c : List Branches). viewOf f (nameOf es) index targets c t′ sc q) (other q d)
+                        ∙ joined-view index targets (f .source) t sc n r v (J .records .held) (J .known) f (nameOf es) (bs q) (J .childless) q l d;
+                    closed = λ c q l. joined-closed index targets (f .source) t sc n r v (J .records .held) (J .known) f (nameOf es) c q l;
                     joined = λ q l d. put-other t r (joinedRow (pathAt t sc r) v) q 7 d (omega arith);
-                    parent = λ q l. joined-same only to t sc n r v T (J .known) q 0 l (omega arith);
+                    parent = λ q l. joined-same index targets t sc n r v T (J .known) q 0 l (omega arith);
                     score = λ q l. refl;
                   };
               scores = refl;
-              following = following-joined only to (f .source) t sc n r v (J .records .held) (J .known) taken (J .known) (J .following);
+              following = following-joined index targets (f .source) t sc n r v (J .records .held) (J .known) taken (J .known) (J .following);
               same = other;
             }
 
         -- the tables as the code leaves them
         pub joined-made : (u : List ℕ) (sd : List Float) (ad : List ℕ) → u ≡ putCells t (taken .path) (joinedRow (pathAt t sc (taken .path)) (taken .vertex))
             → sd ≡ set sc (taken .path) (scoreOf sc (taken .path)) → ad ≡ set ac (taken .path * g .active + treesOf t (taken .path)) s
-            → Joined f g es x only to bs t sc n taken u sd ad
+            → Joined f g es x index targets bs t sc n taken u sd ad
         unfolding t′ ac′
         joined-made u sd ad a b c =
-            let e : sd ≡ sc = b ∙ joined-scores only to t sc n r v T (J .known) in
+            let e : sd ≡ sc = b ∙ joined-scores index targets t sc n r v T (J .known) in
             rw (a, e, c) made
 
 -- ---- what the code asks and says, by what it has read
-module _ (g : Setting) (vs x only to t : List ℕ) (sc : List Float) (ac : List ℕ) (taken : Taken) where
-  module _ (P : Joins g vs x only to t sc ac taken) where
+module _ (g : Setting) (vs x index targets t : List ℕ) (sc : List Float) (ac : List ℕ) (taken : Taken) where
+  module _ (P : Joins g vs x index targets t sc ac taken) where
     pub joins-rootable : (w : ℕ) → w ≡ taken .vertex → Rootable vs x w
-    joins-rootable w e = subst (λ (d : ℕ). Rootable vs x d) (sym e) (joining-rootable (P .input) g vs (P .edges) x only to (P .branches) t sc ac (P .count) taken (P .all))
+    joins-rootable w e = subst (λ (d : ℕ). Rootable vs x d) (sym e) (joining-rootable (P .input) g vs (P .edges) x index targets (P .branches) t sc ac (P .count) taken (P .all))
 
-    pub joins-table : Table only to t sc (taken .path + 1)
-    joins-table = joining-table (P .input) g vs (P .edges) x only to (P .branches) t sc ac (P .count) taken (P .all)
+    pub joins-table : Table index targets t sc (taken .path + 1)
+    joins-table = joining-table (P .input) g vs (P .edges) x index targets (P .branches) t sc ac (P .count) taken (P .all)
 
     pub joins-inside : Inside t sc (taken .path)
-    joins-inside = joining-inside (P .input) g vs (P .edges) x only to (P .branches) t sc ac (P .count) taken (P .all)
+    joins-inside = joining-inside (P .input) g vs (P .edges) x index targets (P .branches) t sc ac (P .count) taken (P .all)
 
     pub joins-path : taken .path + 1 < 4294967296
     joins-path = let a = P .all .known in let b = P .all .few in omega arith
 
     pub joins-vertex : taken .vertex + 1 < 4294967296
-    joins-vertex = let a = joining-vertex (P .input) g vs (P .edges) x only to (P .branches) t sc ac (P .count) taken (P .all) in let b = P .all .ground .few in omega arith
+    joins-vertex = let a = joining-vertex (P .input) g vs (P .edges) x index targets (P .branches) t sc ac (P .count) taken (P .all) in let b = P .all .ground .few in omega arith
 
     pub joins-active : g .active ≤ 64
     joins-active = P .all .ground .active-fits
@@ -347,21 +347,21 @@ module _ (g : Setting) (vs x only to t : List ℕ) (sc : List Float) (ac : List 
     here : Rooted vs x (taken .vertex) s
     here = subst (λ (d : ℕ). Rooted vs x d s) e k
 
-    pub added-none : (m : ℕ) → s ≡ 0 → TreeAdded g vs x only to t sc ac taken (Made m) t sc ac
-    added-none m z = record { is = λ f es bs n J. joined-none f g vs es x only to bs t sc ac n taken J (subst (λ (d : ℕ). Rooted vs x (taken .vertex) d) z here) }
+    pub added-none : (m : ℕ) → s ≡ 0 → TreeAdded g vs x index targets t sc ac taken (Made m) t sc ac
+    added-none m z = record { is = λ f es bs n J. joined-none f g vs es x index targets bs t sc ac n taken J (subst (λ (d : ℕ). Rooted vs x (taken .vertex) d) z here) }
 
-    module _ (ne : s ≡ 0 → ⊥) (b : Bool) (h : b ≡ any (eqb (taken .vertex)) (seen only to 0 t (taken .path))) where
-      pub added-had : (m : ℕ) → b ≡ true → TreeAdded g vs x only to t sc ac taken (Made m) t sc ac
-      added-had m z = record { is = λ f es bs n J. joined-had f g vs es x only to bs t sc ac n taken J s here ne (sym z ∙ h) }
+    module _ (ne : s ≡ 0 → ⊥) (b : Bool) (h : b ≡ any (eqb (taken .vertex)) (seen index targets 0 t (taken .path))) where
+      pub added-had : (m : ℕ) → b ≡ true → TreeAdded g vs x index targets t sc ac taken (Made m) t sc ac
+      added-had m z = record { is = λ f es bs n J. joined-had f g vs es x index targets bs t sc ac n taken J s here ne (sym z ∙ h) }
 
       module _ (z : b ≡ false) (most : ℕ) (me : most ≡ g .active) (r : PathAnswer) (t′ : List ℕ) (sc′ : List Float) (j : grow.Joined t sc (taken .path) (taken .vertex) most r t′ sc′) where
-        pub added-over : (i : ℕ) → r ≡ Refused i → TreeAdded g vs x only to t sc ac taken r t′ sc′ ac
+        pub added-over : (i : ℕ) → r ≡ Refused i → TreeAdded g vs x index targets t sc ac taken r t′ sc′ ac
         added-over i y =
             let a = held.joined-refused t sc (taken .path) (taken .vertex) most t′ sc′ i (subst (λ (d : PathAnswer). grow.Joined t sc (taken .path) (taken .vertex) most d t′ sc′) y j) in
             rw y
             (record {
               is = λ f es bs n J.
-                  joined-over f g vs es x only to bs t sc ac n taken J s here ne (sym z ∙ h) (let q = a .1 in omega arith)
+                  joined-over f g vs es x index targets bs t sc ac n taken J s here ne (sym z ∙ h) (let q = a .1 in omega arith)
                   ∙ ap (λ (d : ℕ). refused d) (sym (a .0 .number));
             })
 
@@ -376,20 +376,20 @@ module _ (g : Setting) (vs x only to t : List ℕ) (sc : List Float) (ac : List 
             trees : row .trees ≡ treesOf t (taken .path)
             trees = ap (λ (d : PathRecord). d .trees) re
 
-            pub added-place : Joins g vs x only to t sc ac taken → taken .path * g .active + row .trees < length ac
+            pub added-place : Joins g vs x index targets t sc ac taken → taken .path * g .active + row .trees < length ac
             added-place P =
-                let a = joining-place (P .input) g vs (P .edges) x only to (P .branches) t sc ac (P .count) taken (P .all) s here ne (sym z ∙ h) low in
+                let a = joining-place (P .input) g vs (P .edges) x index targets (P .branches) t sc ac (P .count) taken (P .all) s here ne (sym z ∙ h) low in
                 let b = trees in
                 omega arith
 
-            pub added-small : Joins g vs x only to t sc ac taken → s < 65536
-            added-small P = joining-small (P .input) g vs (P .edges) x only to (P .branches) t sc ac (P .count) taken (P .all) s here ne
+            pub added-small : Joins g vs x index targets t sc ac taken → s < 65536
+            added-small P = joining-small (P .input) g vs (P .edges) x index targets (P .branches) t sc ac (P .count) taken (P .all) s here ne
 
-            pub added-made : (i : ℕ) (ac′ : List ℕ) → ac′ ≡ set ac (taken .path * g .active + row .trees) s → TreeAdded g vs x only to t sc ac taken (Made i) t′ sc′ ac′
+            pub added-made : (i : ℕ) (ac′ : List ℕ) → ac′ ≡ set ac (taken .path * g .active + row .trees) s → TreeAdded g vs x index targets t sc ac taken (Made i) t′ sc′ ac′
             added-made i ac′ q =
                 record {
                   is = λ f es bs n J.
-                      joined-made f g vs es x only to bs t sc ac n taken J s here ne (sym z ∙ h) low t′ sc′ ac′ (put .0 .cells) (put .0 .scores)
+                      joined-made f g vs es x index targets bs t sc ac n taken J s here ne (sym z ∙ h) low t′ sc′ ac′ (put .0 .cells) (put .0 .scores)
                       (q ∙ ap (λ (d : ℕ). set ac (taken .path * g .active + d) s) trees);
                 }
 

@@ -1,3 +1,3 @@
 pub mod Closes
 pub mod Joins
-pub mod Shuts
+pub mod ClosesTaken

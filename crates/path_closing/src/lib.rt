@@ -18,7 +18,7 @@ ghost use mathlib.Core.Path.{_≡_};
 ghost use Prim.Native.Nat.{_+_, _*_, _<_};
 ghost use lib.ListN.{length, set};
 ghost use Rattle.path_closing.specs.Joins.{Joins, TreeAdded, Rootable, Rooted};
-ghost use Rattle.path_closing.specs.Shuts.{Shuts, Shutting};
+ghost use Rattle.path_closing.specs.ClosesTaken.{ClosesTaken, ClosingTaken};
 ghost use Rattle.path_closing.specs.Closes.{Closes, ClosedAt};
 
 // ---- a tree joins
@@ -51,22 +51,22 @@ fn store_tree(active: &mut [u16], path: u32, most: usize, trees: u32, s: usize)
 pub fn add_junction_tree(
     vertices: &[u32],
     nodes: &[u32],
-    only: &[u32],
-    to: &[u32],
+    index: &[u32],
+    targets: &[u32],
     paths: &mut [u32],
     scores: &mut [f64],
     active: &mut [u16],
     g: Setting,
     taken: Taken,
 ) -> PathAnswer
-    requires { ⌜ Joins g (now vertices) (now nodes) (now only) (now to) (now paths) (now scores) (now active) taken ⌝ }
-    ensures { λ r. ⌜ TreeAdded g (now (vertices .entry)) (now (nodes .entry)) (now (only .entry)) (now (to .entry)) (now (paths .entry)) (now (scores .entry)) (now (active .entry)) taken r (now (paths .exit)) (now (scores .exit)) (now (active .exit)) ⌝ }
+    requires { ⌜ Joins g (now vertices) (now nodes) (now index) (now targets) (now paths) (now scores) (now active) taken ⌝ }
+    ensures { λ r. ⌜ TreeAdded g (now (vertices .entry)) (now (nodes .entry)) (now (index .entry)) (now (targets .entry)) (now (paths .entry)) (now (scores .entry)) (now (active .entry)) taken r (now (paths .exit)) (now (scores .exit)) (now (active .exit)) ⌝ }
 {
     let s = joining_slot(vertices, nodes, wide(taken.vertex));
     if s == 0 {
         return PathAnswer::Made(taken.path);
     }
-    if has_visited(paths, scores, only, to, 0, taken.path, taken.vertex) {
+    if has_visited(paths, scores, index, targets, 0, taken.path, taken.vertex) {
         return PathAnswer::Made(taken.path);
     }
     let row = path_at(paths, scores, taken.path);
@@ -80,19 +80,19 @@ pub fn add_junction_tree(
 
 // ---- a path closes
 
-// A path at the sink closes where its active trees let it: with its chain it becomes the next record, whose number stands next in `shut`.
-fn shut_path(
+// A path at the sink closes where its active trees let it: with its chain it becomes the next record, whose number stands next in `closed`.
+fn close_taken(
     nodes: &[u32],
     paths: &mut [u32],
     scores: &mut [f64],
     active: &[u16],
-    shut: &mut [u32],
+    closed: &mut [u32],
     g: Setting,
     taken: Taken,
     p: Progress,
 ) -> Step
-    requires { ⌜ Shuts g (now nodes) (now active) (now paths) (now scores) (now shut) taken p ⌝ }
-    ensures { λ r. ⌜ Shutting g (now (nodes .entry)) (now (active .entry)) (now (paths .entry)) (now (scores .entry)) (now (shut .entry)) taken p r (now (paths .exit)) (now (scores .exit)) (now (shut .exit)) ⌝ }
+    requires { ⌜ ClosesTaken g (now nodes) (now active) (now paths) (now scores) (now closed) taken p ⌝ }
+    ensures { λ r. ⌜ ClosingTaken g (now (nodes .entry)) (now (active .entry)) (now (paths .entry)) (now (scores .entry)) (now (closed .entry)) taken p r (now (paths .exit)) (now (scores .exit)) (now (closed .exit)) ⌝ }
 {
     let row = path_at(paths, scores, taken.path);
     let at = wide(taken.path) * g.active;
@@ -115,7 +115,7 @@ fn shut_path(
         return Step::Refused(path_refusal(r));
     };
     let i = p.closed;
-    shut[i] = n;
+    closed[i] = n;
     Step::On(Progress {
         records: p.records + 1,
         waiting: p.waiting,
@@ -130,27 +130,27 @@ fn shut_path(
 // At the sink a path may close, which more edges than the maximum refuse with 11; closed or not, its edges before the chain are no longer pivotal.
 pub fn close_at_sink(
     nodes: &[u32],
-    only: &[u32],
-    to: &[u32],
+    index: &[u32],
+    targets: &[u32],
     paths: &mut [u32],
     scores: &mut [f64],
     active: &[u16],
-    shut: &mut [u32],
+    closed: &mut [u32],
     marks: &mut [u32],
     g: Setting,
     taken: Taken,
     p: Progress,
 ) -> Step
-    requires { ⌜ Closes g (now nodes) (now only) (now to) (now paths) (now scores) (now active) (now shut) (now marks) p taken ⌝ }
-    ensures { λ r. ⌜ ClosedAt g (now (nodes .entry)) (now (only .entry)) (now (to .entry)) (now (paths .entry)) (now (scores .entry)) (now (active .entry)) (now (shut .entry)) (now (marks .entry)) p taken r (now (paths .exit)) (now (scores .exit)) (now (shut .exit)) (now (marks .exit)) ⌝ }
+    requires { ⌜ Closes g (now nodes) (now index) (now targets) (now paths) (now scores) (now active) (now closed) (now marks) p taken ⌝ }
+    ensures { λ r. ⌜ ClosedAt g (now (nodes .entry)) (now (index .entry)) (now (targets .entry)) (now (paths .entry)) (now (scores .entry)) (now (active .entry)) (now (closed .entry)) (now (marks .entry)) p taken r (now (paths .exit)) (now (scores .exit)) (now (closed .exit)) (now (marks .exit)) ⌝ }
 {
     if taken.vertex != g.sink {
         return Step::On(p);
     }
-    let r = shut_path(nodes, paths, scores, active, shut, g, taken, p);
+    let r = close_taken(nodes, paths, scores, active, closed, g, taken, p);
     let Step::On(q) = r else {
         return r;
     };
-    cross_off(paths, scores, only, to, marks, taken.path);
+    cross_off(paths, scores, index, targets, marks, taken.path);
     Step::On(q)
 }

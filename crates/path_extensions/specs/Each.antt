@@ -43,8 +43,8 @@ rooms-place g t sc ac n R t′ sc′ ac′ m a b c h =
     let z : (m + 1) * g .active ≤ (n + 8) * g .active = mul-le-mul-right (g .active) h in
     record { paths = omega arith; scores = omega arith; actives = omega arith; number = omega arith }
 
-pub record OffersStand (g : Setting) (es x only to : List ℕ) (column : List Float) (t : List ℕ) (sc : List Float) (ac out : List ℕ) (n : ℕ) (taken : Taken) (k : ℕ) : Type 0 where
-  pub stands : Stands g es x only to t sc ac n taken
+pub record OffersStand (g : Setting) (es x index targets : List ℕ) (column : List Float) (t : List ℕ) (sc : List Float) (ac out : List ℕ) (n : ℕ) (taken : Taken) (k : ℕ) : Type 0 where
+  pub stands : Stands g es x index targets t sc ac n taken
   pub rooms : Rooms g t sc ac n
   pub fits : columnFits column ≡ true
   pub few : k ≤ 6
@@ -124,35 +124,35 @@ up-head a k h =
 
 -- ---- the loop
 
-pub record Tried (g : Setting) (es x only to : List ℕ) (column : List Float) (t₀ : List ℕ) (sc₀ : List Float) (out : List ℕ) (n : ℕ) (taken : Taken) (k : ℕ) (t : List ℕ) (sc : List Float)
+pub record Tried (g : Setting) (es x index targets : List ℕ) (column : List Float) (t₀ : List ℕ) (sc₀ : List Float) (out : List ℕ) (n : ℕ) (taken : Taken) (k : ℕ) (t : List ℕ) (sc : List Float)
     (ac : List ℕ) (made row : ℕ) (f : SearchInput) (bs : ℕ → List Branches) : Type 0 where
   pub done : List (Path Float)
-  pub to-here : MadeTo f g es x only to bs t₀ sc₀ n (taken .path) t sc ac made done
+  pub to-here : MadeTo f g es x index targets bs t₀ sc₀ n (taken .path) t sc ac made done
   pub most : made ≤ n + row
-  pub left : allTried column es out k f (pathOf f es only to bs t₀ sc₀ (taken .path))
-      ≡ rest (extend (columnScoring column) f (pathOf f es only to bs t₀ sc₀ (taken .path)) (chainOf f (pathOf f es only to bs t₀ sc₀ (taken .path)))) (repeatRule f)
+  pub left : allTried column es out k f (pathOf f es index targets bs t₀ sc₀ (taken .path))
+      ≡ rest (extend (columnScoring column) f (pathOf f es index targets bs t₀ sc₀ (taken .path)) (chainOf f (pathOf f es index targets bs t₀ sc₀ (taken .path)))) (repeatRule f)
       (map (offerAt es out) (upFrom row (k - row))) done
 
-pub record Trying (g : Setting) (es x only to : List ℕ) (column : List Float) (t₀ : List ℕ) (sc₀ : List Float) (ac₀ out : List ℕ) (n : ℕ) (taken : Taken) (k : ℕ) (t : List ℕ)
+pub record Trying (g : Setting) (es x index targets : List ℕ) (column : List Float) (t₀ : List ℕ) (sc₀ : List Float) (ac₀ out : List ℕ) (n : ℕ) (taken : Taken) (k : ℕ) (t : List ℕ)
     (sc : List Float) (ac : List ℕ) (made row : ℕ) : Type 0 where
-  pub run : (f : SearchInput) (bs : ℕ → List Branches) → Here g es x only to t₀ sc₀ ac₀ n taken f bs → Tried g es x only to column t₀ sc₀ out n taken k t sc ac made row f bs
+  pub run : (f : SearchInput) (bs : ℕ → List Branches) → Here g es x index targets t₀ sc₀ ac₀ n taken f bs → Tried g es x index targets column t₀ sc₀ out n taken k t sc ac made row f bs
   pub paths : length t ≡ length t₀
   pub scores : length sc ≡ length sc₀
   pub actives : length ac ≡ length ac₀
   pub low : row ≤ k
 
-module _ {g : Setting} {es x only to : List ℕ} {column : List Float} {t₀ : List ℕ} {sc₀ : List Float} {ac₀ out : List ℕ} {n : ℕ} {taken : Taken} {k : ℕ}
-    (O : OffersStand g es x only to column t₀ sc₀ ac₀ out n taken k) where
-  pub trying-start : Trying g es x only to column t₀ sc₀ ac₀ out n taken k t₀ sc₀ ac₀ n 0
+module _ {g : Setting} {es x index targets : List ℕ} {column : List Float} {t₀ : List ℕ} {sc₀ : List Float} {ac₀ out : List ℕ} {n : ℕ} {taken : Taken} {k : ℕ}
+    (O : OffersStand g es x index targets column t₀ sc₀ ac₀ out n taken k) where
+  pub trying-start : Trying g es x index targets column t₀ sc₀ ac₀ out n taken k t₀ sc₀ ac₀ n 0
   unfolding rest offersOf
   trying-start =
       record {
         run = λ f bs H.
-            let p = pathOf f es only to bs t₀ sc₀ (taken .path) in
+            let p = pathOf f es index targets bs t₀ sc₀ (taken .path) in
             let z : k - 0 ≡ k = omega arith in
             record {
               done = [];
-              to-here = made-none f g es x only to bs t₀ sc₀ n ac₀ (taken .path) (H .records);
+              to-here = made-none f g es x index targets bs t₀ sc₀ n ac₀ (taken .path) (H .records);
               most = omega arith;
               left =
                   ap (λ (os : List Offer). andThen (each (extend (columnScoring column) f p (chainOf f p)) os) (λ qs. ok (keep (repeatRule f) qs)))
@@ -164,9 +164,9 @@ module _ {g : Setting} {es x only to : List ℕ} {column : List Float} {t₀ : L
         low = omega arith;
       }
 
-  module _ {t : List ℕ} {sc : List Float} {ac : List ℕ} {made row : ℕ} (T : Trying g es x only to column t₀ sc₀ ac₀ out n taken k t sc ac made row) where
+  module _ {t : List ℕ} {sc : List Float} {ac : List ℕ} {made row : ℕ} (T : Trying g es x index targets column t₀ sc₀ ac₀ out n taken k t sc ac made row) where
     module _ (l : k ≤ row) where
-      pub trying-end : Gives g es x only to t₀ sc₀ ac₀ n taken 6 (allTried column es out k) (Made made) t sc ac
+      pub trying-end : Gives g es x index targets t₀ sc₀ ac₀ n taken 6 (allTried column es out k) (Made made) t sc ac
       unfolding rest
       trying-end =
           record {
@@ -176,7 +176,7 @@ module _ {g : Setting} {es x only to : List ℕ} {column : List Float} {t₀ : L
                 let b = T .low in
                 let d = q .most in
                 let e = O .few in
-                record { paths = q .done; is = q .left ∙ ended (map (offerAt es out) (upFrom row (k - row))) (none z) f (pathOf f es only to bs t₀ sc₀ (taken .path)) (q .done); made = q .to-here; most = omega arith };
+                record { paths = q .done; is = q .left ∙ ended (map (offerAt es out) (upFrom row (k - row))) (none z) f (pathOf f es index targets bs t₀ sc₀ (taken .path)) (q .done); made = q .to-here; most = omega arith };
           }
         where
           none : k - row ≡ 0 → map (offerAt es out) (upFrom row (k - row)) ≡ []
@@ -191,28 +191,28 @@ module _ {g : Setting} {es x only to : List ℕ} {column : List Float} {t₀ : L
           ended os e f p done = rw e (ap ok (nil-right done))
 
     module _ (l : row < k) where
-      module _ (f : SearchInput) (bs : ℕ → List Branches) (H : Here g es x only to t₀ sc₀ ac₀ n taken f bs) where
-        so-far : Tried g es x only to column t₀ sc₀ out n taken k t sc ac made row f bs
+      module _ (f : SearchInput) (bs : ℕ → List Branches) (H : Here g es x index targets t₀ sc₀ ac₀ n taken f bs) where
+        so-far : Tried g es x index targets column t₀ sc₀ out n taken k t sc ac made row f bs
         so-far = T .run f bs H
 
-        here-now : Here g es x only to t sc ac made taken f (so-far .to-here .bs′)
-        here-now = here-after g es x only to t₀ sc₀ ac₀ n taken f bs H t sc ac made (so-far .done) (so-far .to-here)
+        here-now : Here g es x index targets t sc ac made taken f (so-far .to-here .bs′)
+        here-now = here-after g es x index targets t₀ sc₀ ac₀ n taken f bs H t sc ac made (so-far .done) (so-far .to-here)
 
-        same-path : pathOf f es only to (so-far .to-here .bs′) t sc (taken .path) ≡ pathOf f es only to bs t₀ sc₀ (taken .path)
+        same-path : pathOf f es index targets (so-far .to-here .bs′) t sc (taken .path) ≡ pathOf f es index targets bs t₀ sc₀ (taken .path)
         same-path = let h = H .known in so-far .to-here .kept .path (taken .path) h (omega arith)
 
-        left-now : allTried column es out k f (pathOf f es only to bs t₀ sc₀ (taken .path))
-            ≡ rest (extend (columnScoring column) f (pathOf f es only to bs t₀ sc₀ (taken .path)) (chainOf f (pathOf f es only to bs t₀ sc₀ (taken .path)))) (repeatRule f)
+        left-now : allTried column es out k f (pathOf f es index targets bs t₀ sc₀ (taken .path))
+            ≡ rest (extend (columnScoring column) f (pathOf f es index targets bs t₀ sc₀ (taken .path)) (chainOf f (pathOf f es index targets bs t₀ sc₀ (taken .path)))) (repeatRule f)
             (offerAt es out row ∷ map (offerAt es out) (upFrom (row + 1) (k - (row + 1)))) (so-far .done)
         left-now =
             so-far .left
             ∙ ap
             (λ (is : List ℕ).
-            rest (extend (columnScoring column) f (pathOf f es only to bs t₀ sc₀ (taken .path)) (chainOf f (pathOf f es only to bs t₀ sc₀ (taken .path)))) (repeatRule f) (map (offerAt es out) is)
+            rest (extend (columnScoring column) f (pathOf f es index targets bs t₀ sc₀ (taken .path)) (chainOf f (pathOf f es index targets bs t₀ sc₀ (taken .path)))) (repeatRule f) (map (offerAt es out) is)
             (so-far .done))
             (up-head row k l)
 
-      pub trying-asks : OfferStands g es x only to column t sc ac out made taken row
+      pub trying-asks : OfferStands g es x index targets column t sc ac out made taken row
       unfolding so-far
       trying-asks =
           let H = O .stands .here in
@@ -229,38 +229,38 @@ module _ {g : Setting} {es x only to : List ℕ} {column : List Float} {t₀ : L
             edge = O .edges row l;
           }
 
-      module _ {r : Extended} {t′ : List ℕ} {sc′ : List Float} {ac′ : List ℕ} (G : Gives g es x only to t sc ac made taken 1 (tried column es out row) r t′ sc′ ac′) where
-        pub trying-stop : {j : ℕ} → r ≡ Refused j → Gives g es x only to t₀ sc₀ ac₀ n taken 6 (allTried column es out k) r t′ sc′ ac′
+      module _ {r : Extended} {t′ : List ℕ} {sc′ : List Float} {ac′ : List ℕ} (G : Gives g es x index targets t sc ac made taken 1 (tried column es out row) r t′ sc′ ac′) where
+        pub trying-stop : {j : ℕ} → r ≡ Refused j → Gives g es x index targets t₀ sc₀ ac₀ n taken 6 (allTried column es out k) r t′ sc′ ac′
         unfolding so-far
         trying-stop {j} e =
             rw e
             (record {
               is = λ f bs H.
-                  let told : tried column es out row f (pathOf f es only to (so-far f bs H .to-here .bs′) t sc (taken .path)) ≡ refused j = rw e at (G .is f (so-far f bs H .to-here .bs′) (here-now f bs H)) in
+                  let told : tried column es out row f (pathOf f es index targets (so-far f bs H .to-here .bs′) t sc (taken .path)) ≡ refused j = rw e at (G .is f (so-far f bs H .to-here .bs′) (here-now f bs H)) in
                   left-now f bs H
-                  ∙ rest-stop (extend (columnScoring column) f (pathOf f es only to bs t₀ sc₀ (taken .path)) (chainOf f (pathOf f es only to bs t₀ sc₀ (taken .path)))) (repeatRule f)
+                  ∙ rest-stop (extend (columnScoring column) f (pathOf f es index targets bs t₀ sc₀ (taken .path)) (chainOf f (pathOf f es index targets bs t₀ sc₀ (taken .path)))) (repeatRule f)
                   (offerAt es out row) (map (offerAt es out) (upFrom (row + 1) (k - (row + 1)))) (so-far f bs H .done) j
                   (ap (λ (p : Path Float). tried column es out row f p) (sym (same-path f bs H)) ∙ told);
             })
 
         pub trying-next : {m : ℕ} → r ≡ Made m → length t′ ≡ length t → length sc′ ≡ length sc → length ac′ ≡ length ac
-            → Trying g es x only to column t₀ sc₀ ac₀ out n taken k t′ sc′ ac′ m (row + 1)
+            → Trying g es x index targets column t₀ sc₀ ac₀ out n taken k t′ sc′ ac′ m (row + 1)
         unfolding so-far
         trying-next {m} e a b c =
             record {
               run = λ f bs H.
                   let S = so-far f bs H in
-                  let R : Run f g es x only to (S .to-here .bs′) t sc made (taken .path) t′ sc′ ac′ 1 (tried column es out row f (pathOf f es only to (S .to-here .bs′) t sc (taken .path))) m
+                  let R : Run f g es x index targets (S .to-here .bs′) t sc made (taken .path) t′ sc′ ac′ 1 (tried column es out row f (pathOf f es index targets (S .to-here .bs′) t sc (taken .path))) m
                   = rw e at (G .is f (S .to-here .bs′) (here-now f bs H)) in
                   let u = S .most in
                   let v = R .most in
                   record {
                     done = S .done ++ R .paths;
-                    to-here = made-both f g es x only to bs t₀ sc₀ n (taken .path) t sc ac made (S .done) (S .to-here) t′ sc′ ac′ m (R .paths) (R .made);
+                    to-here = made-both f g es x index targets bs t₀ sc₀ n (taken .path) t sc ac made (S .done) (S .to-here) t′ sc′ ac′ m (R .paths) (R .made);
                     most = omega arith;
                     left =
                         left-now f bs H
-                        ∙ rest-step (extend (columnScoring column) f (pathOf f es only to bs t₀ sc₀ (taken .path)) (chainOf f (pathOf f es only to bs t₀ sc₀ (taken .path)))) (repeatRule f)
+                        ∙ rest-step (extend (columnScoring column) f (pathOf f es index targets bs t₀ sc₀ (taken .path)) (chainOf f (pathOf f es index targets bs t₀ sc₀ (taken .path)))) (repeatRule f)
                         (offerAt es out row) (map (offerAt es out) (upFrom (row + 1) (k - (row + 1)))) (S .done) (R .paths)
                         (ap (λ (p : Path Float). tried column es out row f p) (sym (same-path f bs H)) ∙ R .is);
                   };

@@ -19,24 +19,24 @@ use Rattle.search_state.specs.Ground.{Ground, nameOf}
 use Rattle.search_state.specs.State.{pathOf, Records, Kept, New, Idle, upFrom}
 
 -- the search's tables, of which n records are made, and a taken one of them with the chain after it
-pub record Here (g : Setting) (es x only to t : List ℕ) (sc : List Float) (ac : List ℕ) (n : ℕ) (taken : Taken) (f : SearchInput) (bs : ℕ → List Branches) : Type 0 where
+pub record Here (g : Setting) (es x index targets t : List ℕ) (sc : List Float) (ac : List ℕ) (n : ℕ) (taken : Taken) (f : SearchInput) (bs : ℕ → List Branches) : Type 0 where
   pub vertices : List ℕ
-  pub ground : Ground f g vertices es x only to
-  pub records : Records f g es x only to bs t sc ac n
+  pub ground : Ground f g vertices es x index targets
+  pub records : Records f g es x index targets bs t sc ac n
   pub known : taken .path < n
-  pub follows : Following only to t (taken .path) taken
+  pub follows : Following index targets t (taken .path) taken
 
 -- The records n to n′ - 1 are made from the record `path`, and are the paths ps; those before n stay.
-pub record MadeTo (f : SearchInput) (g : Setting) (es x only to : List ℕ) (bs : ℕ → List Branches) (t : List ℕ) (sc : List Float) (n path : ℕ) (t′ : List ℕ) (sc′ : List Float) (ac′ : List ℕ)
+pub record MadeTo (f : SearchInput) (g : Setting) (es x index targets : List ℕ) (bs : ℕ → List Branches) (t : List ℕ) (sc : List Float) (n path : ℕ) (t′ : List ℕ) (sc′ : List Float) (ac′ : List ℕ)
     (n′ : ℕ) (ps : List (Path Float)) : Type 0 where
   pub bs′ : ℕ → List Branches
-  pub records : Records f g es x only to bs′ t′ sc′ ac′ n′
-  pub kept : Kept f es only to bs t sc bs′ t′ sc′ n n
+  pub records : Records f g es x index targets bs′ t′ sc′ ac′ n′
+  pub kept : Kept f es index targets bs t sc bs′ t′ sc′ n n
   pub same : (q : ℕ) → q < n → bs′ q ≡ bs q
   pub cells : Same 9 t t′ n
   pub up : n ≤ n′
   pub new : New t′ n n′ path
-  pub is : ps ≡ map (pathOf f es only to bs′ t′ sc′) (upFrom n (n′ - n))
+  pub is : ps ≡ map (pathOf f es index targets bs′ t′ sc′) (upFrom n (n′ - n))
 
 -- ---- numbers in a row
 
@@ -67,11 +67,11 @@ up-one a = let z : a + 1 - a ≡ 1 = omega arith in rw z
 
 -- ---- the first records stay
 
-module _ (f : SearchInput) (g : Setting) (es x only to : List ℕ) where
-  pub records-front : (bs : ℕ → List Branches) (t : List ℕ) (sc : List Float) (ac : List ℕ) (n m : ℕ) → Records f g es x only to bs t sc ac n → m ≤ n → Records f g es x only to bs t sc ac m
+module _ (f : SearchInput) (g : Setting) (es x index targets : List ℕ) where
+  pub records-front : (bs : ℕ → List Branches) (t : List ℕ) (sc : List Float) (ac : List ℕ) (n m : ℕ) → Records f g es x index targets bs t sc ac n → m ≤ n → Records f g es x index targets bs t sc ac m
   records-front bs t sc ac n m R l =
       record {
-        held = record { table = table-front only to t sc n m (R .held .table) l; rooted = λ r h. R .held .rooted r (omega arith) };
+        held = record { table = table-front index targets t sc n m (R .held .table) l; rooted = λ r h. R .held .rooted r (omega arith) };
         actives = λ r h. R .actives r (omega arith);
         small = λ r h. R .small r (omega arith);
         short = λ r h. R .short r (omega arith);
@@ -80,20 +80,20 @@ module _ (f : SearchInput) (g : Setting) (es x only to : List ℕ) where
       }
 
   module _ (bs : ℕ → List Branches) (t : List ℕ) (sc : List Float) (n : ℕ) where
-    pub kept-of : Held only to (f .source) t sc n → (bs′ : ℕ → List Branches) (u : List ℕ) (sd : List Float) → Same 9 t u n → ((q : ℕ) → q < n → scoreOf sd q ≡ scoreOf sc q)
-        → ((q : ℕ) → q < n → bs′ q ≡ bs q) → Kept f es only to bs t sc bs′ u sd n n
+    pub kept-of : Held index targets (f .source) t sc n → (bs′ : ℕ → List Branches) (u : List ℕ) (sd : List Float) → Same 9 t u n → ((q : ℕ) → q < n → scoreOf sd q ≡ scoreOf sc q)
+        → ((q : ℕ) → q < n → bs′ q ≡ bs q) → Kept f es index targets bs t sc bs′ u sd n n
     kept-of H bs′ u sd c s b =
         record {
           path = λ q l m.
-              ap (λ (d : List Branches). viewOf f (nameOf es) only to d u sd q) (b q l) ∙ view-kept f (nameOf es) only to (bs q) t u sc sd n q (H .table) c (s q l) l;
-          closed = λ k q l. closed-kept f (nameOf es) only to t u sc sd n k q (H .table) (λ a j h i. c a j h (omega arith)) (s q l) l;
+              ap (λ (d : List Branches). viewOf f (nameOf es) index targets d u sd q) (b q l) ∙ view-kept f (nameOf es) index targets (bs q) t u sc sd n q (H .table) c (s q l) l;
+          closed = λ k q l. closed-kept f (nameOf es) index targets t u sc sd n k q (H .table) (λ a j h i. c a j h (omega arith)) (s q l) l;
           joined = λ q l m. c q 7 l (omega arith);
           parent = λ q l. c q 0 l (omega arith);
           score = s;
         }
 
     -- nothing is made
-    pub made-none : (ac : List ℕ) (path : ℕ) → Records f g es x only to bs t sc ac n → MadeTo f g es x only to bs t sc n path t sc ac n []
+    pub made-none : (ac : List ℕ) (path : ℕ) → Records f g es x index targets bs t sc ac n → MadeTo f g es x index targets bs t sc n path t sc ac n []
     made-none ac path R =
         record {
           bs′ = bs;
@@ -103,12 +103,12 @@ module _ (f : SearchInput) (g : Setting) (es x only to : List ℕ) where
           cells = λ r j h k. refl;
           up = omega arith;
           new = record { unjoined = λ q a b. absurd (omega arith); parent = λ q a b. absurd (omega arith) };
-          is = sym (ap (map (pathOf f es only to bs t sc)) (up-none n n (omega arith)));
+          is = sym (ap (map (pathOf f es index targets bs t sc)) (up-none n n (omega arith)));
         }
 
     module _ (path : ℕ) (t′ : List ℕ) (sc′ : List Float) (ac′ : List ℕ) where
       -- the last record made is given up: the next one takes its number
-      pub given-up : (m : ℕ) (ps : List (Path Float)) → MadeTo f g es x only to bs t sc n path t′ sc′ ac′ m ps → MadeTo f g es x only to bs t sc n path t′ sc′ ac′ n []
+      pub given-up : (m : ℕ) (ps : List (Path Float)) → MadeTo f g es x index targets bs t sc n path t′ sc′ ac′ m ps → MadeTo f g es x index targets bs t sc n path t′ sc′ ac′ n []
       given-up m ps M =
           record {
             bs′ = M .bs′;
@@ -118,20 +118,20 @@ module _ (f : SearchInput) (g : Setting) (es x only to : List ℕ) where
             cells = M .cells;
             up = omega arith;
             new = record { unjoined = λ q a b. absurd (omega arith); parent = λ q a b. absurd (omega arith) };
-            is = sym (ap (map (pathOf f es only to (M .bs′) t′ sc′)) (up-none n n (omega arith)));
+            is = sym (ap (map (pathOf f es index targets (M .bs′) t′ sc′)) (up-none n n (omega arith)));
           }
 
       -- more are made after those
-      module _ (n₁ : ℕ) (ps : List (Path Float)) (M : MadeTo f g es x only to bs t sc n path t′ sc′ ac′ n₁ ps) (u : List ℕ) (sd : List Float) (ad : List ℕ) (n₂ : ℕ) (qs : List (Path Float))
-          (N : MadeTo f g es x only to (M .bs′) t′ sc′ n₁ path u sd ad n₂ qs) where
-        joined : ps ++ qs ≡ map (pathOf f es only to (N .bs′) u sd) (upFrom n (n₂ - n))
+      module _ (n₁ : ℕ) (ps : List (Path Float)) (M : MadeTo f g es x index targets bs t sc n path t′ sc′ ac′ n₁ ps) (u : List ℕ) (sd : List Float) (ad : List ℕ) (n₂ : ℕ) (qs : List (Path Float))
+          (N : MadeTo f g es x index targets (M .bs′) t′ sc′ n₁ path u sd ad n₂ qs) where
+        joined : ps ++ qs ≡ map (pathOf f es index targets (N .bs′) u sd) (upFrom n (n₂ - n))
         joined =
             let a = M .up in
             let b = N .up in
             let z : (n₁ - n) + (n₂ - n₁) ≡ n₂ - n = omega arith in
             let y : n + (n₁ - n) ≡ n₁ = omega arith in
-            let F = pathOf f es only to (M .bs′) t′ sc′ in
-            let G = pathOf f es only to (N .bs′) u sd in
+            let F = pathOf f es index targets (M .bs′) t′ sc′ in
+            let G = pathOf f es index targets (N .bs′) u sd in
             let e : ps ≡ map G (upFrom n (n₁ - n)) = M .is ∙ sym (map-same G F n (n₁ - n) (λ q l m. N .kept .path q (omega arith) (omega arith))) in
             ap (λ (l : List (Path Float)). l ++ qs) e
             ∙ ap (λ (l : List (Path Float)). map G (upFrom n (n₁ - n)) ++ l) (N .is)
@@ -151,7 +151,7 @@ module _ (f : SearchInput) (g : Setting) (es x only to : List ℕ) where
             go below beyond (yes h) = below h
             go below beyond (no h) = beyond (omega arith)
 
-        pub made-both : MadeTo f g es x only to bs t sc n path u sd ad n₂ (ps ++ qs)
+        pub made-both : MadeTo f g es x index targets bs t sc n path u sd ad n₂ (ps ++ qs)
         unfolding joined newer
         made-both =
             let a = M .up in
@@ -175,10 +175,10 @@ module _ (f : SearchInput) (g : Setting) (es x only to : List ℕ) where
             }
 
 -- the taken path is still there
-pub here-after : (g : Setting) (es x only to t : List ℕ) (sc : List Float) (ac : List ℕ) (n : ℕ) (taken : Taken) (f : SearchInput) (bs : ℕ → List Branches)
-    → Here g es x only to t sc ac n taken f bs → (t′ : List ℕ) (sc′ : List Float) (ac′ : List ℕ) (n′ : ℕ) (ps : List (Path Float))
-    → (M : MadeTo f g es x only to bs t sc n (taken .path) t′ sc′ ac′ n′ ps) → Here g es x only to t′ sc′ ac′ n′ taken f (M .bs′)
-here-after g es x only to t sc ac n taken f bs H t′ sc′ ac′ n′ ps M =
+pub here-after : (g : Setting) (es x index targets t : List ℕ) (sc : List Float) (ac : List ℕ) (n : ℕ) (taken : Taken) (f : SearchInput) (bs : ℕ → List Branches)
+    → Here g es x index targets t sc ac n taken f bs → (t′ : List ℕ) (sc′ : List Float) (ac′ : List ℕ) (n′ : ℕ) (ps : List (Path Float))
+    → (M : MadeTo f g es x index targets bs t sc n (taken .path) t′ sc′ ac′ n′ ps) → Here g es x index targets t′ sc′ ac′ n′ taken f (M .bs′)
+here-after g es x index targets t sc ac n taken f bs H t′ sc′ ac′ n′ ps M =
     let e : endOf t′ (taken .path) ≡ endOf t (taken .path) = M .cells (taken .path) 4 (H .known) (omega arith) in
     let a = M .up in
     let b = H .known in
@@ -193,14 +193,14 @@ here-after g es x only to t sc ac n taken f bs H t′ sc′ ac′ n′ ps M =
 -- ---- for callers
 
 -- all records stay, so all but any one do
-pub kept-but : {f : SearchInput} {es only to : List ℕ} {bs : ℕ → List Branches} {t : List ℕ} {sc : List Float} {bs′ : ℕ → List Branches} {t′ : List ℕ} {sc′ : List Float} {n : ℕ} (r : ℕ)
-    → Kept f es only to bs t sc bs′ t′ sc′ n n → Kept f es only to bs t sc bs′ t′ sc′ n r
+pub kept-but : {f : SearchInput} {es index targets : List ℕ} {bs : ℕ → List Branches} {t : List ℕ} {sc : List Float} {bs′ : ℕ → List Branches} {t′ : List ℕ} {sc′ : List Float} {n : ℕ} (r : ℕ)
+    → Kept f es index targets bs t sc bs′ t′ sc′ n n → Kept f es index targets bs t sc bs′ t′ sc′ n r
 kept-but r K =
     record { path = λ q l m. K .path q l (omega arith); closed = K .closed; joined = λ q l m. K .joined q l (omega arith); parent = K .parent; score = K .score }
 
 -- a new record may wait
-pub made-idle : {f : SearchInput} {g : Setting} {es x only to : List ℕ} {bs : ℕ → List Branches} {t : List ℕ} {sc : List Float} {n path : ℕ} {t′ : List ℕ} {sc′ : List Float} {ac′ : List ℕ} {n′ : ℕ}
-    {ps : List (Path Float)} → MadeTo f g es x only to bs t sc n path t′ sc′ ac′ n′ ps → path < n → (q : ℕ) → n ≤ q → q < n′ → Idle t′ n′ q
+pub made-idle : {f : SearchInput} {g : Setting} {es x index targets : List ℕ} {bs : ℕ → List Branches} {t : List ℕ} {sc : List Float} {n path : ℕ} {t′ : List ℕ} {sc′ : List Float} {ac′ : List ℕ} {n′ : ℕ}
+    {ps : List (Path Float)} → MadeTo f g es x index targets bs t sc n path t′ sc′ ac′ n′ ps → path < n → (q : ℕ) → n ≤ q → q < n′ → Idle t′ n′ q
 made-idle {n} {path} {t′} {n′} M k q l m = record { known = m; unjoined = M .new .unjoined q l m; childless = λ i h. apart i h (decLt i n) }
   where
     apart : (i : ℕ) → i < n′ → Dec (i < n) → parentOf t′ i ≢ suc q

@@ -65,17 +65,17 @@ priced-some (some d) s h = let y : d ≡ s = cc in ap some y
 
 -- ---- what is asked and what is made
 
-pub record OfferStands (g : Setting) (es x only to : List ℕ) (column : List Float) (t : List ℕ) (sc : List Float) (ac out : List ℕ) (n : ℕ) (taken : Taken) (row : ℕ) : Type 0 where
-  pub stands : Stands g es x only to t sc ac n taken
+pub record OfferStands (g : Setting) (es x index targets : List ℕ) (column : List Float) (t : List ℕ) (sc : List Float) (ac out : List ℕ) (n : ℕ) (taken : Taken) (row : ℕ) : Type 0 where
+  pub stands : Stands g es x index targets t sc ac n taken
   pub place : Place g t sc ac n
   pub fits : columnFits column ≡ true
   pub room : HasOffer out row
   pub edge : offerEdge out row < g .edges
 
 -- the same for some table of sole edges, which the extension itself does not read
-pub record Offering (g : Setting) (es x to : List ℕ) (column : List Float) (t : List ℕ) (sc : List Float) (ac out : List ℕ) (n : ℕ) (taken : Taken) (row : ℕ) : Type 0 where
-  pub only : List ℕ
-  pub it : OfferStands g es x only to column t sc ac out n taken row
+pub record Offering (g : Setting) (es x targets : List ℕ) (column : List Float) (t : List ℕ) (sc : List Float) (ac out : List ℕ) (n : ℕ) (taken : Taken) (row : ℕ) : Type 0 where
+  pub index : List ℕ
+  pub it : OfferStands g es x index targets column t sc ac out n taken row
 
 abbrev pub extended : List Float → List ℕ → List ℕ → ℕ → SearchInput → Path Float → Result (Path Float)
 extended column es out row f p = extend (columnScoring column) f p (chainOf f p) (offerAt es out row)
@@ -116,18 +116,18 @@ score-fine column out j s₀ s c h k = go (columnPenalty column (offerCount out 
     go none e k = let z : _≡_ {A = ℕ} 0 1 = cc in absurd (omega arith)
     go (some d) e k = let y : add binary64 s₀ d ≡ s = cc in rw (← y) (column-keeps column c .plus-fine s₀ d (offerCount out j) (offerTotal out j) h e)
 
-module _ {g : Setting} {es x to : List ℕ} {column : List Float} {t : List ℕ} {sc : List Float} {ac out : List ℕ} {n : ℕ} {taken : Taken} {row : ℕ}
-    (O : Offering g es x to column t sc ac out n taken row) where
+module _ {g : Setting} {es x targets : List ℕ} {column : List Float} {t : List ℕ} {sc : List Float} {ac out : List ℕ} {n : ℕ} {taken : Taken} {row : ℕ}
+    (O : Offering g es x targets column t sc ac out n taken row) where
   pub parent-scored : taken .path < length sc
   parent-scored = let h = O .it .stands .here .known in let k = O .it .place .scores in omega arith
 
   module _ {p : Penalty} (hp : penaltyOf p ≡ priced (offerScore column out row (scoreOf sc (taken .path)))) where
-    pub offer-refused : (m : ℕ) → p ≡ Penalty.Refused m → (j : ℕ) → j ≡ penaltyRefusal p → (o : List ℕ) → Gives g es x o to t sc ac n taken 1 (offered column es out row) (Refused j) t sc ac
+    pub offer-refused : (m : ℕ) → p ≡ Penalty.Refused m → (j : ℕ) → j ≡ penaltyRefusal p → (o : List ℕ) → Gives g es x o targets t sc ac n taken 1 (offered column es out row) (Refused j) t sc ac
     offer-refused m e j d o =
         record {
           is = λ f bs H.
               ap (λ (y : Result (Path Float)). andThen y (λ q. ok (q ∷ [])))
-              (extend-refused column es out row f (pathOf f es o to bs t sc (taken .path)) j
+              (extend-refused column es out row f (pathOf f es o targets bs t sc (taken .path)) j
               (sym hp ∙ ap penaltyOf e ∙ ap (λ (i : ℕ). refused i) (sym (d ∙ ap penaltyRefusal e))));
         }
 
@@ -135,23 +135,23 @@ module _ {g : Setting} {es x to : List ℕ} {column : List Float} {t : List ℕ}
       scored : offerScore column out row (scoreOf sc (taken .path)) ≡ some s
       scored = priced-some (offerScore column out row (scoreOf sc (taken .path))) s (sym hp ∙ ap penaltyOf e)
 
-      pub offer-asks : Lengthens g es x to t sc ac n taken w
+      pub offer-asks : Lengthens g es x targets t sc ac n taken w
       offer-asks =
           record {
-            only = O .only;
+            index = O .index;
             stands = O .it .stands;
             place = O .it .place;
             edge = rw hw (O .it .edge);
             score = rw hw (score-fine column out row (scoreOf sc (taken .path)) s (O .it .fits) (O .it .stands .here .records .number (taken .path) (O .it .stands .here .known)) scored);
           }
 
-      pub offer-made : {r : Extended} {t′ : List ℕ} {sc′ : List Float} {ac′ : List ℕ} → ((o : List ℕ) → Gives g es x o to t sc ac n taken 1 (lengthened es w) r t′ sc′ ac′)
-          → (o : List ℕ) → Gives g es x o to t sc ac n taken 1 (offered column es out row) r t′ sc′ ac′
+      pub offer-made : {r : Extended} {t′ : List ℕ} {sc′ : List Float} {ac′ : List ℕ} → ((o : List ℕ) → Gives g es x o targets t sc ac n taken 1 (lengthened es w) r t′ sc′ ac′)
+          → (o : List ℕ) → Gives g es x o targets t sc ac n taken 1 (offered column es out row) r t′ sc′ ac′
       offer-made {r} {t′} {sc′} {ac′} G o =
           record {
             is = λ f bs H.
-                let p₀ = pathOf f es o to bs t sc (taken .path) in
-                subst (λ (want : Result (List (Path Float))). Answers (Run f g es x o to bs t sc n (taken .path) t′ sc′ ac′ 1 want) (λ k. want ≡ refused k) r)
+                let p₀ = pathOf f es o targets bs t sc (taken .path) in
+                subst (λ (want : Result (List (Path Float))). Answers (Run f g es x o targets bs t sc n (taken .path) t′ sc′ ac′ 1 want) (λ k. want ≡ refused k) r)
                 (ap (λ (y : Way). lengthened es y f p₀) hw ∙ sym (extend-is column es out row f p₀ s scored)) (G o .is f bs H);
           }
 
@@ -182,50 +182,50 @@ keep-yes f q h = rw h
 keep-no : (f : SearchInput) (q : Path Float) → repeatRule f q ≡ false → keep (repeatRule f) (q ∷ []) ≡ []
 keep-no f q h = rw h
 
-module _ {g : Setting} {es x only to : List ℕ} {column : List Float} {t : List ℕ} {sc : List Float} {ac out : List ℕ} {n : ℕ} {taken : Taken} {row : ℕ} {t′ : List ℕ} {sc′ : List Float} {ac′ : List ℕ}
-    (O : OfferStands g es x only to column t sc ac out n taken row) where
-  pub tried-refused : {r : Extended} {k : ℕ} → Gives g es x only to t sc ac n taken 1 (offered column es out row) r t′ sc′ ac′ → r ≡ Refused k
-      → Gives g es x only to t sc ac n taken 1 (tried column es out row) r t′ sc′ ac′
-  tried-refused {r} {k} G e = rw e (record { is = λ f bs H. refused-of (extended column es out row f (pathOf f es only to bs t sc (taken .path))) k (λ q. keep (repeatRule f) (q ∷ [])) (told f bs H) })
+module _ {g : Setting} {es x index targets : List ℕ} {column : List Float} {t : List ℕ} {sc : List Float} {ac out : List ℕ} {n : ℕ} {taken : Taken} {row : ℕ} {t′ : List ℕ} {sc′ : List Float} {ac′ : List ℕ}
+    (O : OfferStands g es x index targets column t sc ac out n taken row) where
+  pub tried-refused : {r : Extended} {k : ℕ} → Gives g es x index targets t sc ac n taken 1 (offered column es out row) r t′ sc′ ac′ → r ≡ Refused k
+      → Gives g es x index targets t sc ac n taken 1 (tried column es out row) r t′ sc′ ac′
+  tried-refused {r} {k} G e = rw e (record { is = λ f bs H. refused-of (extended column es out row f (pathOf f es index targets bs t sc (taken .path))) k (λ q. keep (repeatRule f) (q ∷ [])) (told f bs H) })
     where
-      told : (f : SearchInput) (bs : ℕ → List Branches) → Here g es x only to t sc ac n taken f bs → offered column es out row f (pathOf f es only to bs t sc (taken .path)) ≡ refused k
+      told : (f : SearchInput) (bs : ℕ → List Branches) → Here g es x index targets t sc ac n taken f bs → offered column es out row f (pathOf f es index targets bs t sc (taken .path)) ≡ refused k
       told f bs H = rw e at (G .is f bs H)
 
-  module _ {r : Extended} {m : ℕ} (G : Gives g es x only to t sc ac n taken 1 (offered column es out row) r t′ sc′ ac′) (e : r ≡ Made m) where
-    module _ (f : SearchInput) (bs : ℕ → List Branches) (H : Here g es x only to t sc ac n taken f bs) where
-      run : Run f g es x only to bs t sc n (taken .path) t′ sc′ ac′ 1 (offered column es out row f (pathOf f es only to bs t sc (taken .path))) m
+  module _ {r : Extended} {m : ℕ} (G : Gives g es x index targets t sc ac n taken 1 (offered column es out row) r t′ sc′ ac′) (e : r ≡ Made m) where
+    module _ (f : SearchInput) (bs : ℕ → List Branches) (H : Here g es x index targets t sc ac n taken f bs) where
+      run : Run f g es x index targets bs t sc n (taken .path) t′ sc′ ac′ 1 (offered column es out row f (pathOf f es index targets bs t sc (taken .path))) m
       run = rw e at (G .is f bs H)
 
-      it : Only (extended column es out row f (pathOf f es only to bs t sc (taken .path))) (run .paths)
-      it = only-of (extended column es out row f (pathOf f es only to bs t sc (taken .path))) (run .paths) (run .is)
+      it : Only (extended column es out row f (pathOf f es index targets bs t sc (taken .path))) (run .paths)
+      it = only-of (extended column es out row f (pathOf f es index targets bs t sc (taken .path))) (run .paths) (run .is)
 
       next : m ≡ n + 1
       next =
           let a : length (run .paths) ≡ m - n =
-          ap length (run .made .is) ∙ length-map (upFrom n (m - n)) (pathOf f es only to (run .made .bs′) t′ sc′) ∙ up-length n (m - n)
+          ap length (run .made .is) ∙ length-map (upFrom n (m - n)) (pathOf f es index targets (run .made .bs′) t′ sc′) ∙ up-length n (m - n)
           in
           let b : length (run .paths) ≡ 1 = ap length (it .all) in
           let d = run .made .up in
           omega arith
 
-      read : it .one ≡ pathOf f es only to (run .made .bs′) t′ sc′ n
+      read : it .one ≡ pathOf f es index targets (run .made .bs′) t′ sc′ n
       read =
           let z : m - n ≡ n + 1 - n = let y = next in omega arith in
-          let y : it .one ∷ [] ≡ pathOf f es only to (run .made .bs′) t′ sc′ n ∷ [] =
-          sym (it .all) ∙ run .made .is ∙ ap (λ (i : ℕ). map (pathOf f es only to (run .made .bs′) t′ sc′) (upFrom n i)) z ∙ ap (map (pathOf f es only to (run .made .bs′) t′ sc′)) (up-one n)
+          let y : it .one ∷ [] ≡ pathOf f es index targets (run .made .bs′) t′ sc′ n ∷ [] =
+          sym (it .all) ∙ run .made .is ∙ ap (λ (i : ℕ). map (pathOf f es index targets (run .made .bs′) t′ sc′) (upFrom n i)) z ∙ ap (map (pathOf f es index targets (run .made .bs′) t′ sc′)) (up-one n)
           in
           cc
 
-      pub rule-table : Table only to t′ sc′ (n + 1)
-      rule-table = table-front only to t′ sc′ m (n + 1) (run .made .records .held .table) (let z = next in omega arith)
+      pub rule-table : Table index targets t′ sc′ (n + 1)
+      rule-table = table-front index targets t′ sc′ m (n + 1) (run .made .records .held .table) (let z = next in omega arith)
 
-      module _ {b : Bool} (hb : b ≡ keeps only to 0 t′ n) where
+      module _ {b : Bool} (hb : b ≡ keeps index targets 0 t′ n) where
         ruled : b ≡ repeatRule f (it .one)
         ruled =
-            hb ∙ ap (λ (s : ℕ). keeps only to s t′ n) (sym (H .ground .source))
-            ∙ keeps-view f (nameOf es) only to (H .ground .agrees) (run .made .bs′ n) t′ sc′ m n (run .made .records .held .rooted) (let z = next in omega arith) ∙ ap (repeatRule f) (sym read)
+            hb ∙ ap (λ (s : ℕ). keeps index targets s t′ n) (sym (H .ground .source))
+            ∙ keeps-view f (nameOf es) index targets (H .ground .agrees) (run .made .bs′ n) t′ sc′ m n (run .made .records .held .rooted) (let z = next in omega arith) ∙ ap (repeatRule f) (sym read)
 
-        kept-run : b ≡ true → Run f g es x only to bs t sc n (taken .path) t′ sc′ ac′ 1 (tried column es out row f (pathOf f es only to bs t sc (taken .path))) m
+        kept-run : b ≡ true → Run f g es x index targets bs t sc n (taken .path) t′ sc′ ac′ 1 (tried column es out row f (pathOf f es index targets bs t sc (taken .path))) m
         kept-run h =
             record {
               paths = run .paths;
@@ -236,18 +236,18 @@ module _ {g : Setting} {es x only to : List ℕ} {column : List Float} {t : List
               most = run .most;
             }
 
-        lost-run : b ≡ false → Run f g es x only to bs t sc n (taken .path) t′ sc′ ac′ 1 (tried column es out row f (pathOf f es only to bs t sc (taken .path))) n
+        lost-run : b ≡ false → Run f g es x index targets bs t sc n (taken .path) t′ sc′ ac′ 1 (tried column es out row f (pathOf f es index targets bs t sc (taken .path))) n
         lost-run h =
             record {
               paths = [];
               is = ap (λ (y : Result (Path Float)). andThen y (λ q. ok (keep (repeatRule f) (q ∷ [])))) (it .is) ∙ ap ok (keep-no f (it .one) (sym ruled ∙ h));
-              made = given-up f g es x only to bs t sc n (taken .path) t′ sc′ ac′ m (run .paths) (run .made);
+              made = given-up f g es x index targets bs t sc n (taken .path) t′ sc′ ac′ m (run .paths) (run .made);
               most = omega arith;
             }
 
-    module _ {b : Bool} (hb : b ≡ keeps only to 0 t′ n) where
-      pub tried-kept : b ≡ true → Gives g es x only to t sc ac n taken 1 (tried column es out row) (Made m) t′ sc′ ac′
+    module _ {b : Bool} (hb : b ≡ keeps index targets 0 t′ n) where
+      pub tried-kept : b ≡ true → Gives g es x index targets t sc ac n taken 1 (tried column es out row) (Made m) t′ sc′ ac′
       tried-kept h = record { is = λ f bs H. kept-run f bs H hb h }
 
-      pub tried-lost : b ≡ false → Gives g es x only to t sc ac n taken 1 (tried column es out row) (Made n) t′ sc′ ac′
+      pub tried-lost : b ≡ false → Gives g es x index targets t sc ac n taken 1 (tried column es out row) (Made n) t′ sc′ ac′
       tried-lost h = record { is = λ f bs H. lost-run f bs H hb h }

@@ -49,17 +49,17 @@ use Rattle.path_extensions.specs.Made.{Here, MadeTo, kept-of, up-one}
 -- ---- answers
 
 -- what the definition makes has been made: at most `few` records
-pub record Run (f : SearchInput) (g : Setting) (es x only to : List ℕ) (bs : ℕ → List Branches) (t : List ℕ) (sc : List Float) (n path : ℕ) (t′ : List ℕ) (sc′ : List Float) (ac′ : List ℕ)
+pub record Run (f : SearchInput) (g : Setting) (es x index targets : List ℕ) (bs : ℕ → List Branches) (t : List ℕ) (sc : List Float) (n path : ℕ) (t′ : List ℕ) (sc′ : List Float) (ac′ : List ℕ)
     (few : ℕ) (want : Result (List (Path Float))) (n′ : ℕ) : Type 0 where
   pub paths : List (Path Float)
   pub is : want ≡ ok paths
-  pub made : MadeTo f g es x only to bs t sc n path t′ sc′ ac′ n′ paths
+  pub made : MadeTo f g es x index targets bs t sc n path t′ sc′ ac′ n′ paths
   pub most : n′ ≤ n + few
 
 -- the paths that the definition wants are the new records, in their order
-pub run-is : {f : SearchInput} {g : Setting} {es x only to : List ℕ} {bs : ℕ → List Branches} {t : List ℕ} {sc : List Float} {n path : ℕ} {t′ : List ℕ} {sc′ : List Float} {ac′ : List ℕ}
-    {few : ℕ} {want : Result (List (Path Float))} {n′ : ℕ} (R : Run f g es x only to bs t sc n path t′ sc′ ac′ few want n′)
-    → want ≡ ok (map (pathOf f es only to (R .made .bs′) t′ sc′) (upFrom n (n′ - n)))
+pub run-is : {f : SearchInput} {g : Setting} {es x index targets : List ℕ} {bs : ℕ → List Branches} {t : List ℕ} {sc : List Float} {n path : ℕ} {t′ : List ℕ} {sc′ : List Float} {ac′ : List ℕ}
+    {few : ℕ} {want : Result (List (Path Float))} {n′ : ℕ} (R : Run f g es x index targets bs t sc n path t′ sc′ ac′ few want n′)
+    → want ≡ ok (map (pathOf f es index targets (R .made .bs′) t′ sc′) (upFrom n (n′ - n)))
 run-is R = R .is ∙ ap ok (R .made .is)
 
 -- by the answer: the records, or the definition's refusal
@@ -75,10 +75,10 @@ Wanted = SearchInput → Path Float → Result (List (Path Float))
 abbrev pub chainOf : SearchInput → Path Float → List Ends
 chainOf f p = defs.chain f (defs.endFrom (f .source) (p .edges))
 
-pub record Gives (g : Setting) (es x only to t : List ℕ) (sc : List Float) (ac : List ℕ) (n : ℕ) (taken : Taken) (few : ℕ) (want : Wanted) (r : Extended) (t′ : List ℕ) (sc′ : List Float)
+pub record Gives (g : Setting) (es x index targets t : List ℕ) (sc : List Float) (ac : List ℕ) (n : ℕ) (taken : Taken) (few : ℕ) (want : Wanted) (r : Extended) (t′ : List ℕ) (sc′ : List Float)
     (ac′ : List ℕ) : Type 0 where
-  pub is : (f : SearchInput) (bs : ℕ → List Branches) → Here g es x only to t sc ac n taken f bs
-      → Answers (Run f g es x only to bs t sc n (taken .path) t′ sc′ ac′ few (want f (pathOf f es only to bs t sc (taken .path)))) (λ k. want f (pathOf f es only to bs t sc (taken .path)) ≡ refused k) r
+  pub is : (f : SearchInput) (bs : ℕ → List Branches) → Here g es x index targets t sc ac n taken f bs
+      → Answers (Run f g es x index targets bs t sc n (taken .path) t′ sc′ ac′ few (want f (pathOf f es index targets bs t sc (taken .path)))) (λ k. want f (pathOf f es index targets bs t sc (taken .path)) ≡ refused k) r
 
 -- ---- what one extension asks
 
@@ -89,16 +89,16 @@ pub record Place (g : Setting) (t : List ℕ) (sc : List Float) (ac : List ℕ) 
   pub actives : (n + 1) * g .active ≤ length ac
   pub number : n + 1 < 2147483648
 
-pub record Stands (g : Setting) (es x only to t : List ℕ) (sc : List Float) (ac : List ℕ) (n : ℕ) (taken : Taken) : Type 0 where
+pub record Stands (g : Setting) (es x index targets t : List ℕ) (sc : List Float) (ac : List ℕ) (n : ℕ) (taken : Taken) : Type 0 where
   pub input : SearchInput
   pub trees : ℕ → List Branches
-  pub here : Here g es x only to t sc ac n taken input trees
+  pub here : Here g es x index targets t sc ac n taken input trees
   -- a taken path has few decisions since guidance
   pub guided : sinceOf t (taken .path) ≤ 5
 
-pub record Lengthens (g : Setting) (es x to t : List ℕ) (sc : List Float) (ac : List ℕ) (n : ℕ) (taken : Taken) (w : Way) : Type 0 where
-  pub only : List ℕ
-  pub stands : Stands g es x only to t sc ac n taken
+pub record Lengthens (g : Setting) (es x targets t : List ℕ) (sc : List Float) (ac : List ℕ) (n : ℕ) (taken : Taken) (w : Way) : Type 0 where
+  pub index : List ℕ
+  pub stands : Stands g es x index targets t sc ac n taken
   pub place : Place g t sc ac n
   pub edge : w .edge < g .edges
   pub score : isNan (w .score) ≡ false
@@ -142,11 +142,11 @@ pub one-decision : (trees : ℕ) (guided free : Bool) (since : ℕ) → trees �
 one-decision trees guided free since h k l = rw (eq-eqb trees 0 (omega arith), k, l) (add-one since)
 
 -- ---- the record
-module _ (g : Setting) (es x only to t : List ℕ) (sc : List Float) (ac : List ℕ) (n : ℕ) (taken : Taken) (P : Place g t sc ac n) where
+module _ (g : Setting) (es x index targets t : List ℕ) (sc : List Float) (ac : List ℕ) (n : ℕ) (taken : Taken) (P : Place g t sc ac n) where
   pub place-inside : Inside t sc n
   place-inside = record { cells = omega (arith, P .paths); score = omega (arith, P .scores) }
 
-  module _ (f : SearchInput) (bs : ℕ → List Branches) (H : Here g es x only to t sc ac n taken f bs) where
+  module _ (f : SearchInput) (bs : ℕ → List Branches) (H : Here g es x index targets t sc ac n taken f bs) where
     abbrev at : ℕ
     at = taken .path * g .active
 
@@ -211,18 +211,18 @@ module _ (g : Setting) (es x only to t : List ℕ) (sc : List Float) (ac : List 
         new = record { edge = w .edge; score = w .score; since = since; trees = r }
 
         abbrev row : PathRecord
-        row = extendedRow t to taken new
+        row = extendedRow t targets taken new
 
-        pub known-edge : w .edge < length to
+        pub known-edge : w .edge < length targets
         known-edge = omega (arith, H .ground .size)
 
         since-is : since ≡ cond (not (isEmpty walked) || w .guided) 0 (cond (w .free) (sinceOf t (taken .path)) (suc (sinceOf t (taken .path))))
         since-is = hd ∙ ap (λ (z : Bool). cond (not z || w .guided) 0 (cond (w .free) (sinceOf t (taken .path)) (suc (sinceOf t (taken .path))))) (sym (empty-is walked r many))
 
-        one-refused : g .most < row .edges → lengthened es w f (pathOf f es only to bs t sc (taken .path)) ≡ refused 11
+        one-refused : g .most < row .edges → lengthened es w f (pathOf f es index targets bs t sc (taken .path)) ≡ refused 11
         one-refused h =
             ap (λ (y : Result (Path Float)). andThen y (λ q. ok (q ∷ [])))
-            (extended-full f (nameOf es) only to (H .ground .agrees) t sc n taken (H .records .held .table) (H .records .held .rooted) place-inside (H .known) (H .follows) new known-edge (bs (taken .path))
+            (extended-full f (nameOf es) index targets (H .ground .agrees) t sc n taken (H .records .held .table) (H .records .held .rooted) place-inside (H .known) (H .follows) new known-edge (bs (taken .path))
             (w .guided) (w .free) (omega (arith, H .ground .most)))
 
         module _ (fits : row .edges ≤ g .most) where
@@ -257,10 +257,10 @@ module _ (g : Setting) (es x only to t : List ℕ) (sc : List Float) (ac : List 
               go (yes h) = rw h this
               go (no h) = below q (omega arith)
 
-          recorded : Records f g es x only to bd u sd ad (n + 1)
+          recorded : Records f g es x index targets bd u sd ad (n + 1)
           recorded =
               record {
-                held = held-extended only to (f .source) t sc n (H .records .held) place-inside taken (H .known) (H .follows) new known-edge;
+                held = held-extended index targets (f .source) t sc n (H .records .held) place-inside taken (H .known) (H .follows) new known-edge;
                 actives =
                     by-cases (λ (q : ℕ). Actives (g .cap) (g .nodes) x ad (q * g .active) (q * g .active + treesOf u q) (bd q))
                     (λ q l.
@@ -284,21 +284,21 @@ module _ (g : Setting) (es x only to t : List ℕ) (sc : List Float) (ac : List 
               small-walked = unfold walked in small-walk 65535 (nameOf es (w .edge)) (bs (taken .path)) (H .records .small (taken .path) (H .known))
 
           abbrev view : Path Float
-          view = viewOf f (nameOf es) only to walked u sd n
+          view = viewOf f (nameOf es) index targets walked u sd n
 
-          one-is : lengthened es w f (pathOf f es only to bs t sc (taken .path)) ≡ ok (view ∷ [])
+          one-is : lengthened es w f (pathOf f es index targets bs t sc (taken .path)) ≡ ok (view ∷ [])
           unfolding walked
           one-is =
               ap (λ (y : Result (Path Float)). andThen y (λ q. ok (q ∷ [])))
-              (extended-made f (nameOf es) only to (H .ground .agrees) t sc n taken (H .records .held .table) (H .records .held .rooted) place-inside (H .known) (H .follows) new known-edge
+              (extended-made f (nameOf es) index targets (H .ground .agrees) t sc n taken (H .records .held .table) (H .records .held .rooted) place-inside (H .known) (H .follows) new known-edge
               (bs (taken .path)) (w .guided) (w .free) (omega (arith, H .ground .most)) since-is)
 
-          one-made : MadeTo f g es x only to bs t sc n (taken .path) u sd ad (n + 1) (view ∷ [])
+          one-made : MadeTo f g es x index targets bs t sc n (taken .path) u sd ad (n + 1) (view ∷ [])
           one-made =
               record {
                 bs′ = bd;
                 records = recorded;
-                kept = kept-of f g es x only to bs t sc n (H .records .held) bd u sd old-cells old-score old-trees;
+                kept = kept-of f g es x index targets bs t sc n (H .records .held) bd u sd old-cells old-score old-trees;
                 same = old-trees;
                 cells = old-cells;
                 up = omega arith;
@@ -309,25 +309,25 @@ module _ (g : Setting) (es x only to t : List ℕ) (sc : List Float) (ac : List 
                     };
                 is =
                     sym
-                    (ap (map (pathOf f es only to bd u sd)) (up-one n) ∙ ap (λ (d : List Branches). viewOf f (nameOf es) only to d u sd n ∷ []) (put-here bs n walked n refl));
+                    (ap (map (pathOf f es index targets bd u sd)) (up-one n) ∙ ap (λ (d : List Branches). viewOf f (nameOf es) index targets d u sd n ∷ []) (put-here bs n walked n refl));
               }
 
-          one-run : Run f g es x only to bs t sc n (taken .path) u sd ad 1 (lengthened es w f (pathOf f es only to bs t sc (taken .path))) (n + 1)
+          one-run : Run f g es x index targets bs t sc n (taken .path) u sd ad 1 (lengthened es w f (pathOf f es index targets bs t sc (taken .path))) (n + 1)
           one-run = record { paths = view ∷ []; is = one-is; made = one-made; most = omega arith }
 
 -- ---- the function's needs
-module _ {g : Setting} {es x to t : List ℕ} {sc : List Float} {ac : List ℕ} {n : ℕ} {taken : Taken} {w : Way} (L : Lengthens g es x to t sc ac n taken w) where
-  abbrev only : List ℕ
-  only = L .only
+module _ {g : Setting} {es x targets t : List ℕ} {sc : List Float} {ac : List ℕ} {n : ℕ} {taken : Taken} {w : Way} (L : Lengthens g es x targets t sc ac n taken w) where
+  abbrev index : List ℕ
+  index = L .index
 
-  abbrev there : Here g es x only to t sc ac n taken (L .stands .input) (L .stands .trees)
+  abbrev there : Here g es x index targets t sc ac n taken (L .stands .input) (L .stands .trees)
   there = L .stands .here
 
   product : (p a : ℕ) → p < 2147483648 → a ≤ 64 → p * a < 18446744073709551616
   product p a h k = let z : p * a ≤ 2147483648 * a = mul-le-mul-right a (omega arith) in omega arith
 
   pub parent-inside : Inside t sc (taken .path)
-  parent-inside = paths.inside only to t sc n (there .records .held .table) (taken .path) (there .known)
+  parent-inside = paths.inside index targets t sc n (there .records .held .table) (taken .path) (there .known)
 
   pub taken-product : {p : ℕ} → p ≡ taken .path → p * g .active < 18446744073709551616
   taken-product {p} e = product p (g .active) (let h = there .known in let k = L .place .number in omega arith) (there .ground .active-fits)
@@ -348,7 +348,7 @@ module _ {g : Setting} {es x to t : List ℕ} {sc : List Float} {ac : List ℕ} 
 
       pub lengthen-walks : Walkable (g .cap) (g .nodes) x ac (p * g .active) (p * g .active + k) (m * g .active)
       lengthen-walks =
-          walk-asks g es x only to t sc ac n taken (L .place) (L .stands .input) (L .stands .trees) there (p * g .active) k (m * g .active) (ap (λ (i : ℕ). i * g .active) hp) many-trees
+          walk-asks g es x index targets t sc ac n taken (L .place) (L .stands .input) (L .stands .trees) there (p * g .active) k (m * g .active) (ap (λ (i : ℕ). i * g .active) hp) many-trees
           (ap (λ (i : ℕ). i * g .active) hm)
 
       module _ {a b e : ℕ} (he : e ≡ w .edge) (ha : a ≡ edgeFrom es e) (hb : b ≡ edgeTo es e) {ad : List ℕ} {r : ℕ}
@@ -361,16 +361,16 @@ module _ {g : Setting} {es x to t : List ℕ} {sc : List Float} {ac : List ℕ} 
             let l = there .ground .active-fits in
             omega arith
 
-        pub extend-asks : Growable t sc n (taken .path) × (w .edge < length to) × (w .edge + 1 < 4294967296) × (r < 2147483648)
+        pub extend-asks : Growable t sc n (taken .path) × (w .edge < length targets) × (w .edge + 1 < 4294967296) × (r < 2147483648)
         extend-asks =
             let a = L .edge in
             let b = there .ground .size in
             let d = there .ground .linked .few in
             let h = few-trees in
-            (record { room = place-inside g es x only to t sc ac n taken (L .place); known = there .known }, omega arith, omega arith, omega arith)
+            (record { room = place-inside g es x index targets t sc ac n taken (L .place); known = there .known }, omega arith, omega arith, omega arith)
 
         module _ (long : length ad ≡ length ac) {since : ℕ} (hd : since ≡ decisions r (w .guided) (w .free) (row .since)) {answer : PathAnswer} {t′ : List ℕ} {sc′ : List Float}
-            (G : Grown t sc n (extendedRow t to taken (record { edge = w .edge; score = w .score; since = since; trees = r })) (g .most) answer t′ sc′) where
+            (G : Grown t sc n (extendedRow t targets taken (record { edge = w .edge; score = w .score; since = since; trees = r })) (g .most) answer t′ sc′) where
           source-is : a ≡ edgeFrom es (w .edge)
           source-is = ha ∙ ap (λ (i : ℕ). edgeFrom es i) he
 
@@ -381,15 +381,15 @@ module _ {g : Setting} {es x to t : List ℕ} {sc : List Float} {ac : List ℕ} 
           since-by = hd ∙ ap (λ (y : PathRecord). decisions r (w .guided) (w .free) (y .since)) hr
 
           new-row : PathRecord
-          new-row = extendedRow t to taken (record { edge = w .edge; score = w .score; since = since; trees = r })
+          new-row = extendedRow t targets taken (record { edge = w .edge; score = w .score; since = since; trees = r })
 
-          pub lengthen-refused : {k₀ : ℕ} → answer ≡ answers.Refused k₀ → (j : ℕ) → j ≡ pathRefusal answer → (o : List ℕ) → Gives g es x o to t sc ac n taken 1 (lengthened es w) (Refused j) t′ sc′ ad
+          pub lengthen-refused : {k₀ : ℕ} → answer ≡ answers.Refused k₀ → (j : ℕ) → j ≡ pathRefusal answer → (o : List ℕ) → Gives g es x o targets t sc ac n taken 1 (lengthened es w) (Refused j) t′ sc′ ad
           unfolding new-row
           lengthen-refused {k₀} e j d o =
               let q = grown-refused t sc n new-row (g .most) t′ sc′ k₀ (rw e at G) in
               record {
                 is = λ f bs H.
-                    one-refused g es x o to t sc ac n taken (L .place) f bs H (p * g .active) k (m * g .active) (ap (λ (i : ℕ). i * g .active) hp) many-trees (ap (λ (i : ℕ). i * g .active) hm) w
+                    one-refused g es x o targets t sc ac n taken (L .place) f bs H (p * g .active) k (m * g .active) (ap (λ (i : ℕ). i * g .active) hp) many-trees (ap (λ (i : ℕ). i * g .active) hm) w
                     (L .edge) (L .score) a b source-is target-is ad r W long since since-by (q .1)
                     ∙ ap (λ (i : ℕ). refused i) (sym (d ∙ ap pathRefusal e ∙ q .0 .number));
               }
@@ -402,12 +402,12 @@ module _ {g : Setting} {es x to t : List ℕ} {sc : List Float} {ac : List ℕ} 
             pub made-low : m₀ < 2147483648
             made-low = let h = put .0 .number in let z = L .place .number in omega arith
 
-            pub lengthen-made : (o : List ℕ) → Gives g es x o to t sc ac n taken 1 (lengthened es w) (Made (m₀ + 1)) t′ sc′ ad
+            pub lengthen-made : (o : List ℕ) → Gives g es x o targets t sc ac n taken 1 (lengthened es w) (Made (m₀ + 1)) t′ sc′ ad
             unfolding new-row
             lengthen-made o =
                 record {
                   is = λ f bs H.
                       rw (put .0 .number, put .0 .cells, put .0 .scores)
-                      (one-run g es x o to t sc ac n taken (L .place) f bs H (p * g .active) k (m * g .active) (ap (λ (i : ℕ). i * g .active) hp) many-trees (ap (λ (i : ℕ). i * g .active) hm) w
+                      (one-run g es x o targets t sc ac n taken (L .place) f bs H (p * g .active) k (m * g .active) (ap (λ (i : ℕ). i * g .active) hp) many-trees (ap (λ (i : ℕ). i * g .active) hm) w
                       (L .edge) (L .score) a b source-is target-is ad r W long since since-by (put .1));
                 }

@@ -42,18 +42,18 @@ use Rattle.path_extensions.specs.Each.{Rooms, rooms-place, OffersStand, 
 use Rattle.path_extensions.specs.Alone.{AloneStands, alone, alone-is}
 
 -- the search's tables, of which n records are made, and a taken one of them with the chain after it
-pub record Taking (g : Setting) (vs es x only to t : List ℕ) (sc : List Float) (ac : List ℕ) (n : ℕ) (taken : Taken) (f : SearchInput) (bs : ℕ → List Branches) : Type 0 where
-  pub ground : Ground f g vs es x only to
-  pub records : Records f g es x only to bs t sc ac n
+pub record Taking (g : Setting) (vs es x index targets t : List ℕ) (sc : List Float) (ac : List ℕ) (n : ℕ) (taken : Taken) (f : SearchInput) (bs : ℕ → List Branches) : Type 0 where
+  pub ground : Ground f g vs es x index targets
+  pub records : Records f g es x index targets bs t sc ac n
   pub known : taken .path < n
-  pub follows : Following only to t (taken .path) taken
+  pub follows : Following index targets t (taken .path) taken
 
 -- what is asked: the tables stand, the taken path has few decisions since guidance, the column has passed its check, and there is room for eight records
 -- and eight rows
-pub record Extends (g : Setting) (vs es x only to : List ℕ) (column : List Float) (t : List ℕ) (sc : List Float) (ac out : List ℕ) (n : ℕ) (taken : Taken) : Type 0 where
+pub record Extends (g : Setting) (vs es x index targets : List ℕ) (column : List Float) (t : List ℕ) (sc : List Float) (ac out : List ℕ) (n : ℕ) (taken : Taken) : Type 0 where
   pub input : SearchInput
   pub trees : ℕ → List Branches
-  pub taking : Taking g vs es x only to t sc ac n taken input trees
+  pub taking : Taking g vs es x index targets t sc ac n taken input trees
   pub guided : sinceOf t (taken .path) ≤ 5
   pub fits : columnFits column ≡ true
   pub rooms : Rooms g t sc ac n
@@ -64,23 +64,23 @@ abbrev pub extensionsAt : List Float → ℕ → Wanted
 extensionsAt column v f p = extensions (columnScoring column) f p (chainOf f p) v (leaving (f .edges) v)
 
 -- by the answer: the extensions, at most six, are the records from n on; or the definition refuses with that number
-pub record Extensions (g : Setting) (vs es x only to : List ℕ) (column : List Float) (t : List ℕ) (sc : List Float) (ac : List ℕ) (n : ℕ) (taken : Taken) (r : Extended) (t′ : List ℕ)
+pub record Extensions (g : Setting) (vs es x index targets : List ℕ) (column : List Float) (t : List ℕ) (sc : List Float) (ac : List ℕ) (n : ℕ) (taken : Taken) (r : Extended) (t′ : List ℕ)
     (sc′ : List Float) (ac′ : List ℕ) : Type 0 where
-  pub is : (f : SearchInput) (bs : ℕ → List Branches) → Taking g vs es x only to t sc ac n taken f bs
-      → Answers (Run f g es x only to bs t sc n (taken .path) t′ sc′ ac′ 6 (extensionsAt column (taken .vertex) f (pathOf f es only to bs t sc (taken .path))))
-      (λ k. extensionsAt column (taken .vertex) f (pathOf f es only to bs t sc (taken .path)) ≡ refused k) r
+  pub is : (f : SearchInput) (bs : ℕ → List Branches) → Taking g vs es x index targets t sc ac n taken f bs
+      → Answers (Run f g es x index targets bs t sc n (taken .path) t′ sc′ ac′ 6 (extensionsAt column (taken .vertex) f (pathOf f es index targets bs t sc (taken .path))))
+      (λ k. extensionsAt column (taken .vertex) f (pathOf f es index targets bs t sc (taken .path)) ≡ refused k) r
 
 -- ---- the vertex and its out-edges
 
-module _ {g : Setting} {vs es x only to t : List ℕ} {sc : List Float} {ac : List ℕ} {n : ℕ} {taken : Taken} {f : SearchInput} {bs : ℕ → List Branches}
-    (H : Taking g vs es x only to t sc ac n taken f bs) where
-  here-of : Here g es x only to t sc ac n taken f bs
+module _ {g : Setting} {vs es x index targets t : List ℕ} {sc : List Float} {ac : List ℕ} {n : ℕ} {taken : Taken} {f : SearchInput} {bs : ℕ → List Branches}
+    (H : Taking g vs es x index targets t sc ac n taken f bs) where
+  here-of : Here g es x index targets t sc ac n taken f bs
   here-of = record { vertices = vs; ground = H .ground; records = H .records; known = H .known; follows = H .follows }
 
-  vertex-low : taken .vertex < length only
+  vertex-low : taken .vertex < length index
   vertex-low =
       let T = H .records .held .table in
-      rw (H .follows .vertex) (after-low only to (T .graph) (endOf t (taken .path)) (taken .chain) (T .rows (taken .path) (H .known) .low) (H .follows .chain .runs))
+      rw (H .follows .vertex) (after-low index targets (T .graph) (endOf t (taken .path)) (taken .chain) (T .rows (taken .path) (H .known) .low) (H .follows .chain .runs))
 
   pub vertex-here : {v : ℕ} → v ≡ taken .vertex → outs.Here vs es (g .edges) v
   vertex-here {v} e = let a = vertex-low in let b = H .ground .vertices in record { linked = H .ground .linked; v-in = omega arith }
@@ -91,18 +91,18 @@ module _ {g : Setting} {vs es x only to t : List ℕ} {sc : List Float} {ac : Li
 -- ---- the offers, as rows
 
 pub record Lists (g : Setting) (vs es x t : List ℕ) (sc : List Float) (ac out : List ℕ) (taken : Taken) : Type 0 where
-  pub only : List ℕ
-  pub to : List ℕ
+  pub index : List ℕ
+  pub targets : List ℕ
   pub records : ℕ
   pub input : SearchInput
   pub trees : ℕ → List Branches
-  pub taking : Taking g vs es x only to t sc ac records taken input trees
+  pub taking : Taking g vs es x index targets t sc ac records taken input trees
   pub rows : 32 ≤ length out
 
 pub record Listed (g : Setting) (vs es x t : List ℕ) (sc : List Float) (ac : List ℕ) (taken : Taken) (out : List ℕ) (k : ℕ) : Type 0 where
   pub few : k ≤ 6
   pub edges : Few (g .edges) out k
-  pub is : (only to : List ℕ) (n : ℕ) (f : SearchInput) (bs : ℕ → List Branches) → Taking g vs es x only to t sc ac n taken f bs
+  pub is : (index targets : List ℕ) (n : ℕ) (f : SearchInput) (bs : ℕ → List Branches) → Taking g vs es x index targets t sc ac n taken f bs
       → offersOf es out k ≡ offers f (leaving (f .edges) (taken .vertex)) [] (bs (taken .path))
 
 many-rows : (es out : List ℕ) (k : ℕ) → length (offersOf es out k) ≡ k
@@ -111,7 +111,7 @@ many-rows es out k = length-rows (offerAt es out) k
 
 module _ {g : Setting} {vs es x t : List ℕ} {sc : List Float} {ac out : List ℕ} {taken : Taken} (L : Lists g vs es x t sc ac out taken) where
   pub lists-inside : Inside t sc (taken .path)
-  lists-inside = paths.inside (L .only) (L .to) t sc (L .records) (L .taking .records .held .table) (taken .path) (L .taking .known)
+  lists-inside = paths.inside (L .index) (L .targets) t sc (L .records) (L .taking .records .held .table) (taken .path) (L .taking .known)
 
   pub lists-product : {p : ℕ} → p < 4294967296 → p * g .active < 18446744073709551616
   lists-product {p} h = let k = L .taking .ground .active-fits in let z : p * g .active ≤ 4294967296 * g .active = mul-le-mul-right (g .active) (omega arith) in omega arith
@@ -123,26 +123,26 @@ module _ {g : Setting} {vs es x t : List ℕ} {sc : List Float} {ac out : List �
     ends-at : p * g .active + k ≡ taken .path * g .active + treesOf t (taken .path)
     ends-at = let a = starts in let b : k ≡ treesOf t (taken .path) = hk ∙ ap (λ (y : PathRecord). y .trees) hr in omega arith
 
-    stood : (only to : List ℕ) (n : ℕ) (f : SearchInput) (bs : ℕ → List Branches) → Taking g vs es x only to t sc ac n taken f bs
+    stood : (index targets : List ℕ) (n : ℕ) (f : SearchInput) (bs : ℕ → List Branches) → Taking g vs es x index targets t sc ac n taken f bs
         → Actives (g .cap) (g .nodes) x ac (p * g .active) (p * g .active + k) (bs (taken .path))
-    stood only to n f bs H = rw (ends-at, starts) (H .records .actives (taken .path) (H .known))
+    stood index targets n f bs H = rw (ends-at, starts) (H .records .actives (taken .path) (H .known))
 
-    at-most : (only to : List ℕ) (n : ℕ) (f : SearchInput) (bs : ℕ → List Branches) → Taking g vs es x only to t sc ac n taken f bs
+    at-most : (index targets : List ℕ) (n : ℕ) (f : SearchInput) (bs : ℕ → List Branches) → Taking g vs es x index targets t sc ac n taken f bs
         → length (offers f (leaving (f .edges) (taken .vertex)) [] (bs (taken .path))) ≤ 6
-    at-most only to n f bs H =
-        actives-few f g vs es x only to (H .ground) (taken .vertex) (bs (taken .path)) ac (p * g .active) (p * g .active + k) (stood only to n f bs H)
+    at-most index targets n f bs H =
+        actives-few f g vs es x index targets (H .ground) (taken .vertex) (bs (taken .path)) ac (p * g .active) (p * g .active + k) (stood index targets n f bs H)
 
     pub lists-asks : Forks vs es (g .edges) (g .cap) (g .nodes) x ac (p * g .active) (p * g .active + k) v (ends (g .sink) (g .symbolic)) (g .least) out
     lists-asks =
         let H = L .taking in
         let o = vertex-here H hv in
         let s = H .ground .support (taken .vertex) in
-        let m = at-most (L .only) (L .to) (L .records) (L .input) (L .trees) H in
+        let m = at-most (L .index) (L .targets) (L .records) (L .input) (L .trees) H in
         let r = L .rows in
         let few = H .ground .linked .few in
         record {
           fork = record { slots = H .ground .linked .slots v (o .v-in); distinct = H .ground .linked .distinct; room-v = o .v-in; room-e = H .ground .linked .room; few = omega arith };
-          active = record { branches = L .trees (taken .path); stands = stood (L .only) (L .to) (L .records) (L .input) (L .trees) H };
+          active = record { branches = L .trees (taken .path); stands = stood (L .index) (L .targets) (L .records) (L .input) (L .trees) H };
           input = L .input;
           settings = H .ground .settings;
           small = smalls-of 65535 (L .trees (taken .path)) (omega arith) (H .records .small (taken .path) (H .known));
@@ -157,16 +157,16 @@ module _ {g : Setting} {vs es x t : List ℕ} {sc : List Float} {ac out : List �
         rowed a h = let r = L .rows in omega arith
 
     module _ {out′ : List ℕ} {r : ℕ} (O : Offers es (g .edges) (g .cap) (g .nodes) x ac (p * g .active) (p * g .active + k) v (ends (g .sink) (g .symbolic)) (g .least) out′ r) where
-      listed-is : (only to : List ℕ) (n : ℕ) (f : SearchInput) (bs : ℕ → List Branches) → Taking g vs es x only to t sc ac n taken f bs
+      listed-is : (index targets : List ℕ) (n : ℕ) (f : SearchInput) (bs : ℕ → List Branches) → Taking g vs es x index targets t sc ac n taken f bs
           → offersOf es out′ r ≡ offers f (leaving (f .edges) (taken .vertex)) [] (bs (taken .path))
-      listed-is only to n f bs H =
-          O .is f (bs (taken .path)) (H .ground .settings) (stood only to n f bs H) ∙ ap (λ (i : ℕ). offers f (leaving (f .edges) i) [] (bs (taken .path))) hv
+      listed-is index targets n f bs H =
+          O .is f (bs (taken .path)) (H .ground .settings) (stood index targets n f bs H) ∙ ap (λ (i : ℕ). offers f (leaving (f .edges) i) [] (bs (taken .path))) hv
 
       pub lists-listed : Listed g vs es x t sc ac taken out′ r
       lists-listed =
           let a = many-rows es out′ r in
-          let b = ap length (listed-is (L .only) (L .to) (L .records) (L .input) (L .trees) (L .taking)) in
-          let d = at-most (L .only) (L .to) (L .records) (L .input) (L .trees) (L .taking) in
+          let b = ap length (listed-is (L .index) (L .targets) (L .records) (L .input) (L .trees) (L .taking)) in
+          let d = at-most (L .index) (L .targets) (L .records) (L .input) (L .trees) (L .taking) in
           record { few = omega arith; edges = O .few; is = listed-is }
 
 -- ---- the three ways
@@ -180,23 +180,23 @@ extensions-none : (𝓢 : Scoring Float) (f : SearchInput) (p : Path Float) (c :
 unfolding extensions
 extensions-none 𝓢 f p c v l h = rw h
 
-module _ {g : Setting} {vs es x only to : List ℕ} {column : List Float} {t : List ℕ} {sc : List Float} {ac out : List ℕ} {n : ℕ} {taken : Taken} (E : Extends g vs es x only to column t sc ac out n taken)
+module _ {g : Setting} {vs es x index targets : List ℕ} {column : List Float} {t : List ℕ} {sc : List Float} {ac out : List ℕ} {n : ℕ} {taken : Taken} (E : Extends g vs es x index targets column t sc ac out n taken)
   where
-    stands-of : Stands g es x only to t sc ac n taken
+    stands-of : Stands g es x index targets t sc ac n taken
     stands-of = record { input = E .input; trees = E .trees; here = here-of (E .taking); guided = E .guided }
 
     place-of : Place g t sc ac n
     place-of = rooms-place g t sc ac n (E .rooms) t sc ac n refl refl refl (omega arith)
 
     -- what another way to say it gives
-    gives-as : (want : Wanted) (r : Extended) (t′ : List ℕ) (sc′ : List Float) (ac′ : List ℕ) → Gives g es x only to t sc ac n taken 6 want r t′ sc′ ac′
-        → ((f : SearchInput) (bs : ℕ → List Branches) → Taking g vs es x only to t sc ac n taken f bs
-        → want f (pathOf f es only to bs t sc (taken .path)) ≡ extensionsAt column (taken .vertex) f (pathOf f es only to bs t sc (taken .path)))
-        → Extensions g vs es x only to column t sc ac n taken r t′ sc′ ac′
+    gives-as : (want : Wanted) (r : Extended) (t′ : List ℕ) (sc′ : List Float) (ac′ : List ℕ) → Gives g es x index targets t sc ac n taken 6 want r t′ sc′ ac′
+        → ((f : SearchInput) (bs : ℕ → List Branches) → Taking g vs es x index targets t sc ac n taken f bs
+        → want f (pathOf f es index targets bs t sc (taken .path)) ≡ extensionsAt column (taken .vertex) f (pathOf f es index targets bs t sc (taken .path)))
+        → Extensions g vs es x index targets column t sc ac n taken r t′ sc′ ac′
     gives-as want r t′ sc′ ac′ G e =
         record {
           is = λ f bs H.
-              subst (λ (w : Result (List (Path Float))). Answers (Run f g es x only to bs t sc n (taken .path) t′ sc′ ac′ 6 w) (λ k. w ≡ refused k) r) (e f bs H) (G .is f bs (here-of H));
+              subst (λ (w : Result (List (Path Float))). Answers (Run f g es x index targets bs t sc n (taken .path) t′ sc′ ac′ 6 w) (λ k. w ≡ refused k) r) (e f bs H) (G .is f bs (here-of H));
         }
 
     module _ {v : ℕ} (hv : v ≡ taken .vertex) where
@@ -210,16 +210,16 @@ module _ {g : Setting} {vs es x only to : List ℕ} {column : List Float} {t : L
         nexts : Nexts es (g .edges) v 0 first
         nexts = next-is outs-here all
 
-        pub vertex-none : first ≡ 0 → Extensions g vs es x only to column t sc ac n taken (Made n) t sc ac
+        pub vertex-none : first ≡ 0 → Extensions g vs es x index targets column t sc ac n taken (Made n) t sc ac
         vertex-none h =
             record {
               is = λ f bs H.
                   let e : leaving (f .edges) (taken .vertex) ≡ [] = sym (leaving-is H hv) ∙ sym (leaving-from (edgesOf es (g .edges)) v) ∙ next-none outs-here nexts (omega arith) in
-                  let p = pathOf f es only to bs t sc (taken .path) in
+                  let p = pathOf f es index targets bs t sc (taken .path) in
                   record {
                     paths = [];
                     is = extensions-none (columnScoring column) f p (chainOf f p) (taken .vertex) (leaving (f .edges) (taken .vertex)) e;
-                    made = made-none f g es x only to bs t sc n ac (taken .path) (H .records);
+                    made = made-none f g es x index targets bs t sc n ac (taken .path) (H .records);
                     most = omega arith;
                   };
             }
@@ -246,43 +246,43 @@ module _ {g : Setting} {vs es x only to : List ℕ} {column : List Float} {t : L
               later = next-again outs-here nexts some-first hw again
 
               module _ (h : second ≡ 0) where
-                one-edge : {f : SearchInput} {bs : ℕ → List Branches} → Taking g vs es x only to t sc ac n taken f bs → leaving (f .edges) (taken .vertex) ≡ edgeAt es (first - 1) ∷ []
+                one-edge : {f : SearchInput} {bs : ℕ → List Branches} → Taking g vs es x index targets t sc ac n taken f bs → leaving (f .edges) (taken .vertex) ≡ edgeAt es (first - 1) ∷ []
                 one-edge H = sym (leaving-is H hv) ∙ begins ∙ ap (λ (l : List Edge). edgeAt es (first - 1) ∷ l) (next-none outs-here later (omega arith))
 
-                pub alone-stands : AloneStands g es x only to t sc ac n taken (first - 1)
+                pub alone-stands : AloneStands g es x index targets t sc ac n taken (first - 1)
                 alone-stands = record { stands = stands-of; place = place-of; edge-in = next-in outs-here nexts some-first }
 
-                pub vertex-alone : {r : Extended} {t′ : List ℕ} {sc′ : List Float} {ac′ : List ℕ} → Gives g es x only to t sc ac n taken 6 (alone es (taken .vertex) (first - 1)) r t′ sc′ ac′
-                    → Extensions g vs es x only to column t sc ac n taken r t′ sc′ ac′
+                pub vertex-alone : {r : Extended} {t′ : List ℕ} {sc′ : List Float} {ac′ : List ℕ} → Gives g es x index targets t sc ac n taken 6 (alone es (taken .vertex) (first - 1)) r t′ sc′ ac′
+                    → Extensions g vs es x index targets column t sc ac n taken r t′ sc′ ac′
                 vertex-alone {r} {t′} {sc′} {ac′} G =
                     gives-as (alone es (taken .vertex) (first - 1)) r t′ sc′ ac′ G
                     (λ f bs H.
-                    let p = pathOf f es only to bs t sc (taken .path) in
+                    let p = pathOf f es index targets bs t sc (taken .path) in
                     sym
                     (ap (extensions (columnScoring column) f p (chainOf f p) (taken .vertex)) (one-edge H) ∙ alone-is (columnScoring column) es (taken .vertex) (first - 1) f p))
 
               module _ (h : second ≡ 0 → ⊥) where
-                two-edges : {f : SearchInput} {bs : ℕ → List Branches} → Taking g vs es x only to t sc ac n taken f bs
+                two-edges : {f : SearchInput} {bs : ℕ → List Branches} → Taking g vs es x index targets t sc ac n taken f bs
                     → leaving (f .edges) (taken .vertex) ≡ edgeAt es (first - 1) ∷ edgeAt es (second - 1) ∷ outFrom (edgesOf es (g .edges)) v (edgeTo es (second - 1) + 1)
                 two-edges H = sym (leaving-is H hv) ∙ begins ∙ ap (λ (l : List Edge). edgeAt es (first - 1) ∷ l) (next-some outs-here later (omega arith))
 
                 module _ {k : ℕ} {out′ : List ℕ} (L : Listed g vs es x t sc ac taken out′ k) where
-                  pub vertex-fork : {r : Extended} {t′ : List ℕ} {sc′ : List Float} {ac′ : List ℕ} → Gives g es x only to t sc ac n taken 6 (allTried column es out′ k) r t′ sc′ ac′
-                      → Extensions g vs es x only to column t sc ac n taken r t′ sc′ ac′
+                  pub vertex-fork : {r : Extended} {t′ : List ℕ} {sc′ : List Float} {ac′ : List ℕ} → Gives g es x index targets t sc ac n taken 6 (allTried column es out′ k) r t′ sc′ ac′
+                      → Extensions g vs es x index targets column t sc ac n taken r t′ sc′ ac′
                   vertex-fork {r} {t′} {sc′} {ac′} G =
                       gives-as (allTried column es out′ k) r t′ sc′ ac′ G
                       (λ f bs H.
-                      let p = pathOf f es only to bs t sc (taken .path) in
-                      ap (λ (os : List Offer). andThen (each (extend (columnScoring column) f p (chainOf f p)) os) (λ qs. ok (keep (repeatRule f) qs))) (L .is only to n f bs H)
+                      let p = pathOf f es index targets bs t sc (taken .path) in
+                      ap (λ (os : List Offer). andThen (each (extend (columnScoring column) f p (chainOf f p)) os) (λ qs. ok (keep (repeatRule f) qs))) (L .is index targets n f bs H)
                       ∙ sym
                       (extensions-fork (columnScoring column) f p (chainOf f p) (taken .vertex) (leaving (f .edges) (taken .vertex)) (edgeAt es (first - 1)) (edgeAt es (second - 1))
                       (outFrom (edgesOf es (g .edges)) v (edgeTo es (second - 1) + 1)) (two-edges H)))
 
     pub lists-of : Lists g vs es x t sc ac out taken
-    lists-of = record { only = only; to = to; records = n; input = E .input; trees = E .trees; taking = E .taking; rows = E .rows }
+    lists-of = record { index = index; targets = targets; records = n; input = E .input; trees = E .trees; taking = E .taking; rows = E .rows }
 
     module _ {k : ℕ} {out′ : List ℕ} (L : Listed g vs es x t sc ac taken out′ k) (long : length out′ ≡ length out) where
-      pub offers-stand : OffersStand g es x only to column t sc ac out′ n taken k
+      pub offers-stand : OffersStand g es x index targets column t sc ac out′ n taken k
       offers-stand =
           let a = E .rows in
           let b = L .few in

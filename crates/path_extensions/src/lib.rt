@@ -83,7 +83,7 @@ fn decisions_since(trees: usize, guided: bool, free: bool, since: u32) -> u32
 fn extend_with_edges(
     edges: &[u32],
     nodes: &[u32],
-    to: &[u32],
+    targets: &[u32],
     paths: &mut [u32],
     scores: &mut [f64],
     active: &mut [u16],
@@ -92,8 +92,8 @@ fn extend_with_edges(
     n: u32,
     way: Way,
 ) -> Extended
-    requires { ⌜ Lengthens g (now edges) (now nodes) (now to) (now paths) (now scores) (now active) n taken way ⌝ }
-    ensures { λ r. ⌜ ((only : List ℕ) → Gives g (now (edges .entry)) (now (nodes .entry)) only (now (to .entry)) (now (paths .entry)) (now (scores .entry)) (now (active .entry)) n taken 1 (lengthened (now (edges .entry)) way) r (now (paths .exit)) (now (scores .exit)) (now (active .exit))) ⌝ }
+    requires { ⌜ Lengthens g (now edges) (now nodes) (now targets) (now paths) (now scores) (now active) n taken way ⌝ }
+    ensures { λ r. ⌜ ((index : List ℕ) → Gives g (now (edges .entry)) (now (nodes .entry)) index (now (targets .entry)) (now (paths .entry)) (now (scores .entry)) (now (active .entry)) n taken 1 (lengthened (now (edges .entry)) way) r (now (paths .exit)) (now (scores .exit)) (now (active .exit))) ⌝ }
 {
     let parent = path_at(paths, scores, taken.path);
     let edge = wide(way.edge);
@@ -119,7 +119,7 @@ fn extend_with_edges(
         since: decisions_since(left, way.guided, way.free, parent.since),
         trees: left as u32,
     };
-    let made = extend_path(paths, scores, to, n, taken, x, g.most);
+    let made = extend_path(paths, scores, targets, n, taken, x, g.most);
     let PathAnswer::Made(m) = made else {
         return Extended::Refused(path_refusal(made));
     };
@@ -146,7 +146,7 @@ fn offer_score(column: &[f64], scores: &[f64], offers: &[u32], path: u32, row: u
 fn extend_by_offer(
     edges: &[u32],
     nodes: &[u32],
-    to: &[u32],
+    targets: &[u32],
     column: &[f64],
     paths: &mut [u32],
     scores: &mut [f64],
@@ -157,8 +157,8 @@ fn extend_by_offer(
     n: u32,
     row: usize,
 ) -> Extended
-    requires { ⌜ Offering g (now edges) (now nodes) (now to) (now column) (now paths) (now scores) (now active) (now offers) n taken row ⌝ }
-    ensures { λ r. ⌜ ((only : List ℕ) → Gives g (now (edges .entry)) (now (nodes .entry)) only (now (to .entry)) (now (paths .entry)) (now (scores .entry)) (now (active .entry)) n taken 1 (offered (now (column .entry)) (now (edges .entry)) (now (offers .entry)) row) r (now (paths .exit)) (now (scores .exit)) (now (active .exit))) ⌝ }
+    requires { ⌜ Offering g (now edges) (now nodes) (now targets) (now column) (now paths) (now scores) (now active) (now offers) n taken row ⌝ }
+    ensures { λ r. ⌜ ((index : List ℕ) → Gives g (now (edges .entry)) (now (nodes .entry)) index (now (targets .entry)) (now (paths .entry)) (now (scores .entry)) (now (active .entry)) n taken 1 (offered (now (column .entry)) (now (edges .entry)) (now (offers .entry)) row) r (now (paths .exit)) (now (scores .exit)) (now (active .exit))) ⌝ }
 {
     let p = offer_score(column, scores, offers, taken.path, row);
     let Penalty::Of(score) = p else {
@@ -170,15 +170,15 @@ fn extend_by_offer(
         guided: offers[row * OFFER + OFFER_GUIDED] != 0,
         free: false,
     };
-    extend_with_edges(edges, nodes, to, paths, scores, active, g, taken, n, way)
+    extend_with_edges(edges, nodes, targets, paths, scores, active, g, taken, n, way)
 }
 
 // The same, but an extension that the repeat rule does not keep is given up: the next one takes its number.
 fn try_offer(
     edges: &[u32],
     nodes: &[u32],
-    only: &[u32],
-    to: &[u32],
+    index: &[u32],
+    targets: &[u32],
     column: &[f64],
     paths: &mut [u32],
     scores: &mut [f64],
@@ -189,13 +189,13 @@ fn try_offer(
     n: u32,
     row: usize,
 ) -> Extended
-    requires { ⌜ OfferStands g (now edges) (now nodes) (now only) (now to) (now column) (now paths) (now scores) (now active) (now offers) n taken row ⌝ }
-    ensures { λ r. ⌜ Gives g (now (edges .entry)) (now (nodes .entry)) (now (only .entry)) (now (to .entry)) (now (paths .entry)) (now (scores .entry)) (now (active .entry)) n taken 1 (tried (now (column .entry)) (now (edges .entry)) (now (offers .entry)) row) r (now (paths .exit)) (now (scores .exit)) (now (active .exit)) ⌝ }
+    requires { ⌜ OfferStands g (now edges) (now nodes) (now index) (now targets) (now column) (now paths) (now scores) (now active) (now offers) n taken row ⌝ }
+    ensures { λ r. ⌜ Gives g (now (edges .entry)) (now (nodes .entry)) (now (index .entry)) (now (targets .entry)) (now (paths .entry)) (now (scores .entry)) (now (active .entry)) n taken 1 (tried (now (column .entry)) (now (edges .entry)) (now (offers .entry)) row) r (now (paths .exit)) (now (scores .exit)) (now (active .exit)) ⌝ }
 {
     let step = extend_by_offer(
         edges,
         nodes,
-        to,
+        targets,
         column,
         paths,
         scores,
@@ -209,7 +209,7 @@ fn try_offer(
     let Extended::Made(m) = step else {
         return step;
     };
-    if repeat_rule(paths, scores, only, to, 0, n) {
+    if repeat_rule(paths, scores, index, targets, 0, n) {
         return step;
     }
     Extended::Made(n)
@@ -219,8 +219,8 @@ fn try_offer(
 fn extend_by_offers(
     edges: &[u32],
     nodes: &[u32],
-    only: &[u32],
-    to: &[u32],
+    index: &[u32],
+    targets: &[u32],
     column: &[f64],
     paths: &mut [u32],
     scores: &mut [f64],
@@ -231,8 +231,8 @@ fn extend_by_offers(
     n: u32,
     rows: usize,
 ) -> Extended
-    requires { ⌜ OffersStand g (now edges) (now nodes) (now only) (now to) (now column) (now paths) (now scores) (now active) (now offers) n taken rows ⌝ }
-    ensures { λ r. ⌜ Gives g (now (edges .entry)) (now (nodes .entry)) (now (only .entry)) (now (to .entry)) (now (paths .entry)) (now (scores .entry)) (now (active .entry)) n taken 6 (allTried (now (column .entry)) (now (edges .entry)) (now (offers .entry)) rows) r (now (paths .exit)) (now (scores .exit)) (now (active .exit)) ⌝ }
+    requires { ⌜ OffersStand g (now edges) (now nodes) (now index) (now targets) (now column) (now paths) (now scores) (now active) (now offers) n taken rows ⌝ }
+    ensures { λ r. ⌜ Gives g (now (edges .entry)) (now (nodes .entry)) (now (index .entry)) (now (targets .entry)) (now (paths .entry)) (now (scores .entry)) (now (active .entry)) n taken 6 (allTried (now (column .entry)) (now (edges .entry)) (now (offers .entry)) rows) r (now (paths .exit)) (now (scores .exit)) (now (active .exit)) ⌝ }
 {
     let mut next = n;
     let mut row: usize = 0;
@@ -240,8 +240,8 @@ fn extend_by_offers(
         let step = try_offer(
             edges,
             nodes,
-            only,
-            to,
+            index,
+            targets,
             column,
             paths,
             scores,
@@ -262,23 +262,23 @@ fn extend_by_offers(
 }
 
 // Whether a taken path goes on by its only edge: it has an active tree, or the vertex stands in it at most once.
-fn goes_on(paths: &[u32], scores: &[f64], only: &[u32], to: &[u32], path: u32, v: u32) -> bool
-    requires { ⌜ Table (now only) (now to) (now paths) (now scores) (path + 1) ⌝ }
-    ensures { λ r. ⌜ r ≡ goesOn (now (only .entry)) (now (to .entry)) (now (paths .entry)) path v ⌝ }
+fn goes_on(paths: &[u32], scores: &[f64], index: &[u32], targets: &[u32], path: u32, v: u32) -> bool
+    requires { ⌜ Table (now index) (now targets) (now paths) (now scores) (path + 1) ⌝ }
+    ensures { λ r. ⌜ r ≡ goesOn (now (index .entry)) (now (targets .entry)) (now (paths .entry)) path v ⌝ }
 {
     let row = path_at(paths, scores, path);
     if row.trees > 0 {
         return true;
     }
-    count_in_path(paths, scores, only, to, 0, path, v) <= 1
+    count_in_path(paths, scores, index, targets, 0, path, v) <= 1
 }
 
 // The extension by the only edge that leaves the vertex. The repeat rule comes first, and the score stays.
 fn extend_by_only_edge(
     edges: &[u32],
     nodes: &[u32],
-    only: &[u32],
-    to: &[u32],
+    index: &[u32],
+    targets: &[u32],
     paths: &mut [u32],
     scores: &mut [f64],
     active: &mut [u16],
@@ -287,10 +287,10 @@ fn extend_by_only_edge(
     n: u32,
     edge: u32,
 ) -> Extended
-    requires { ⌜ AloneStands g (now edges) (now nodes) (now only) (now to) (now paths) (now scores) (now active) n taken edge ⌝ }
-    ensures { λ r. ⌜ Gives g (now (edges .entry)) (now (nodes .entry)) (now (only .entry)) (now (to .entry)) (now (paths .entry)) (now (scores .entry)) (now (active .entry)) n taken 6 (alone (now (edges .entry)) (taken .vertex) edge) r (now (paths .exit)) (now (scores .exit)) (now (active .exit)) ⌝ }
+    requires { ⌜ AloneStands g (now edges) (now nodes) (now index) (now targets) (now paths) (now scores) (now active) n taken edge ⌝ }
+    ensures { λ r. ⌜ Gives g (now (edges .entry)) (now (nodes .entry)) (now (index .entry)) (now (targets .entry)) (now (paths .entry)) (now (scores .entry)) (now (active .entry)) n taken 6 (alone (now (edges .entry)) (taken .vertex) edge) r (now (paths .exit)) (now (scores .exit)) (now (active .exit)) ⌝ }
 {
-    if !goes_on(paths, scores, only, to, taken.path, taken.vertex) {
+    if !goes_on(paths, scores, index, targets, taken.path, taken.vertex) {
         return Extended::Made(n);
     }
     let parent = path_at(paths, scores, taken.path);
@@ -300,7 +300,7 @@ fn extend_by_only_edge(
         guided: false,
         free: true,
     };
-    extend_with_edges(edges, nodes, to, paths, scores, active, g, taken, n, way)
+    extend_with_edges(edges, nodes, targets, paths, scores, active, g, taken, n, way)
 }
 
 // What the fork offers the taken path, as rows; the answer is how many.
@@ -347,8 +347,8 @@ pub fn process_vertex(
     vertices: &[u32],
     edges: &[u32],
     nodes: &[u32],
-    only: &[u32],
-    to: &[u32],
+    index: &[u32],
+    targets: &[u32],
     column: &[f64],
     paths: &mut [u32],
     scores: &mut [f64],
@@ -358,8 +358,8 @@ pub fn process_vertex(
     taken: Taken,
     n: u32,
 ) -> Extended
-    requires { ⌜ Extends g (now vertices) (now edges) (now nodes) (now only) (now to) (now column) (now paths) (now scores) (now active) (now offers) n taken ⌝ }
-    ensures { λ r. ⌜ Extensions g (now (vertices .entry)) (now (edges .entry)) (now (nodes .entry)) (now (only .entry)) (now (to .entry)) (now (column .entry)) (now (paths .entry)) (now (scores .entry)) (now (active .entry)) n taken r (now (paths .exit)) (now (scores .exit)) (now (active .exit)) ⌝ }
+    requires { ⌜ Extends g (now vertices) (now edges) (now nodes) (now index) (now targets) (now column) (now paths) (now scores) (now active) (now offers) n taken ⌝ }
+    ensures { λ r. ⌜ Extensions g (now (vertices .entry)) (now (edges .entry)) (now (nodes .entry)) (now (index .entry)) (now (targets .entry)) (now (column .entry)) (now (paths .entry)) (now (scores .entry)) (now (active .entry)) n taken r (now (paths .exit)) (now (scores .exit)) (now (active .exit)) ⌝ }
 {
     let v = wide(taken.vertex);
     let first = next_out(vertices, edges, v, 0);
@@ -372,8 +372,8 @@ pub fn process_vertex(
         return extend_by_only_edge(
             edges,
             nodes,
-            only,
-            to,
+            index,
+            targets,
             paths,
             scores,
             active,
@@ -397,8 +397,8 @@ pub fn process_vertex(
     extend_by_offers(
         edges,
         nodes,
-        only,
-        to,
+        index,
+        targets,
         column,
         paths,
         scores,

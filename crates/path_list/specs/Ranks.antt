@@ -26,19 +26,19 @@ pub record Lists : Type 0 where
   pub es : List ℕ
   pub t : List ℕ
   pub sc : List Float
-  pub shut : List ℕ
+  pub closed : List ℕ
   pub walks : List ℕ
   pub k : ℕ
   pub most : ℕ
 
 abbrev pub lists : List ℕ → List ℕ → List ℕ → List ℕ → List Float → List ℕ → List ℕ → ℕ → ℕ → Lists
-lists text vs es t sc shut walks k most = record { text = text; vs = vs; es = es; t = t; sc = sc; shut = shut; walks = walks; k = k; most = most }
+lists text vs es t sc closed walks k most = record { text = text; vs = vs; es = es; t = t; sc = sc; closed = closed; walks = walks; k = k; most = most }
 
 abbrev pub scoreAt : Lists → ℕ → Float
-scoreAt l i = scoreOf (l .sc) (recordAt (l .shut) i)
+scoreAt l i = scoreOf (l .sc) (recordAt (l .closed) i)
 
 abbrev pub countAt : Lists → ℕ → ℕ
-countAt l i = countOf (l .t) (recordAt (l .shut) i)
+countAt l i = countOf (l .t) (recordAt (l .closed) i)
 
 abbrev pub walkAt : Lists → ℕ → List ℕ
 walkAt l i = take (countAt l i) (drop (i * l .most) (l .walks))
@@ -57,8 +57,8 @@ above-is l i j = refl
 
 -- `count` closed paths, each with its record and its edges in the tables
 pub record Ready (l : Lists) (count : ℕ) : Type 0 where
-  pub shut-room : count ≤ length (l .shut)
-  pub inside : (i : ℕ) → i < count → Inside (l .t) (l .sc) (recordAt (l .shut) i)
+  pub closed-room : count ≤ length (l .closed)
+  pub inside : (i : ℕ) → i < count → Inside (l .t) (l .sc) (recordAt (l .closed) i)
   pub short : (i : ℕ) → i < count → countAt l i ≤ l .most
   pub walks-room : count * l .most ≤ length (l .walks)
   pub spells : (i : ℕ) → i < count → Spells (l .k) (l .text) (l .vs) (l .es) (drop (i * l .most) (l .walks)) (countAt l i)

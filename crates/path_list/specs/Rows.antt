@@ -26,15 +26,15 @@ pub record Placed (count : ℕ) (rank : List ℕ) : Type 0 where
   pub few : count ≤ 128
 
 -- ... whose records are in the tables
-pub record Known (t : List ℕ) (sc : List Float) (shut : List ℕ) (count : ℕ) : Type 0 where
-  pub shut-room : count ≤ length shut
-  pub inside : (i : ℕ) → i < count → Inside t sc (recordAt shut i)
+pub record Known (t : List ℕ) (sc : List Float) (closed : List ℕ) (count : ℕ) : Type 0 where
+  pub closed-room : count ≤ length closed
+  pub inside : (i : ℕ) → i < count → Inside t sc (recordAt closed i)
 
-module _ (count : ℕ) (rank : List ℕ) (P : Placed count rank) (t : List ℕ) (sc : List Float) (shut : List ℕ) (K : Known t sc shut count) (r : ℕ) (h : r < count) where
-  pub known-at : getD rank r 0 < length shut
-  known-at = let a = P .known r h in let b = K .shut-room in omega arith
+module _ (count : ℕ) (rank : List ℕ) (P : Placed count rank) (t : List ℕ) (sc : List Float) (closed : List ℕ) (K : Known t sc closed count) (r : ℕ) (h : r < count) where
+  pub known-at : getD rank r 0 < length closed
+  known-at = let a = P .known r h in let b = K .closed-room in omega arith
 
-  pub known-inside : (q : ℕ) → q ≡ recordAt shut (getD rank r 0) → Inside t sc q
+  pub known-inside : (q : ℕ) → q ≡ recordAt closed (getD rank r 0) → Inside t sc q
   known-inside q e = rw e (K .inside (getD rank r 0) (P .known r h))
 
 -- ---- the columns
@@ -94,36 +94,36 @@ module _ {A : Type 0} (none : A) (value : ℕ → A) where
 
 -- what the columns tell of row r
 abbrev pub scoreRow : List Float → List ℕ → List ℕ → ℕ → Float
-scoreRow sc shut rank r = scoreOf sc (recordAt shut (getD rank r 0))
+scoreRow sc closed rank r = scoreOf sc (recordAt closed (getD rank r 0))
 
 abbrev pub closingRow : List ℕ → ℕ → ℕ
 closingRow rank r = getD rank r 0 + 1
 
 abbrev pub edgesRow : List ℕ → List ℕ → List ℕ → ℕ → ℕ
-edgesRow t shut rank r = countOf t (recordAt shut (getD rank r 0))
+edgesRow t closed rank r = countOf t (recordAt closed (getD rank r 0))
 
 -- the three columns, up to row i of `count`
-pub record ColumnsTo (t : List ℕ) (sc : List Float) (shut rank : List ℕ) (count i : ℕ) (ss₀ : List Float) (cs₀ es₀ : List ℕ) (ss : List Float) (cs es : List ℕ) : Type 0 where
+pub record ColumnsTo (t : List ℕ) (sc : List Float) (closed rank : List ℕ) (count i : ℕ) (ss₀ : List Float) (cs₀ es₀ : List ℕ) (ss : List Float) (cs es : List ℕ) : Type 0 where
   pub low : i ≤ count
-  pub scores : Column nan (scoreRow sc shut rank) i ss₀ ss
+  pub scores : Column nan (scoreRow sc closed rank) i ss₀ ss
   pub closings : Column 0 (closingRow rank) i cs₀ cs
-  pub edges : Column 0 (edgesRow t shut rank) i es₀ es
+  pub edges : Column 0 (edgesRow t closed rank) i es₀ es
 
-pub record Columns (t : List ℕ) (sc : List Float) (shut rank : List ℕ) (count : ℕ) (ss₀ : List Float) (cs₀ es₀ : List ℕ) (ss : List Float) (cs es : List ℕ) : Type 0 where
-  pub scores : (r : ℕ) → r < count → getD ss r nan ≡ scoreOf sc (recordAt shut (getD rank r 0))
+pub record Columns (t : List ℕ) (sc : List Float) (closed rank : List ℕ) (count : ℕ) (ss₀ : List Float) (cs₀ es₀ : List ℕ) (ss : List Float) (cs es : List ℕ) : Type 0 where
+  pub scores : (r : ℕ) → r < count → getD ss r nan ≡ scoreOf sc (recordAt closed (getD rank r 0))
   pub closings : (r : ℕ) → r < count → getD cs r 0 ≡ getD rank r 0 + 1
-  pub edges : (r : ℕ) → r < count → getD es r 0 ≡ countOf t (recordAt shut (getD rank r 0))
-  pub scores-are : ss ≡ writtenAt 0 (rows (scoreRow sc shut rank) count) ss₀
+  pub edges : (r : ℕ) → r < count → getD es r 0 ≡ countOf t (recordAt closed (getD rank r 0))
+  pub scores-are : ss ≡ writtenAt 0 (rows (scoreRow sc closed rank) count) ss₀
   pub closings-are : cs ≡ writtenAt 0 (rows (closingRow rank) count) cs₀
-  pub edges-are : es ≡ writtenAt 0 (rows (edgesRow t shut rank) count) es₀
+  pub edges-are : es ≡ writtenAt 0 (rows (edgesRow t closed rank) count) es₀
 
-module _ (t : List ℕ) (sc : List Float) (shut rank : List ℕ) (count : ℕ) where
-  pub columns-start : (ss : List Float) (cs es : List ℕ) → ColumnsTo t sc shut rank count 0 ss cs es ss cs es
+module _ (t : List ℕ) (sc : List Float) (closed rank : List ℕ) (count : ℕ) where
+  pub columns-start : (ss : List Float) (cs es : List ℕ) → ColumnsTo t sc closed rank count 0 ss cs es ss cs es
   columns-start ss cs es = record { low = omega arith; scores = column-start nan _ ss; closings = column-start 0 _ cs; edges = column-start 0 _ es }
 
-  module _ (i : ℕ) (ss₀ : List Float) (cs₀ es₀ : List ℕ) (ss : List Float) (cs es : List ℕ) (C : ColumnsTo t sc shut rank count i ss₀ cs₀ es₀ ss cs es) where
-    pub columns-next : i < count → count ≤ length ss₀ → count ≤ length cs₀ → count ≤ length es₀ → (x : Float) (y z : ℕ) → x ≡ scoreOf sc (recordAt shut (getD rank i 0)) → y ≡ getD rank i 0 + 1
-        → z ≡ countOf t (recordAt shut (getD rank i 0)) → ColumnsTo t sc shut rank count (i + 1) ss₀ cs₀ es₀ (set ss i x) (set cs i y) (set es i z)
+  module _ (i : ℕ) (ss₀ : List Float) (cs₀ es₀ : List ℕ) (ss : List Float) (cs es : List ℕ) (C : ColumnsTo t sc closed rank count i ss₀ cs₀ es₀ ss cs es) where
+    pub columns-next : i < count → count ≤ length ss₀ → count ≤ length cs₀ → count ≤ length es₀ → (x : Float) (y z : ℕ) → x ≡ scoreOf sc (recordAt closed (getD rank i 0)) → y ≡ getD rank i 0 + 1
+        → z ≡ countOf t (recordAt closed (getD rank i 0)) → ColumnsTo t sc closed rank count (i + 1) ss₀ cs₀ es₀ (set ss i x) (set cs i y) (set es i z)
     columns-next h a b c x y z p q w =
         record {
           low = omega arith;
@@ -132,16 +132,16 @@ module _ (t : List ℕ) (sc : List Float) (shut rank : List ℕ) (count : ℕ) w
           edges = column-next 0 _ i es₀ es z (C .edges) (omega arith) w;
         }
 
-    pub columns-end : count ≤ i → count ≤ length ss₀ → count ≤ length cs₀ → count ≤ length es₀ → Columns t sc shut rank count ss₀ cs₀ es₀ ss cs es
+    pub columns-end : count ≤ i → count ≤ length ss₀ → count ≤ length cs₀ → count ≤ length es₀ → Columns t sc closed rank count ss₀ cs₀ es₀ ss cs es
     columns-end h a b c =
         let e : i ≡ count = (let l = C .low in omega arith) in
         record {
           scores = λ r l. C .scores .at r (omega arith);
           closings = λ r l. C .closings .at r (omega arith);
           edges = λ r l. C .edges .at r (omega arith);
-          scores-are = column-is nan _ count ss₀ ss a (subst (λ (j : ℕ). Column nan (scoreRow sc shut rank) j ss₀ ss) e (C .scores));
+          scores-are = column-is nan _ count ss₀ ss a (subst (λ (j : ℕ). Column nan (scoreRow sc closed rank) j ss₀ ss) e (C .scores));
           closings-are = column-is 0 _ count cs₀ cs b (subst (λ (j : ℕ). Column 0 (closingRow rank) j cs₀ cs) e (C .closings));
-          edges-are = column-is 0 _ count es₀ es c (subst (λ (j : ℕ). Column 0 (edgesRow t shut rank) j es₀ es) e (C .edges));
+          edges-are = column-is 0 _ count es₀ es c (subst (λ (j : ℕ). Column 0 (edgesRow t closed rank) j es₀ es) e (C .edges));
         }
 
 -- ---- the bases
@@ -151,8 +151,8 @@ abbrev pub basesAt : Lists → List ℕ → ℕ → List ℕ
 basesAt l rank r = basesOf (l .k) (l .text) (l .vs) (l .es) (walkAt l (getD rank r 0))
 
 module _ (l : Lists) (count : ℕ) (R : Ready l count) (rank : List ℕ) (P : Placed count rank) where
-  pub ready-known : Known (l .t) (l .sc) (l .shut) count
-  ready-known = record { shut-room = R .shut-room; inside = R .inside }
+  pub ready-known : Known (l .t) (l .sc) (l .closed) count
+  ready-known = record { closed-room = R .closed-room; inside = R .inside }
 
   module _ (r : ℕ) (h : r < count) where
     pub spell-row : (i : ℕ) → i ≡ getD rank r 0 → i * l .most ≤ length (l .walks)
@@ -196,18 +196,18 @@ module _ (l : Lists) (count : ℕ) (R : Ready l count) (rank : List ℕ) (P : Pl
 -- ---- the origins
 
 -- the edges of the closed paths, written out, are rows of the table of edges
-pub record Filed (es t : List ℕ) (sc : List Float) (shut walks : List ℕ) (most count : ℕ) : Type 0 where
-  pub records : Known t sc shut count
-  pub short : (i : ℕ) → i < count → countOf t (recordAt shut i) ≤ most
+pub record Filed (es t : List ℕ) (sc : List Float) (closed walks : List ℕ) (most count : ℕ) : Type 0 where
+  pub records : Known t sc closed count
+  pub short : (i : ℕ) → i < count → countOf t (recordAt closed i) ≤ most
   pub walks-room : count * most ≤ length walks
-  pub edge-room : (i x : ℕ) → i < count → x < countOf t (recordAt shut i) → HasEdge es (getD (drop (i * most) walks) x 0)
+  pub edge-room : (i x : ℕ) → i < count → x < countOf t (recordAt closed i) → HasEdge es (getD (drop (i * most) walks) x 0)
 
 -- field j of the edges of row r
 abbrev pub fieldsAt : List ℕ → List ℕ → List ℕ → List ℕ → ℕ → ℕ → List ℕ → ℕ → List ℕ
-fieldsAt es t shut walks most j rank r =
-    map (λ e. edgeField es e j) (take (countOf t (recordAt shut (getD rank r 0))) (drop (getD rank r 0 * most) walks))
+fieldsAt es t closed walks most j rank r =
+    map (λ e. edgeField es e j) (take (countOf t (recordAt closed (getD rank r 0))) (drop (getD rank r 0 * most) walks))
 
-module _ (es t : List ℕ) (sc : List Float) (shut walks : List ℕ) (most count : ℕ) (F : Filed es t sc shut walks most count) where
+module _ (es t : List ℕ) (sc : List Float) (closed walks : List ℕ) (most count : ℕ) (F : Filed es t sc closed walks most count) where
   -- the edges from the row of the path i on, as the code hands them on
   abbrev part : ℕ → List ℕ
   part i = take (length walks - i * most) (drop (i * most) walks)
@@ -219,7 +219,7 @@ module _ (es t : List ℕ) (sc : List Float) (shut walks : List ℕ) (most count
     pub filed-row : (i : ℕ) → i ≡ getD rank r 0 → i * most ≤ length walks
     filed-row i e = rw e (let a = row-low (getD rank r 0) count most (P .known r h) in let b = F .walks-room in omega arith)
 
-    in-walks : countOf t (recordAt shut (getD rank r 0)) ≤ length (drop (getD rank r 0 * most) walks)
+    in-walks : countOf t (recordAt closed (getD rank r 0)) ≤ length (drop (getD rank r 0 * most) walks)
     in-walks =
         let a = row-low (getD rank r 0) count most (P .known r h) in
         let b = F .walks-room in
@@ -230,7 +230,7 @@ module _ (es t : List ℕ) (sc : List Float) (shut walks : List ℕ) (most count
     pub filed-room : (size : ℕ) → count * most ≤ size → r * most + most ≤ size
     filed-room size k = let a = row-low r count most h in omega arith
 
-    pub filed-asks : (j i n size : ℕ) → i ≡ getD rank r 0 → n ≡ countOf t (recordAt shut (getD rank r 0)) → j < 6 → count * most ≤ size
+    pub filed-asks : (j i n size : ℕ) → i ≡ getD rank r 0 → n ≡ countOf t (recordAt closed (getD rank r 0)) → j < 6 → count * most ≤ size
         → (n ≤ length (part i)) × ((x : ℕ) → x < n → getD (part i) x 0 * 6 + j < length es) × (r * most + n ≤ size)
     filed-asks j i n size e f l k =
         let a = filed-room size k in
@@ -238,15 +238,15 @@ module _ (es t : List ℕ) (sc : List Float) (shut walks : List ℕ) (most count
         rw (e, f, whole (getD rank r 0))
         (in-walks, (λ x m. (let z = F .edge-room (getD rank r 0) x (P .known r h) m in omega arith)), omega arith)
 
-    pub filed-next : (j : ℕ) (old out out′ : List ℕ) (i n : ℕ) → i ≡ getD rank r 0 → n ≡ countOf t (recordAt shut (getD rank r 0)) → count * most ≤ length old
-        → Laid most (fieldsAt es t shut walks most j rank) old r out → out′ ≡ sets out (r * most) (map (λ e. edgeField es e j) (take n (part i)))
-        → Laid most (fieldsAt es t shut walks most j rank) old (r + 1) out′
+    pub filed-next : (j : ℕ) (old out out′ : List ℕ) (i n : ℕ) → i ≡ getD rank r 0 → n ≡ countOf t (recordAt closed (getD rank r 0)) → count * most ≤ length old
+        → Laid most (fieldsAt es t closed walks most j rank) old r out → out′ ≡ sets out (r * most) (map (λ e. edgeField es e j) (take n (part i)))
+        → Laid most (fieldsAt es t closed walks most j rank) old (r + 1) out′
     filed-next j old out out′ i n e f k L w =
         let a = filed-room (length old) k in
         let b = F .short (getD rank r 0) (P .known r h) in
-        let c : length (fieldsAt es t shut walks most j rank r) ≡ countOf t (recordAt shut (getD rank r 0)) =
-        length-map (take (countOf t (recordAt shut (getD rank r 0))) (drop (getD rank r 0 * most) walks)) (λ e. edgeField es e j)
-        ∙ length-take-le (countOf t (recordAt shut (getD rank r 0))) (drop (getD rank r 0 * most) walks) in-walks
+        let c : length (fieldsAt es t closed walks most j rank r) ≡ countOf t (recordAt closed (getD rank r 0)) =
+        length-map (take (countOf t (recordAt closed (getD rank r 0))) (drop (getD rank r 0 * most) walks)) (λ e. edgeField es e j)
+        ∙ length-take-le (countOf t (recordAt closed (getD rank r 0))) (drop (getD rank r 0 * most) walks) in-walks
         in
-        let q : out′ ≡ sets out (r * most) (fieldsAt es t shut walks most j rank r) = rw (e, f, whole (getD rank r 0)) at w in
-        laid-sets most (fieldsAt es t shut walks most j rank) old r out out′ L (omega arith) q
+        let q : out′ ≡ sets out (r * most) (fieldsAt es t closed walks most j rank r) = rw (e, f, whole (getD rank r 0)) at w in
+        laid-sets most (fieldsAt es t closed walks most j rank) old r out out′ L (omega arith) q

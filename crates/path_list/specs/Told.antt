@@ -27,31 +27,31 @@ use Rattle.assembly.specs.Store.{edgeAt, edgesOf, kmerAt, graphOf}
 use Rattle.assembly.specs.Paths.{basesOf, bases-is}
 use Rattle.path_rows.specs.Rows.{finished}
 use Rattle.search_state.specs.Ground.{nameOf}
-use Rattle.search_state.specs.State.{shutOf, upFrom}
+use Rattle.search_state.specs.State.{closedRecord, upFrom}
 use Rattle.path_list.specs.Walked.{recordAt, walkOf}
 use Rattle.path_list.specs.Tails.{compare-same}
 use Rattle.path_list.specs.Ranks.{Lists, scoreAt, countAt, walkAt, tailAt, aboveAt, above-is, Ranked, all-low}
 
 -- the closed paths are spelled by the graph of n vertices and m edges: none takes the symbolic edge
-pub record Drawn (text vs es only to t shut : List ℕ) (k count n m : ℕ) : Type 0 where
+pub record Drawn (text vs es index targets t closed : List ℕ) (k count n m : ℕ) : Type 0 where
   pub vertex : 0 < n
   pub fits : (v : ℕ) → v < n → kmerPlace vs v + k ≤ length text
   pub to-in : (e : ℕ) → e < m → edgeTo es e < n
-  pub real : (i : ℕ) → i < count → All (λ e. e < m) (walkOf only to t shut i)
+  pub real : (i : ℕ) → i < count → All (λ e. e < m) (walkOf index targets t closed i)
 
 -- the tables show the graph, its edges with the symbolic one, and the closed paths
-pub record Shows (text vs es only to t : List ℕ) (sc : List Float) (shut : List ℕ) (k count : ℕ) (b : Built) (closed : List (Closed Float)) : Type 0 where
+pub record Shows (text vs es index targets t : List ℕ) (sc : List Float) (closed : List ℕ) (k count : ℕ) (b : Built) (found : List (Closed Float)) : Type 0 where
   pub vertices : ℕ
   pub real : ℕ
   pub all : ℕ
-  pub drawn : Drawn text vs es only to t shut k count vertices real
+  pub drawn : Drawn text vs es index targets t closed k count vertices real
   pub graph : graphOf k text vs vertices es real ≡ b .graph
   pub within : real ≤ all
   pub edges : edgesOf es all ≡ b .edges
   pub distinct : Distinct (edgeAt es) all
   pub closing : ℕ → ℕ
-  pub shut-are : closed ≡ map (shutOf es only to closing t sc) (take count shut)
-  pub numbered : Numbered 0 closed
+  pub found-are : found ≡ map (closedRecord es index targets closing t sc) (take count closed)
+  pub numbered : Numbered 0 found
 
 -- ---- lists
 
@@ -95,32 +95,32 @@ numbered-at n f (x ∷ l) N (suc i) h = let z : suc n + suc i ≡ suc (suc n) + 
 -- ---- the list
 
 -- the outputs are the definition's list
-pub record Told (b : Built) (closed : List (Closed Float)) (column : List Float) (k most count : ℕ) (ss₀ : List Float) (cs₀ ls₀ : List ℕ) (ss : List Float) (cs ls : List ℕ) (bases sequences places bases′ sequences′ places′ : List ℕ) : Type 0 where
-  pub paths : length (listOrder (columnScoring column) (map (rowOf b) closed)) ≡ count
-  pub rows : finished ss cs ls count ≡ map pathRow (listOrder (columnScoring column) (map (rowOf b) closed))
-  pub scores-are : ss ≡ writtenAt 0 (map (λ (r : Row Float). r .score) (listOrder (columnScoring column) (map (rowOf b) closed))) ss₀
-  pub closings-are : cs ≡ writtenAt 0 (map (λ (r : Row Float). r .closing) (listOrder (columnScoring column) (map (rowOf b) closed))) cs₀
-  pub edges-are : ls ≡ writtenAt 0 (map (λ (r : Row Float). r .edges) (listOrder (columnScoring column) (map (rowOf b) closed))) ls₀
-  pub bases-are : bases′ ≡ writtenRows (k + most) 0 (map (λ (r : Row Float). r .bases) (listOrder (columnScoring column) (map (rowOf b) closed))) bases
-  pub sequences-are : sequences′ ≡ writtenRows most 0 (map (λ (r : Row Float). map (λ (o : Origin). o .sequence) (r .origins)) (listOrder (columnScoring column) (map (rowOf b) closed))) sequences
-  pub places-are : places′ ≡ writtenRows most 0 (map (λ (r : Row Float). map (λ (o : Origin). o .place) (r .origins)) (listOrder (columnScoring column) (map (rowOf b) closed))) places
+pub record Told (b : Built) (found : List (Closed Float)) (column : List Float) (k most count : ℕ) (ss₀ : List Float) (cs₀ ls₀ : List ℕ) (ss : List Float) (cs ls : List ℕ) (bases sequences places bases′ sequences′ places′ : List ℕ) : Type 0 where
+  pub paths : length (listOrder (columnScoring column) (map (rowOf b) found)) ≡ count
+  pub rows : finished ss cs ls count ≡ map pathRow (listOrder (columnScoring column) (map (rowOf b) found))
+  pub scores-are : ss ≡ writtenAt 0 (map (λ (r : Row Float). r .score) (listOrder (columnScoring column) (map (rowOf b) found))) ss₀
+  pub closings-are : cs ≡ writtenAt 0 (map (λ (r : Row Float). r .closing) (listOrder (columnScoring column) (map (rowOf b) found))) cs₀
+  pub edges-are : ls ≡ writtenAt 0 (map (λ (r : Row Float). r .edges) (listOrder (columnScoring column) (map (rowOf b) found))) ls₀
+  pub bases-are : bases′ ≡ writtenRows (k + most) 0 (map (λ (r : Row Float). r .bases) (listOrder (columnScoring column) (map (rowOf b) found))) bases
+  pub sequences-are : sequences′ ≡ writtenRows most 0 (map (λ (r : Row Float). map (λ (o : Origin). o .sequence) (r .origins)) (listOrder (columnScoring column) (map (rowOf b) found))) sequences
+  pub places-are : places′ ≡ writtenRows most 0 (map (λ (r : Row Float). map (λ (o : Origin). o .place) (r .origins)) (listOrder (columnScoring column) (map (rowOf b) found))) places
 
-module _ (l : Lists) (only to : List ℕ) (count : ℕ) (b : Built) (closed : List (Closed Float)) (S : Shows (l .text) (l .vs) (l .es) only to (l .t) (l .sc) (l .shut) (l .k) count b closed)
-    (shut-room : count ≤ length (l .shut)) (same : (i : ℕ) → i < count → walkAt l i ≡ walkOf only to (l .t) (l .shut) i) where
+module _ (l : Lists) (index targets : List ℕ) (count : ℕ) (b : Built) (found : List (Closed Float)) (S : Shows (l .text) (l .vs) (l .es) index targets (l .t) (l .sc) (l .closed) (l .k) count b found)
+    (closed-room : count ≤ length (l .closed)) (same : (i : ℕ) → i < count → walkAt l i ≡ walkOf index targets (l .t) (l .closed) i) where
   -- the closed path i, and its row
   abbrev pathAt : ℕ → Closed Float
-  pathAt i = shutOf (l .es) only to (S .closing) (l .t) (l .sc) (recordAt (l .shut) i)
+  pathAt i = closedRecord (l .es) index targets (S .closing) (l .t) (l .sc) (recordAt (l .closed) i)
 
   pub row : ℕ → Row Float
   row i = rowOf b (pathAt i)
 
-  rows-are : map (rowOf b) closed ≡ map row (upFrom 0 count)
+  rows-are : map (rowOf b) found ≡ map row (upFrom 0 count)
   unfolding row
   rows-are =
-      ap (λ (c : List (Closed Float)). map (rowOf b) c) (S .shut-are)
-      ∙ map-two (rowOf b) (shutOf (l .es) only to (S .closing) (l .t) (l .sc)) (take count (l .shut))
-      ∙ ap (λ (x : List ℕ). map (λ r. rowOf b (shutOf (l .es) only to (S .closing) (l .t) (l .sc) r)) x) (take-from (l .shut) 0 count (omega arith))
-      ∙ map-two (λ r. rowOf b (shutOf (l .es) only to (S .closing) (l .t) (l .sc) r)) (λ i. getD (l .shut) i 0) (upFrom 0 count)
+      ap (λ (c : List (Closed Float)). map (rowOf b) c) (S .found-are)
+      ∙ map-two (rowOf b) (closedRecord (l .es) index targets (S .closing) (l .t) (l .sc)) (take count (l .closed))
+      ∙ ap (λ (x : List ℕ). map (λ r. rowOf b (closedRecord (l .es) index targets (S .closing) (l .t) (l .sc) r)) x) (take-from (l .closed) 0 count (omega arith))
+      ∙ map-two (λ r. rowOf b (closedRecord (l .es) index targets (S .closing) (l .t) (l .sc) r)) (λ i. getD (l .closed) i 0) (upFrom 0 count)
 
   -- ---- the parts of a row
 
@@ -131,25 +131,25 @@ module _ (l : Lists) (only to : List ℕ) (count : ℕ) (b : Built) (closed : Li
   pub row-closing : (i : ℕ) → i < count → row i .closing ≡ i + 1
   unfolding row rowOf
   row-closing i h =
-      let a : length (take count (l .shut)) ≡ count = length-take-le count (l .shut) shut-room in
-      let N : Numbered 0 (map (shutOf (l .es) only to (S .closing) (l .t) (l .sc)) (take count (l .shut))) = rw (S .shut-are) at (S .numbered) in
-      ap (λ r. S .closing r) (sym (getD-take count (l .shut) i 0 h))
-      ∙ numbered-at 0 (shutOf (l .es) only to (S .closing) (l .t) (l .sc)) (take count (l .shut)) N i (omega arith)
+      let a : length (take count (l .closed)) ≡ count = length-take-le count (l .closed) closed-room in
+      let N : Numbered 0 (map (closedRecord (l .es) index targets (S .closing) (l .t) (l .sc)) (take count (l .closed))) = rw (S .found-are) at (S .numbered) in
+      ap (λ r. S .closing r) (sym (getD-take count (l .closed) i 0 h))
+      ∙ numbered-at 0 (closedRecord (l .es) index targets (S .closing) (l .t) (l .sc)) (take count (l .closed)) N i (omega arith)
       ∙ (let z : suc 0 + i ≡ i + 1 = omega arith in z)
 
   pub row-isRef : (i : ℕ) → row i .isRef ≡ false
   unfolding row rowOf
   row-isRef i = refl
 
-  pub row-edges : (i : ℕ) → i < count → (h : countAt l i ≡ length (walkOf only to (l .t) (l .shut) i)) → row i .edges ≡ countAt l i
+  pub row-edges : (i : ℕ) → i < count → (h : countAt l i ≡ length (walkOf index targets (l .t) (l .closed) i)) → row i .edges ≡ countAt l i
   unfolding row rowOf
-  row-edges i k h = length-map (walkOf only to (l .t) (l .shut) i) (nameOf (l .es)) ∙ sym h
+  row-edges i k h = length-map (walkOf index targets (l .t) (l .closed) i) (nameOf (l .es)) ∙ sym h
 
   pub row-bases : (i : ℕ) → i < count → row i .bases ≡ basesOf (l .k) (l .text) (l .vs) (l .es) (walkAt l i)
   unfolding row rowOf
   row-bases i h =
-      ap (λ (g : Graph). pathBases g (map (nameOf (l .es)) (walkOf only to (l .t) (l .shut) i))) (sym (S .graph))
-      ∙ sym (bases-is (l .k) (l .text) (l .vs) (l .es) (S .vertices) (S .real) (walkOf only to (l .t) (l .shut) i) (S .drawn .vertex)
+      ap (λ (g : Graph). pathBases g (map (nameOf (l .es)) (walkOf index targets (l .t) (l .closed) i))) (sym (S .graph))
+      ∙ sym (bases-is (l .k) (l .text) (l .vs) (l .es) (S .vertices) (S .real) (walkOf index targets (l .t) (l .closed) i) (S .drawn .vertex)
       (all-mono (λ e m. S .drawn .to-in e m) (S .drawn .real i h)))
       ∙ ap (λ (w : List ℕ). basesOf (l .k) (l .text) (l .vs) (l .es) w) (sym (same i h))
 
@@ -166,8 +166,8 @@ module _ (l : Lists) (only to : List ℕ) (count : ℕ) (b : Built) (closed : Li
   pub row-origins : (i : ℕ) → i < count → (part : Origin → ℕ) → map part (row i .origins) ≡ map (λ e. part (edgeAt (l .es) e .origin)) (walkAt l i)
   unfolding row rowOf
   row-origins i h part =
-      map-two part (originAt (b .edges)) (map (nameOf (l .es)) (walkOf only to (l .t) (l .shut) i))
-      ∙ map-two (λ (d : Ends). part (originAt (b .edges) d)) (nameOf (l .es)) (walkOf only to (l .t) (l .shut) i)
+      map-two part (originAt (b .edges)) (map (nameOf (l .es)) (walkOf index targets (l .t) (l .closed) i))
+      ∙ map-two (λ (d : Ends). part (originAt (b .edges) d)) (nameOf (l .es)) (walkOf index targets (l .t) (l .closed) i)
       ∙ map-agree (λ e. part (originAt (b .edges) (nameOf (l .es) e))) (λ e. part (edgeAt (l .es) e .origin)) (λ e m. ap part (origin-is e m)) (S .drawn .real i h)
       ∙ ap (λ (w : List ℕ). map (λ e. part (edgeAt (l .es) e .origin)) w) (sym (same i h))
 
@@ -185,7 +185,7 @@ module _ (l : Lists) (only to : List ℕ) (count : ℕ) (b : Built) (closed : Li
         ∙ (rw (row-score i, row-score j, spelled i h, spelled j k, compare-same (kmerAt (l .k) (l .text) (l .vs) 0) (tailAt l i) (tailAt l j)))
 
     module _ (rank : List ℕ) (R : Ranked (aboveAt l) count 0 rank) where
-      pub order-is : listOrder (columnScoring column) (map (rowOf b) closed) ≡ map row (take count rank)
+      pub order-is : listOrder (columnScoring column) (map (rowOf b) found) ≡ map row (take count rank)
       unfolding listOrder
       order-is =
           let z : count - 0 ≡ count = omega arith in
@@ -195,7 +195,7 @@ module _ (l : Lists) (only to : List ℕ) (count : ℕ) (b : Built) (closed : Li
 
       -- one part of every row, as the rows stand in a slice
       pub part-is : {A : Type 0} (part : Row Float → A) (f : ℕ → A) → count ≤ length rank → ((r : ℕ) → r < count → f r ≡ part (row (getD rank r 0)))
-          → rows f count ≡ map part (listOrder (columnScoring column) (map (rowOf b) closed))
+          → rows f count ≡ map part (listOrder (columnScoring column) (map (rowOf b) found))
       part-is {A} part f m h =
           rows-same f (λ r. part (row (getD rank r 0))) count h
           ∙ rows-map (λ i. part (row i)) rank count m

@@ -12,54 +12,54 @@ use Rattle.path_list.specs.Laid.{Laid, laid-sets, laid-read, row-low}
 
 -- the record of the closed path i
 abbrev pub recordAt : List ℕ → ℕ → ℕ
-recordAt shut i = getD shut i 0
+recordAt closed i = getD closed i 0
 
 -- ... and its edges
 abbrev pub walkOf : List ℕ → List ℕ → List ℕ → List ℕ → ℕ → List ℕ
-walkOf only to t shut i = edges only to t (recordAt shut i)
+walkOf index targets t closed i = edges index targets t (recordAt closed i)
 
 -- the closed paths are among the n records, none longer than its row; `room` is the length of the slice of rows
-pub record Walkable (only to t : List ℕ) (sc : List Float) (shut : List ℕ) (count most room : ℕ) : Type 0 where
+pub record Walkable (index targets t : List ℕ) (sc : List Float) (closed : List ℕ) (count most room : ℕ) : Type 0 where
   pub records : ℕ
-  pub table : Table only to t sc records
-  pub known : (i : ℕ) → i < count → recordAt shut i < records
-  pub short : (i : ℕ) → i < count → countOf t (recordAt shut i) ≤ most
-  pub shut-room : count ≤ length shut
+  pub table : Table index targets t sc records
+  pub known : (i : ℕ) → i < count → recordAt closed i < records
+  pub short : (i : ℕ) → i < count → countOf t (recordAt closed i) ≤ most
+  pub closed-room : count ≤ length closed
   pub walks-room : count * most ≤ room
 
 abbrev pub Walked : List ℕ → List ℕ → List ℕ → List ℕ → ℕ → ℕ → List ℕ → List ℕ → Type 0
-Walked only to t shut most i old walks = Laid most (walkOf only to t shut) old i walks
+Walked index targets t closed most i old walks = Laid most (walkOf index targets t closed) old i walks
 
-module _ (only to t : List ℕ) (sc : List Float) (shut : List ℕ) (count most room : ℕ) (W : Walkable only to t sc shut count most room) where
+module _ (index targets t : List ℕ) (sc : List Float) (closed : List ℕ) (count most room : ℕ) (W : Walkable index targets t sc closed count most room) where
   module _ (i : ℕ) (h : i < count) where
     -- the row ends within the slice
     pub row-in : i * most + most ≤ room
     row-in = let a = row-low i count most h in let b = W .walks-room in omega arith
 
-    pub walk-length : countOf t (recordAt shut i) ≡ length (walkOf only to t shut i)
-    walk-length = W .table .rows (recordAt shut i) (W .known i h) .count
+    pub walk-length : countOf t (recordAt closed i) ≡ length (walkOf index targets t closed i)
+    walk-length = W .table .rows (recordAt closed i) (W .known i h) .count
 
-    pub walk-short : length (walkOf only to t shut i) ≤ most
+    pub walk-short : length (walkOf index targets t closed i) ≤ most
     walk-short = let a = walk-length in let b = W .short i h in omega arith
 
-    pub walk-inside : Inside t sc (recordAt shut i)
-    walk-inside = inside only to t sc (W .records) (W .table) (recordAt shut i) (W .known i h)
+    pub walk-inside : Inside t sc (recordAt closed i)
+    walk-inside = inside index targets t sc (W .records) (W .table) (recordAt closed i) (W .known i h)
 
-    pub walk-asks : (m : ℕ) → m ≡ room → (r : ℕ) → r ≡ recordAt shut i → Table only to t sc (r + 1) × (i * most + countOf t r ≤ m)
+    pub walk-asks : (m : ℕ) → m ≡ room → (r : ℕ) → r ≡ recordAt closed i → Table index targets t sc (r + 1) × (i * most + countOf t r ≤ m)
     walk-asks m e r k =
         let a = row-in in
         let b = W .short i h in
         let n = W .known i h in
-        rw k (table-front only to t sc (W .records) (recordAt shut i + 1) (W .table) (omega arith), omega arith)
+        rw k (table-front index targets t sc (W .records) (recordAt closed i + 1) (W .table) (omega arith), omega arith)
 
-  pub walked-next : (i : ℕ) (old walks walks′ : List ℕ) → i < count → length old ≡ room → Walked only to t shut most i old walks
-      → walks′ ≡ sets walks (i * most) (walkOf only to t shut i) → Walked only to t shut most (i + 1) old walks′
+  pub walked-next : (i : ℕ) (old walks walks′ : List ℕ) → i < count → length old ≡ room → Walked index targets t closed most i old walks
+      → walks′ ≡ sets walks (i * most) (walkOf index targets t closed i) → Walked index targets t closed most (i + 1) old walks′
   walked-next i old walks walks′ h e L s =
-      laid-sets most (walkOf only to t shut) old i walks walks′ L (let a = row-in i h in let b = walk-short i h in omega arith) s
+      laid-sets most (walkOf index targets t closed) old i walks walks′ L (let a = row-in i h in let b = walk-short i h in omega arith) s
 
   -- the edges of the closed path i are read from its row
-  pub walked-read : (old walks : List ℕ) → length old ≡ room → Walked only to t shut most count old walks → (i : ℕ) → i < count
-      → take (countOf t (recordAt shut i)) (drop (i * most) walks) ≡ walkOf only to t shut i
+  pub walked-read : (old walks : List ℕ) → length old ≡ room → Walked index targets t closed most count old walks → (i : ℕ) → i < count
+      → take (countOf t (recordAt closed i)) (drop (i * most) walks) ≡ walkOf index targets t closed i
   walked-read old walks e L i h =
       ap (λ n. take n (drop (i * most) walks)) (walk-length i h)
-      ∙ laid-read most (walkOf only to t shut) old count i walks L h (λ j k. walk-short j k) (let a = W .walks-room in omega arith)
+      ∙ laid-read most (walkOf index targets t closed) old count i walks L h (λ j k. walk-short j k) (let a = W .walks-room in omega arith)

@@ -15,18 +15,18 @@ use crate::rows::write_origins;
 use crate::rows::write_spellings;
 use crate::walks::write_walks;
 
-// The list of the closed paths, whose records stand in `shut` in the order of closing: the columns of its rows, for path_rows to copy, and beside
+// The list of the closed paths, whose records stand in `closed` in the order of closing: the columns of its rows, for path_rows to copy, and beside
 // them the bases and the origins. `walks` and `rank` are workspace: the edges of the closed paths, and their numbers in the list's order.
 pub fn write_list(
     reference: &[u8],
     bases: &[u8],
     vertices: &[u32],
     edges: &[u32],
-    only: &[u32],
-    to: &[u32],
+    index: &[u32],
+    targets: &[u32],
     paths: &[u32],
     scores: &[f64],
-    shut: &[u32],
+    closed: &[u32],
     count: usize,
     k: usize,
     most: usize,
@@ -39,10 +39,10 @@ pub fn write_list(
     sequences: &mut [u32],
     places: &mut [u32],
 )
-    requires { ⌜ Listable (now reference ++ now bases) (now vertices) (now edges) (now only) (now to) (now paths) (now scores) (now shut) k most count (length (now walks)) (length (now rank)) (length (now scored)) (length (now closings)) (length (now lengths)) (length (now spellings)) (length (now sequences)) (length (now places)) ⌝ }
-    ensures { λ _. ⌜ Listed (now (reference .entry) ++ now (bases .entry)) (now (vertices .entry)) (now (edges .entry)) (now (only .entry)) (now (to .entry)) (now (paths .entry)) (now (scores .entry)) (now (shut .entry)) k most count (now (scored .entry)) (now (closings .entry)) (now (lengths .entry)) (now (scored .exit)) (now (closings .exit)) (now (lengths .exit)) (now (spellings .entry)) (now (sequences .entry)) (now (places .entry)) (now (spellings .exit)) (now (sequences .exit)) (now (places .exit)) ⌝ }
+    requires { ⌜ Listable (now reference ++ now bases) (now vertices) (now edges) (now index) (now targets) (now paths) (now scores) (now closed) k most count (length (now walks)) (length (now rank)) (length (now scored)) (length (now closings)) (length (now lengths)) (length (now spellings)) (length (now sequences)) (length (now places)) ⌝ }
+    ensures { λ _. ⌜ Listed (now (reference .entry) ++ now (bases .entry)) (now (vertices .entry)) (now (edges .entry)) (now (index .entry)) (now (targets .entry)) (now (paths .entry)) (now (scores .entry)) (now (closed .entry)) k most count (now (scored .entry)) (now (closings .entry)) (now (lengths .entry)) (now (scored .exit)) (now (closings .exit)) (now (lengths .exit)) (now (spellings .entry)) (now (sequences .entry)) (now (places .entry)) (now (spellings .exit)) (now (sequences .exit)) (now (places .exit)) ⌝ }
 {
-    write_walks(paths, scores, only, to, shut, count, most, walks);
+    write_walks(paths, scores, index, targets, closed, count, most, walks);
     rank_paths(
         reference,
         bases,
@@ -50,14 +50,14 @@ pub fn write_list(
         edges,
         paths,
         scores,
-        shut,
+        closed,
         walks,
         k,
         most,
         count,
         rank,
     );
-    write_columns(paths, scores, shut, rank, count, scored, closings, lengths);
+    write_columns(paths, scores, closed, rank, count, scored, closings, lengths);
     write_spellings(
         reference,
         bases,
@@ -65,7 +65,7 @@ pub fn write_list(
         edges,
         paths,
         scores,
-        shut,
+        closed,
         walks,
         rank,
         k,
@@ -77,7 +77,7 @@ pub fn write_list(
         edges,
         paths,
         scores,
-        shut,
+        closed,
         walks,
         rank,
         most,
@@ -89,7 +89,7 @@ pub fn write_list(
         edges,
         paths,
         scores,
-        shut,
+        closed,
         walks,
         rank,
         most,

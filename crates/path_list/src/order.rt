@@ -61,7 +61,7 @@ fn stands_above(
     edges: &[u32],
     paths: &[u32],
     scores: &[f64],
-    shut: &[u32],
+    closed: &[u32],
     walks: &[u32],
     k: usize,
     most: usize,
@@ -69,11 +69,11 @@ fn stands_above(
     i: usize,
     j: usize,
 ) -> bool
-    requires { ⌜ Ready (lists (now reference ++ now bases) (now vertices) (now edges) (now paths) (now scores) (now shut) (now walks) k most) count × (i < count) × (j < count) ⌝ }
-    ensures { λ r. ⌜ r ≡ aboveAt (lists (now (reference .entry) ++ now (bases .entry)) (now (vertices .entry)) (now (edges .entry)) (now (paths .entry)) (now (scores .entry)) (now (shut .entry)) (now (walks .entry)) k most) i j ⌝ }
+    requires { ⌜ Ready (lists (now reference ++ now bases) (now vertices) (now edges) (now paths) (now scores) (now closed) (now walks) k most) count × (i < count) × (j < count) ⌝ }
+    ensures { λ r. ⌜ r ≡ aboveAt (lists (now (reference .entry) ++ now (bases .entry)) (now (vertices .entry)) (now (edges .entry)) (now (paths .entry)) (now (scores .entry)) (now (closed .entry)) (now (walks .entry)) k most) i j ⌝ }
 {
-    let a = path_at(paths, scores, shut[i]);
-    let b = path_at(paths, scores, shut[j]);
+    let a = path_at(paths, scores, closed[i]);
+    let b = path_at(paths, scores, closed[j]);
     if b.score < a.score {
         return true;
     }
@@ -110,7 +110,7 @@ fn insert_path(
     edges: &[u32],
     paths: &[u32],
     scores: &[f64],
-    shut: &[u32],
+    closed: &[u32],
     walks: &[u32],
     k: usize,
     most: usize,
@@ -118,8 +118,8 @@ fn insert_path(
     x: usize,
     rank: &mut [u16],
 )
-    requires { ⌜ Ready (lists (now reference ++ now bases) (now vertices) (now edges) (now paths) (now scores) (now shut) (now walks) k most) count × Inserts count x (now rank) ⌝ }
-    ensures { λ _. ⌜ Inserted (aboveAt (lists (now (reference .entry) ++ now (bases .entry)) (now (vertices .entry)) (now (edges .entry)) (now (paths .entry)) (now (scores .entry)) (now (shut .entry)) (now (walks .entry)) k most)) count x (now (rank .entry)) (now (rank .exit)) ⌝ }
+    requires { ⌜ Ready (lists (now reference ++ now bases) (now vertices) (now edges) (now paths) (now scores) (now closed) (now walks) k most) count × Inserts count x (now rank) ⌝ }
+    ensures { λ _. ⌜ Inserted (aboveAt (lists (now (reference .entry) ++ now (bases .entry)) (now (vertices .entry)) (now (edges .entry)) (now (paths .entry)) (now (scores .entry)) (now (closed .entry)) (now (walks .entry)) k most)) count x (now (rank .entry)) (now (rank .exit)) ⌝ }
 {
     let mut j = x + 1;
     while j < count {
@@ -131,7 +131,7 @@ fn insert_path(
             edges,
             paths,
             scores,
-            shut,
+            closed,
             walks,
             k,
             most,
@@ -156,15 +156,15 @@ pub fn rank_paths(
     edges: &[u32],
     paths: &[u32],
     scores: &[f64],
-    shut: &[u32],
+    closed: &[u32],
     walks: &[u32],
     k: usize,
     most: usize,
     count: usize,
     rank: &mut [u16],
 )
-    requires { ⌜ Ready (lists (now reference ++ now bases) (now vertices) (now edges) (now paths) (now scores) (now shut) (now walks) k most) count × (count ≤ length (now rank)) ⌝ }
-    ensures { λ _. ⌜ Ranked (aboveAt (lists (now (reference .entry) ++ now (bases .entry)) (now (vertices .entry)) (now (edges .entry)) (now (paths .entry)) (now (scores .entry)) (now (shut .entry)) (now (walks .entry)) k most)) count 0 (now (rank .exit)) ⌝ }
+    requires { ⌜ Ready (lists (now reference ++ now bases) (now vertices) (now edges) (now paths) (now scores) (now closed) (now walks) k most) count × (count ≤ length (now rank)) ⌝ }
+    ensures { λ _. ⌜ Ranked (aboveAt (lists (now (reference .entry) ++ now (bases .entry)) (now (vertices .entry)) (now (edges .entry)) (now (paths .entry)) (now (scores .entry)) (now (closed .entry)) (now (walks .entry)) k most)) count 0 (now (rank .exit)) ⌝ }
 {
     let mut x = count;
     while x > 0 {
@@ -176,7 +176,7 @@ pub fn rank_paths(
             edges,
             paths,
             scores,
-            shut,
+            closed,
             walks,
             k,
             most,

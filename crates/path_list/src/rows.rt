@@ -15,20 +15,20 @@ use path_store::writing::write_field;
 pub fn write_columns(
     paths: &[u32],
     scores: &[f64],
-    shut: &[u32],
+    closed: &[u32],
     rank: &[u16],
     count: usize,
     scored: &mut [f64],
     closings: &mut [u32],
     lengths: &mut [u32],
 )
-    requires { ⌜ Placed count (now rank) × Known (now paths) (now scores) (now shut) count × (count ≤ length (now scored)) × (count ≤ length (now closings)) × (count ≤ length (now lengths)) ⌝ }
-    ensures { λ _. ⌜ Columns (now (paths .entry)) (now (scores .entry)) (now (shut .entry)) (now (rank .entry)) count (now (scored .entry)) (now (closings .entry)) (now (lengths .entry)) (now (scored .exit)) (now (closings .exit)) (now (lengths .exit)) ⌝ }
+    requires { ⌜ Placed count (now rank) × Known (now paths) (now scores) (now closed) count × (count ≤ length (now scored)) × (count ≤ length (now closings)) × (count ≤ length (now lengths)) ⌝ }
+    ensures { λ _. ⌜ Columns (now (paths .entry)) (now (scores .entry)) (now (closed .entry)) (now (rank .entry)) count (now (scored .entry)) (now (closings .entry)) (now (lengths .entry)) (now (scored .exit)) (now (closings .exit)) (now (lengths .exit)) ⌝ }
 {
     let mut r: usize = 0;
     while r < count {
         let i = rank[r] as u32;
-        let row = path_at(paths, scores, at(shut, i));
+        let row = path_at(paths, scores, at(closed, i));
         scored[r] = row.score;
         closings[r] = i + 1;
         lengths[r] = row.edges;
@@ -44,7 +44,7 @@ pub fn write_spellings(
     edges: &[u32],
     paths: &[u32],
     scores: &[f64],
-    shut: &[u32],
+    closed: &[u32],
     walks: &[u32],
     rank: &[u16],
     k: usize,
@@ -52,13 +52,13 @@ pub fn write_spellings(
     count: usize,
     out: &mut [u8],
 )
-    requires { ⌜ Placed count (now rank) × Ready (lists (now reference ++ now bases) (now vertices) (now edges) (now paths) (now scores) (now shut) (now walks) k most) count × (count * (k + most) ≤ length (now out)) ⌝ }
-    ensures { λ _. ⌜ Laid (k + most) (basesAt (lists (now (reference .entry) ++ now (bases .entry)) (now (vertices .entry)) (now (edges .entry)) (now (paths .entry)) (now (scores .entry)) (now (shut .entry)) (now (walks .entry)) k most) (now (rank .entry))) (now (out .entry)) count (now (out .exit)) ⌝ }
+    requires { ⌜ Placed count (now rank) × Ready (lists (now reference ++ now bases) (now vertices) (now edges) (now paths) (now scores) (now closed) (now walks) k most) count × (count * (k + most) ≤ length (now out)) ⌝ }
+    ensures { λ _. ⌜ Laid (k + most) (basesAt (lists (now (reference .entry) ++ now (bases .entry)) (now (vertices .entry)) (now (edges .entry)) (now (paths .entry)) (now (scores .entry)) (now (closed .entry)) (now (walks .entry)) k most) (now (rank .entry))) (now (out .entry)) count (now (out .exit)) ⌝ }
 {
     let mut r: usize = 0;
     while r < count {
         let i = rank[r] as u32;
-        let row = path_at(paths, scores, at(shut, i));
+        let row = path_at(paths, scores, at(closed, i));
         let p = wide(i) * most;
         let from = r * (k + most);
         path_bases(
@@ -81,7 +81,7 @@ pub fn write_origins(
     edges: &[u32],
     paths: &[u32],
     scores: &[f64],
-    shut: &[u32],
+    closed: &[u32],
     walks: &[u32],
     rank: &[u16],
     most: usize,
@@ -89,13 +89,13 @@ pub fn write_origins(
     field: usize,
     out: &mut [u32],
 )
-    requires { ⌜ Placed count (now rank) × Filed (now edges) (now paths) (now scores) (now shut) (now walks) most count × (field < 6) × (count * most ≤ length (now out)) ⌝ }
-    ensures { λ _. ⌜ Laid most (fieldsAt (now (edges .entry)) (now (paths .entry)) (now (shut .entry)) (now (walks .entry)) most field (now (rank .entry))) (now (out .entry)) count (now (out .exit)) ⌝ }
+    requires { ⌜ Placed count (now rank) × Filed (now edges) (now paths) (now scores) (now closed) (now walks) most count × (field < 6) × (count * most ≤ length (now out)) ⌝ }
+    ensures { λ _. ⌜ Laid most (fieldsAt (now (edges .entry)) (now (paths .entry)) (now (closed .entry)) (now (walks .entry)) most field (now (rank .entry))) (now (out .entry)) count (now (out .exit)) ⌝ }
 {
     let mut r: usize = 0;
     while r < count {
         let i = rank[r] as u32;
-        let row = path_at(paths, scores, at(shut, i));
+        let row = path_at(paths, scores, at(closed, i));
         let p = wide(i) * most;
         let from = r * most;
         write_field(&walks[p..], wide(row.edges), edges, 6, field, out, from);

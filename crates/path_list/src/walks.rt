@@ -8,20 +8,20 @@ use path_store::walks::write_path;
 pub fn write_walks(
     paths: &[u32],
     scores: &[f64],
-    only: &[u32],
-    to: &[u32],
-    shut: &[u32],
+    index: &[u32],
+    targets: &[u32],
+    closed: &[u32],
     count: usize,
     most: usize,
     walks: &mut [u32],
 )
-    requires { ⌜ Walkable (now only) (now to) (now paths) (now scores) (now shut) count most (length (now walks)) ⌝ }
-    ensures { λ _. ⌜ Walked (now (only .entry)) (now (to .entry)) (now (paths .entry)) (now (shut .entry)) most count (now (walks .entry)) (now (walks .exit)) ⌝ }
+    requires { ⌜ Walkable (now index) (now targets) (now paths) (now scores) (now closed) count most (length (now walks)) ⌝ }
+    ensures { λ _. ⌜ Walked (now (index .entry)) (now (targets .entry)) (now (paths .entry)) (now (closed .entry)) most count (now (walks .entry)) (now (walks .exit)) ⌝ }
 {
     let mut i: usize = 0;
     while i < count {
         let from = i * most;
-        write_path(paths, scores, only, to, walks, from, shut[i]);
+        write_path(paths, scores, index, targets, walks, from, closed[i]);
         i += 1;
     }
 }

@@ -61,9 +61,9 @@ marks-end m₀ n x m i S h j l = S .done j (omega arith)
 pub record Based (g : Setting) (vs es : List ℕ) : Type 0 where
   pub f : SearchInput
   pub x : List ℕ
-  pub only : List ℕ
-  pub to : List ℕ
-  pub ground : Ground f g vs es x only to
+  pub index : List ℕ
+  pub targets : List ℕ
+  pub ground : Ground f g vs es x index targets
 
 pub record ListsPivotal (g : Setting) (vs es queue order marks : List ℕ) : Type 0 where
   pub based : Based g vs es
@@ -74,19 +74,19 @@ pub record ListsPivotal (g : Setting) (vs es queue order marks : List ℕ) : Typ
 abbrev pub asked : SearchInput → Bool → List Ends
 asked f recovery = elim recovery [ true ↦ pivotalEdges f | false ↦ [] ]
 
-pub record PivotalHeld (f : SearchInput) (es only to order marks : List ℕ) (n : ℕ) (recovery : Bool) : Type 0 where
+pub record PivotalHeld (f : SearchInput) (es index targets order marks : List ℕ) (n : ℕ) (recovery : Bool) : Type 0 where
   pub is : asked f recovery ≡ map (nameOf es) (unvisited (take n order) marks)
   pub distinct : Distinct (take n order)
-  pub known : All (λ e. e < length to) (take n order)
-  pub forks : All (Fork only) (take n order)
+  pub known : All (λ e. e < length targets) (take n order)
+  pub forks : All (Fork index) (take n order)
 
 pub record PivotalListed (g : Setting) (vs es order marks : List ℕ) (n : ℕ) (recovery : Bool) : Type 0 where
   pub room : n ≤ length order
-  pub each : (f : SearchInput) (x only to : List ℕ) → Ground f g vs es x only to → PivotalHeld f es only to order marks n recovery
+  pub each : (f : SearchInput) (x index targets : List ℕ) → Ground f g vs es x index targets → PivotalHeld f es index targets order marks n recovery
 
 module _ {g : Setting} {vs es queue order marks : List ℕ} (L : ListsPivotal g vs es queue order marks) where
   pub no-pivotal : (recovery : Bool) → recovery ≡ false → PivotalListed g vs es order marks 0 recovery
-  no-pivotal recovery e = rw e (record { room = omega arith; each = λ f x only to B. record { is = refl; distinct = tt; known = nil; forks = nil } })
+  no-pivotal recovery e = rw e (record { room = omega arith; each = λ f x index targets B. record { is = refl; distinct = tt; known = nil; forks = nil } })
 
   pub pivotal-asks : (clear : List ℕ) → length clear ≡ length marks → MarksSet (g .edges) 0 clear → Pivots vs es (g .edges) queue clear order
   pivotal-asks clear l c =
@@ -105,7 +105,7 @@ module _ {g : Setting} {vs es queue order marks : List ℕ} (L : ListsPivotal g 
       (record {
         room = omega (arith, P .few, L .order-room);
         each =
-            λ f x only to B.
+            λ f x index targets B.
             (let names : map (nameOf es) (take n order′) ≡ pivotalEdges f = P .is f (B .settings .edges) (B .source) in
             let left : unvisited (take n order′) marks″ ≡ take n order′ =
             keep-all (λ d. ltb 0 (getD marks″ d 0)) (all-mono (λ d h. lt-ltb 0 (getD marks″ d 0) (omega (arith, m d h))) (P .low))
@@ -115,14 +115,14 @@ module _ {g : Setting} {vs es queue order marks : List ℕ} (L : ListsPivotal g 
               is = sym names ∙ ap (λ l. map (nameOf es) l) (sym left);
               distinct = pivotal-distinct f single (nameOf es) (take n order′) names;
               known = all-mono (λ d h. omega (arith, B .size)) (P .low);
-              forks = pivotal-forks f single (nameOf es) (take n order′) names only to (B .agrees);
+              forks = pivotal-forks f single (nameOf es) (take n order′) names index targets (B .agrees);
             });
       })
 
 -- ---- the start
 
-pub record Begins (g : Setting) (vs es t : List ℕ) (sc : List Float) (queue pivots order marks : List ℕ) : Type 0 where
-  pub lists : ListsPivotal g vs es pivots order marks
+pub record Begins (g : Setting) (vs es t : List ℕ) (sc : List Float) (queue walks order marks : List ℕ) : Type 0 where
+  pub lists : ListsPivotal g vs es walks order marks
   pub paths : 9 ≤ length t
   pub scores : 0 < length sc
   pub allowed : 0 < g .pushes
@@ -133,14 +133,14 @@ begunWith n = record { records = 1; waiting = 1; closed = 0; next = 0; pivotal =
 
 pub record Begun (g : Setting) (vs es t′ : List ℕ) (sc′ : List Float) (queue′ order′ marks′ : List ℕ) (recovery : Bool) (p : Progress) : Type 0 where
   pub is : p ≡ begunWith (p .pivotal)
-  pub each : (f : SearchInput) (x only to ac shut : List ℕ) (column : List Float) → Ground f g vs es x only to
-      → Holds f g es x only to (λ r. []) (λ r. 0) t′ sc′ ac queue′ shut order′ marks′ p (firstState (columnScoring column) (asked f recovery))
+  pub each : (f : SearchInput) (x index targets ac closed : List ℕ) (column : List Float) → Ground f g vs es x index targets
+      → Holds f g es x index targets (λ r. []) (λ r. 0) t′ sc′ ac queue′ closed order′ marks′ p (firstState (columnScoring column) (asked f recovery))
 
 zero-score : isNan (fin false 0 (pos 0)) ≡ false
 unfolding isNan
 zero-score = refl
 
-module _ {g : Setting} {vs es t : List ℕ} {sc : List Float} {queue pivots order marks : List ℕ} (A : Begins g vs es t sc queue pivots order marks) where
+module _ {g : Setting} {vs es t : List ℕ} {sc : List Float} {queue walks order marks : List ℕ} (A : Begins g vs es t sc queue walks order marks) where
   pub begin-inside : Inside t sc 0
   begin-inside = record { cells = omega (arith, A .paths); score = A .scores }
 
@@ -169,12 +169,12 @@ module _ {g : Setting} {vs es t : List ℕ} {sc : List Float} {queue pivots orde
     idle : Idle t′ 1 0
     idle = record { known = omega arith; unjoined = cell 7 (omega arith); childless = λ q h. let z : q ≡ 0 = omega arith in rw z (λ e. omega (arith, cell 0 (omega arith))) }
 
-    module _ (f : SearchInput) (x only to ac : List ℕ) (B : Ground f g vs es x only to) where
-      records : Records f g es x only to (λ r. []) t′ sc′ ac 1
+    module _ (f : SearchInput) (x index targets ac : List ℕ) (B : Ground f g vs es x index targets) where
+      records : Records f g es x index targets (λ r. []) t′ sc′ ac 1
       records =
           record {
             held =
-                rw (S .cells, S .scores, B .source) (held-start only to 0 t sc (B .agrees .graph) (omega (arith, B .sink-in)) begin-inside);
+                rw (S .cells, S .scores, B .source) (held-start index targets 0 t sc (B .agrees .graph) (omega (arith, B .sink-in)) begin-inside);
             actives =
                 λ r h.
                 (let z : r ≡ 0 = omega arith in
@@ -186,11 +186,11 @@ module _ {g : Setting} {vs es t : List ℕ} {sc : List Float} {queue pivots orde
             number = λ r h. (let z : r ≡ 0 = omega arith in rw z score-number);
           }
 
-      first-path : (column : List Float) → pathOf f es only to (λ r. []) t′ sc′ 0 ≡ record { edges = []; score = columnScoring column .start; active = []; visited = []; since = 0 }
+      first-path : (column : List Float) → pathOf f es index targets (λ r. []) t′ sc′ 0 ≡ record { edges = []; score = columnScoring column .start; active = []; visited = []; since = 0 }
       unfolding columnScoring
       first-path column =
           let c : t′ ≡ putCells t 0 (startRow (f .source)) = S .cells ∙ ap (λ v. putCells t 0 (startRow v)) (sym (B .source)) in
-          rw (c, S .scores) (start-view f (nameOf es) only to t sc begin-inside)
+          rw (c, S .scores) (start-view f (nameOf es) index targets t sc begin-inside)
 
     module _ {queue′ : List ℕ} (P : Pushed sc′ queue 0 0 queue′) {order′ marks′ : List ℕ} {n : ℕ} {recovery : Bool} (L : PivotalListed g vs es order′ marks′ n recovery)
         (l : length marks′ ≡ length marks) where
@@ -203,17 +203,17 @@ module _ {g : Setting} {vs es t : List ℕ} {sc : List Float} {queue pivots orde
           record {
             is = refl;
             each =
-                λ f x only to ac shut column B.
-                (let W = L .each f x only to B in
+                λ f x index targets ac closed column B.
+                (let W = L .each f x index targets B in
                 record {
-                  records = records f x only to ac B;
+                  records = records f x index targets ac B;
                   heap = P .heap;
                   idle = pushed-all (λ q. Idle t′ 1 q) sc′ queue 0 0 queue′ P idle (λ i h. absurd (omega arith));
                   once = rw one (nil, tt);
-                  waiting = sym (ap (λ q. map (pathOf f es only to (λ r. []) t′ sc′) q) one ∙ ap (λ (q : Path Float). q ∷ []) (first-path f x only to ac B column));
-                  shut-known = nil;
+                  waiting = sym (ap (λ q. map (pathOf f es index targets (λ r. []) t′ sc′) q) one ∙ ap (λ (q : Path Float). q ∷ []) (first-path f x index targets ac B column));
+                  closed-known = nil;
                   closed = refl;
-                  shut-room = omega arith;
+                  closed-room = omega arith;
                   pivotal = W .is;
                   pivotal-once = W .distinct;
                   pivotal-known = W .known;

@@ -49,20 +49,20 @@ pub record Around : Type 0 where
   pub queue : List ℕ
 
 -- nothing waits
-pub record Resting (A : Around) (es only to t : List ℕ) (sc : List Float) (shut order marks : List ℕ) (g : Setting) (p : Progress) (s : State Float) : Type 0 where
-  pub ground : Ground (A .f) g (A .vs) es (A .x) only to
-  pub holds : Holds (A .f) g es (A .x) only to (A .bs) (A .closing) t sc (A .ac) (A .queue) shut order marks p s
+pub record Resting (A : Around) (es index targets t : List ℕ) (sc : List Float) (closed order marks : List ℕ) (g : Setting) (p : Progress) (s : State Float) : Type 0 where
+  pub ground : Ground (A .f) g (A .vs) es (A .x) index targets
+  pub holds : Holds (A .f) g es (A .x) index targets (A .bs) (A .closing) t sc (A .ac) (A .queue) closed order marks p s
   pub none : p .waiting ≡ 0
   pub actives : (p .records + 1) * g .active ≤ length (A .ac)
 
-pub record TriesNext (es only to t : List ℕ) (sc : List Float) (shut order marks walk : List ℕ) (g : Setting) (p : Progress) : Type 0 where
+pub record TriesNext (es index targets t : List ℕ) (sc : List Float) (closed order marks walks : List ℕ) (g : Setting) (p : Progress) : Type 0 where
   pub around : Around
   pub state : State Float
-  pub resting : Resting around es only to t sc shut order marks g p state
+  pub resting : Resting around es index targets t sc closed order marks g p state
   pub paths : (p .records + 1) * 9 ≤ length t
   pub scores : p .records + 1 ≤ length sc
   pub fits : p .records + 1 < 4294967296
-  pub walk-room : g .most ≤ length walk
+  pub walk-room : g .most ≤ length walks
 
 -- the state without its first pivotal edge, where nothing waits
 abbrev pub withPivotal : State Float → List Ends → State Float
@@ -78,13 +78,13 @@ pub record Broken (A : Around) (es : List ℕ) (s : State Float) (column : List 
   pub next : NextEdge es s
   pub gives : recover (columnScoring column) (A .f) (nameOf es (next .edge)) (withPivotal s (next .rest)) ≡ broken k
 
-pub record Remade (A : Around) (es only to : List ℕ) (shut order marks : List ℕ) (g : Setting) (p : Progress) (s : State Float) (column : List Float) (t′ : List ℕ) (sc′ : List Float)
+pub record Remade (A : Around) (es index targets : List ℕ) (closed order marks : List ℕ) (g : Setting) (p : Progress) (s : State Float) (column : List Float) (t′ : List ℕ) (sc′ : List Float)
     (p′ : Progress) : Type 0 where
   pub next : NextEdge es s
   pub bs : ℕ → List Branches
   pub gives : recover (columnScoring column) (A .f) (nameOf es (next .edge)) (withPivotal s (next .rest))
-      ≡ made (withPivotal s (next .rest)) (map (pathOf (A .f) es only to bs t′ sc′) (upFrom (p .records) (p′ .records - p .records)))
-  pub holds : Holds (A .f) g es (A .x) only to bs (A .closing) t′ sc′ (A .ac) (A .queue) shut order marks p′ (withPivotal s (next .rest))
+      ≡ made (withPivotal s (next .rest)) (map (pathOf (A .f) es index targets bs t′ sc′) (upFrom (p .records) (p′ .records - p .records)))
+  pub holds : Holds (A .f) g es (A .x) index targets bs (A .closing) t′ sc′ (A .ac) (A .queue) closed order marks p′ (withPivotal s (next .rest))
   pub new : (q : ℕ) → p .records ≤ q → q < p′ .records → Idle t′ (p′ .records) q
 
 -- only the place of the next pivotal edge, which rises, and the number of records change
@@ -99,13 +99,13 @@ pub record Moved (p p′ : Progress) : Type 0 where
   pub mark : p′ .mark ≡ p .mark
 
 abbrev pub Tried : List ℕ → List ℕ → List ℕ → List ℕ → List Float → List ℕ → List ℕ → List ℕ → Setting → Progress → List ℕ → List Float → Recovery → Type 0
-Tried es only to t sc shut order marks g p t′ sc′ recovery.Ended =
-    (t′ ≡ t) × (sc′ ≡ sc) × ((A : Around) (s : State Float) → Resting A es only to t sc shut order marks g p s → s .pivotal ≡ [])
-Tried es only to t sc shut order marks g p t′ sc′ (recovery.Refused k) =
-    (A : Around) (s : State Float) (column : List Float) → Resting A es only to t sc shut order marks g p s → Broken A es s column k
-Tried es only to t sc shut order marks g p t′ sc′ (recovery.Made p′) =
+Tried es index targets t sc closed order marks g p t′ sc′ recovery.Ended =
+    (t′ ≡ t) × (sc′ ≡ sc) × ((A : Around) (s : State Float) → Resting A es index targets t sc closed order marks g p s → s .pivotal ≡ [])
+Tried es index targets t sc closed order marks g p t′ sc′ (recovery.Refused k) =
+    (A : Around) (s : State Float) (column : List Float) → Resting A es index targets t sc closed order marks g p s → Broken A es s column k
+Tried es index targets t sc closed order marks g p t′ sc′ (recovery.Made p′) =
     Moved p p′
-    × ((A : Around) (s : State Float) (column : List Float) → Resting A es only to t sc shut order marks g p s → Remade A es only to shut order marks g p s column t′ sc′ p′)
+    × ((A : Around) (s : State Float) (column : List Float) → Resting A es index targets t sc closed order marks g p s → Remade A es index targets closed order marks g p s column t′ sc′ p′)
 
 -- ---- small laws
 
@@ -140,25 +140,25 @@ with-old bs n r h = rw (ne-eqb r n (omega arith), with-none)
 
 -- ---- a new record, where nothing waits
 
-module _ {A : Around} {es only to t : List ℕ} {sc : List Float} {shut order marks : List ℕ} {g : Setting} {p : Progress} {s : State Float}
-    (R : Resting A es only to t sc shut order marks g p s) where
+module _ {A : Around} {es index targets t : List ℕ} {sc : List Float} {closed order marks : List ℕ} {g : Setting} {p : Progress} {s : State Float}
+    (R : Resting A es index targets t sc closed order marks g p s) where
   none-waiting : (sd : List Float) → waiting sd (A .queue) (p .waiting) ≡ []
   none-waiting sd = ap (λ n. waiting sd (A .queue) n) (R .none) ∙ waiting-none sd (A .queue)
 
-  module _ (I : Inside t sc (p .records)) (b k e : ℕ) (l : b < p .records) (pos : 0 < k) (low : k ≤ countOf t b) (h : e < length to) (m : k + 1 ≤ g .most) where
+  module _ (I : Inside t sc (p .records)) (b k e : ℕ) (l : b < p .records) (pos : 0 < k) (low : k ≤ countOf t b) (h : e < length targets) (m : k + 1 ≤ g .most) where
     new-cells : List ℕ
-    new-cells = putCells t (p .records) (recoveredRow only t sc to b k e)
+    new-cells = putCells t (p .records) (recoveredRow index t sc targets b k e)
 
     new-scores : List Float
     new-scores = set sc (p .records) (scoreOf sc b)
 
-    new-held : Held only to (A .f .source) new-cells new-scores (p .records + 1)
+    new-held : Held index targets (A .f .source) new-cells new-scores (p .records + 1)
     unfolding new-cells new-scores
-    new-held = held-recovered only to (A .f .source) t sc (p .records) (R .holds .records .held) I b k e l pos low h
+    new-held = held-recovered index targets (A .f .source) t sc (p .records) (R .holds .records .held) I b k e l pos low h
 
     old-cell : (r j : ℕ) → r < p .records → j < 9 → field new-cells 9 r j ≡ field t 9 r j
     unfolding new-cells
-    old-cell r j a c = put-other t (p .records) (recoveredRow only t sc to b k e) r j (omega arith) c
+    old-cell r j a c = put-other t (p .records) (recoveredRow index t sc targets b k e) r j (omega arith) c
 
     old-score : (r : ℕ) → r < p .records → scoreOf new-scores r ≡ scoreOf sc r
     unfolding new-scores
@@ -170,20 +170,20 @@ module _ {A : Around} {es only to t : List ℕ} {sc : List Float} {shut order ma
 
     new-trees : treesOf new-cells (p .records) ≡ 0
     unfolding new-cells
-    new-trees = put-trees t (p .records) (recoveredRow only t sc to b k e) (I .cells)
+    new-trees = put-trees t (p .records) (recoveredRow index t sc targets b k e) (I .cells)
 
     new-count : countOf new-cells (p .records) ≡ k + 1
     unfolding new-cells
-    new-count = put-at t (p .records) (recoveredRow only t sc to b k e) (I .cells) 3 (omega arith)
+    new-count = put-at t (p .records) (recoveredRow index t sc targets b k e) (I .cells) 3 (omega arith)
 
     new-joined : joinedOf new-cells (p .records) ≡ 0
     unfolding new-cells
-    new-joined = put-at t (p .records) (recoveredRow only t sc to b k e) (I .cells) 7 (omega arith)
+    new-joined = put-at t (p .records) (recoveredRow index t sc targets b k e) (I .cells) 7 (omega arith)
 
     row-room : p .records * g .active ≤ length (A .ac)
     row-room = let q : p .records * g .active ≤ (p .records + 1) * g .active = omega arith in omega (arith, R .actives)
 
-    new-records : Records (A .f) g es (A .x) only to (with-none (A .bs) (p .records)) new-cells new-scores (A .ac) (p .records + 1)
+    new-records : Records (A .f) g es (A .x) index targets (with-none (A .bs) (p .records)) new-cells new-scores (A .ac) (p .records + 1)
     new-records =
         let O = R .holds .records in
         record {
@@ -221,7 +221,7 @@ module _ {A : Around} {es only to t : List ℕ} {sc : List Float} {shut order ma
         num r (inl a) = ap (λ y. isNan y) (old-score r a) ∙ R .holds .records .number r a
         num r (inr e) = ap (λ y. isNan (scoreOf new-scores y)) e ∙ ap (λ y. isNan y) new-score ∙ R .holds .records .number b l
 
-    new-idle : Idle (putCells t (p .records) (recoveredRow only t sc to b k e)) (p .records + 1) (p .records)
+    new-idle : Idle (putCells t (p .records) (recoveredRow index t sc targets b k e)) (p .records + 1) (p .records)
     unfolding new-cells
     new-idle =
         record {
@@ -230,7 +230,7 @@ module _ {A : Around} {es only to t : List ℕ} {sc : List Float} {shut order ma
           childless = λ q a z. omega (arith, new-held .table .rows q a .rises);
         }
 
-    new-holds : Holds (A .f) g es (A .x) only to (with-none (A .bs) (p .records)) (A .closing) (putCells t (p .records) (recoveredRow only t sc to b k e)) (set sc (p .records) (scoreOf sc b)) (A .ac) (A .queue) shut order marks (oneMore p) s
+    new-holds : Holds (A .f) g es (A .x) index targets (with-none (A .bs) (p .records)) (A .closing) (putCells t (p .records) (recoveredRow index t sc targets b k e)) (set sc (p .records) (scoreOf sc b)) (A .ac) (A .queue) closed order marks (oneMore p) s
     unfolding new-cells new-scores
     new-holds =
         let H = R .holds in
@@ -239,13 +239,13 @@ module _ {A : Around} {es only to t : List ℕ} {sc : List Float} {shut order ma
           heap = record { room = H .heap .room; known = λ i a. absurd (omega (arith, R .none)); order = λ j a c. absurd (omega (arith, R .none)) };
           idle = λ i a. absurd (omega (arith, R .none));
           once = rw (none-waiting new-scores) tt;
-          waiting = H .waiting ∙ ap (λ q. map (pathOf (A .f) es only to (A .bs) t sc) q) (none-waiting sc) ∙ sym (ap (λ q. map (pathOf (A .f) es only to (with-none (A .bs) (p .records)) new-cells new-scores) q) (none-waiting new-scores));
-          shut-known = all-mono (λ r a. omega arith) (H .shut-known);
+          waiting = H .waiting ∙ ap (λ q. map (pathOf (A .f) es index targets (A .bs) t sc) q) (none-waiting sc) ∙ sym (ap (λ q. map (pathOf (A .f) es index targets (with-none (A .bs) (p .records)) new-cells new-scores) q) (none-waiting new-scores));
+          closed-known = all-mono (λ r a. omega arith) (H .closed-known);
           closed =
               H .closed
               ∙ map-same
-              (all-mono (λ r a. sym (pushed-closed only to (A .f .source) t sc (p .records) (H .records .held) I (A .f) (nameOf es) (recoveredRow only t sc to b k e) (A .closing r) r a)) (H .shut-known));
-          shut-room = H .shut-room;
+              (all-mono (λ r a. sym (pushed-closed index targets (A .f .source) t sc (p .records) (H .records .held) I (A .f) (nameOf es) (recoveredRow index t sc targets b k e) (A .closing r) r a)) (H .closed-known));
+          closed-room = H .closed-room;
           pivotal = H .pivotal;
           pivotal-once = H .pivotal-once;
           pivotal-known = H .pivotal-known;
@@ -262,39 +262,39 @@ module _ {A : Around} {es only to t : List ℕ} {sc : List Float} {shut order ma
 
   -- ---- `recover`, by what the edge came to
   module _ (column : List Float) (e : ℕ) where
-    best-source : bestFor es only to t sc shut p e ≡ bestOf only to (A .f .source) t sc (nameOf es e .from) (take (p .closed) shut)
+    best-source : bestFor es index targets t sc closed p e ≡ bestOf index targets (A .f .source) t sc (nameOf es e .from) (take (p .closed) closed)
     best-source = rw (R .ground .source)
 
-    gives-none : bestFor es only to t sc shut p e ≡ 0 → recover (columnScoring column) (A .f) (nameOf es e) s ≡ made s []
+    gives-none : bestFor es index targets t sc closed p e ≡ 0 → recover (columnScoring column) (A .f) (nameOf es e) s ≡ made s []
     gives-none z =
-        recover-none (A .f) (nameOf es) only to (R .ground .agrees) column (A .closing) t sc (p .records) (R .holds .records .held .table) e (take (p .closed) shut) s (R .holds .closed)
-        (bestFor es only to t sc shut p e) best-source z
+        recover-none (A .f) (nameOf es) index targets (R .ground .agrees) column (A .closing) t sc (p .records) (R .holds .records .held .table) e (take (p .closed) closed) s (R .holds .closed)
+        (bestFor es index targets t sc closed p e) best-source z
 
-    module _ (b : ℕ) (B : suc b ≡ bestFor es only to t sc shut p e) (l : b < p .records) where
-      gives-lost : kept only to t b (edgeFrom es e) ≡ 0 → recover (columnScoring column) (A .f) (nameOf es e) s ≡ made s []
+    module _ (b : ℕ) (B : suc b ≡ bestFor es index targets t sc closed p e) (l : b < p .records) where
+      gives-lost : kept index targets t b (edgeFrom es e) ≡ 0 → recover (columnScoring column) (A .f) (nameOf es e) s ≡ made s []
       gives-lost z =
-          recover-lost (A .f) (nameOf es) only to (R .ground .agrees) column (A .closing) t sc (p .records) (R .holds .records .held .table) e (take (p .closed) shut) s (R .holds .closed)
+          recover-lost (A .f) (nameOf es) index targets (R .ground .agrees) column (A .closing) t sc (p .records) (R .holds .records .held .table) e (take (p .closed) closed) s (R .holds .closed)
           b (B ∙ best-source) l z
 
-      module _ (pos : 0 < kept only to t b (edgeFrom es e)) where
-        keeps-low : kept only to t b (edgeFrom es e) ≤ countOf t b
+      module _ (pos : 0 < kept index targets t b (edgeFrom es e)) where
+        keeps-low : kept index targets t b (edgeFrom es e) ≤ countOf t b
         keeps-low =
-            recover-low (A .f) (nameOf es) only to (R .ground .agrees) column (A .closing) t sc (p .records) (R .holds .records .held .table) e (take (p .closed) shut) s (R .holds .closed)
-            b (B ∙ best-source) l (kept only to t b (edgeFrom es e)) refl pos
+            recover-low (A .f) (nameOf es) index targets (R .ground .agrees) column (A .closing) t sc (p .records) (R .holds .records .held .table) e (take (p .closed) closed) s (R .holds .closed)
+            b (B ∙ best-source) l (kept index targets t b (edgeFrom es e)) refl pos
 
-        module _ (I : Inside t sc (p .records)) (h : e < length to) where
-          gives-over : g .most < kept only to t b (edgeFrom es e) + 1 → recover (columnScoring column) (A .f) (nameOf es e) s ≡ broken 11
+        module _ (I : Inside t sc (p .records)) (h : e < length targets) where
+          gives-over : g .most < kept index targets t b (edgeFrom es e) + 1 → recover (columnScoring column) (A .f) (nameOf es e) s ≡ broken 11
           gives-over o =
-              recover-over (A .f) (nameOf es) only to (R .ground .agrees) column (A .closing) t sc (p .records) (R .holds .records .held .table) e (take (p .closed) shut) s (R .holds .closed)
-              b (B ∙ best-source) l (kept only to t b (edgeFrom es e)) refl pos I h (omega (arith, R .ground .most))
+              recover-over (A .f) (nameOf es) index targets (R .ground .agrees) column (A .closing) t sc (p .records) (R .holds .records .held .table) e (take (p .closed) closed) s (R .holds .closed)
+              b (B ∙ best-source) l (kept index targets t b (edgeFrom es e)) refl pos I h (omega (arith, R .ground .most))
 
-          gives-made : kept only to t b (edgeFrom es e) + 1 ≤ g .most
+          gives-made : kept index targets t b (edgeFrom es e) + 1 ≤ g .most
               → recover (columnScoring column) (A .f) (nameOf es e) s
               ≡ made s
-              (viewOf (A .f) (nameOf es) only to [] (putCells t (p .records) (recoveredRow only t sc to b (kept only to t b (edgeFrom es e)) e)) (set sc (p .records) (scoreOf sc b)) (p .records) ∷ [])
+              (viewOf (A .f) (nameOf es) index targets [] (putCells t (p .records) (recoveredRow index t sc targets b (kept index targets t b (edgeFrom es e)) e)) (set sc (p .records) (scoreOf sc b)) (p .records) ∷ [])
           gives-made o =
-              recover-made (A .f) (nameOf es) only to (R .ground .agrees) column (A .closing) t sc (p .records) (R .holds .records .held .table) e (take (p .closed) shut) s (R .holds .closed)
-              b (B ∙ best-source) l (kept only to t b (edgeFrom es e)) refl pos I h (omega (arith, R .ground .most))
+              recover-made (A .f) (nameOf es) index targets (R .ground .agrees) column (A .closing) t sc (p .records) (R .holds .records .held .table) e (take (p .closed) closed) s (R .holds .closed)
+              b (B ∙ best-source) l (kept index targets t b (edgeFrom es e)) refl pos I h (omega (arith, R .ground .most))
 
 -- ---- the next pivotal edge
 
@@ -305,17 +305,17 @@ nextAt p place =
 abbrev restFrom : List ℕ → List ℕ → List ℕ → Progress → ℕ → List Ends
 restFrom es order marks p place = map (nameOf es) (leftFrom order marks (p .pivotal) (place + 1))
 
-module _ {A : Around} {es only to t : List ℕ} {sc : List Float} {shut order marks : List ℕ} {g : Setting} {p : Progress} {s : State Float}
-    (R : Resting A es only to t sc shut order marks g p s) where
+module _ {A : Around} {es index targets t : List ℕ} {sc : List Float} {closed order marks : List ℕ} {g : Setting} {p : Progress} {s : State Float}
+    (R : Resting A es index targets t sc closed order marks g p s) where
   marked : Marked order marks (p .pivotal)
   marked =
       record { room = R .holds .order-room; known = all-mono (λ d h. omega (arith, R .holds .marks-room)) (R .holds .pivotal-known) }
 
-  edge-known : (i : ℕ) → i < p .pivotal → getD order i 0 < length to
+  edge-known : (i : ℕ) → i < p .pivotal → getD order i 0 < length targets
   edge-known i h =
       let q = getD-take (p .pivotal) order i 0 h in
       let k =
-      all-at (λ d. d < length to) (take (p .pivotal) order) (R .holds .pivotal-known) i (omega (arith, length-take-le (p .pivotal) order (R .holds .order-room)))
+      all-at (λ d. d < length targets) (take (p .pivotal) order) (R .holds .pivotal-known) i (omega (arith, length-take-le (p .pivotal) order (R .holds .order-room)))
       in
       omega arith
 
@@ -332,7 +332,7 @@ module _ {A : Around} {es only to t : List ℕ} {sc : List Float} {shut order ma
             is = R .holds .pivotal ∙ ap (λ l. map (nameOf es) l) (N .same ∙ left-hit marked place h (N .live h));
           }
 
-      next-resting : Resting A es only to t sc shut order marks g (nextAt p place) (withPivotal s (restFrom es order marks p place))
+      next-resting : Resting A es index targets t sc closed order marks g (nextAt p place) (withPivotal s (restFrom es order marks p place))
       next-resting =
           let H = R .holds in
           record {
@@ -343,10 +343,10 @@ module _ {A : Around} {es only to t : List ℕ} {sc : List Float} {shut order ma
                   heap = H .heap;
                   idle = H .idle;
                   once = H .once;
-                  waiting = sym (ap (λ q. map (pathOf (A .f) es only to (A .bs) t sc) q) (none-waiting R sc));
-                  shut-known = H .shut-known;
+                  waiting = sym (ap (λ q. map (pathOf (A .f) es index targets (A .bs) t sc) q) (none-waiting R sc));
+                  closed-known = H .closed-known;
                   closed = H .closed;
-                  shut-room = H .shut-room;
+                  closed-room = H .closed-room;
                   pivotal = refl;
                   pivotal-once = H .pivotal-once;
                   pivotal-known = H .pivotal-known;
@@ -374,7 +374,7 @@ one-from : {B : Type 0} (h : ℕ → B) (n : ℕ) → map h (upFrom n (n + 1 - n
 unfolding upFrom
 one-from h n = let z : n + 1 - n ≡ 1 = omega arith in rw z
 
-module _ {es only to t : List ℕ} {sc : List Float} {shut order marks walk : List ℕ} {g : Setting} {p : Progress} (T : TriesNext es only to t sc shut order marks walk g p) where
+module _ {es index targets t : List ℕ} {sc : List Float} {closed order marks walks : List ℕ} {g : Setting} {p : Progress} (T : TriesNext es index targets t sc closed order marks walks g p) where
   pub step-marked : Marked order marks (p .pivotal) × (p .next ≤ p .pivotal)
   step-marked = (marked (T .resting), T .resting .holds .next-low)
 
@@ -382,11 +382,11 @@ module _ {es only to t : List ℕ} {sc : List Float} {shut order marks walk : Li
   inside = record { cells = omega (arith, T .paths); score = omega (arith, T .scores) }
 
   module _ {place : ℕ} (N : NextIs order marks (p .pivotal) (p .next) place) where
-    pub step-ended : p .pivotal ≤ place → Tried es only to t sc shut order marks g p t sc recovery.Ended
+    pub step-ended : p .pivotal ≤ place → Tried es index targets t sc closed order marks g p t sc recovery.Ended
     step-ended h = (refl, refl, λ A s R. no-edge R N h)
 
     module _ (h : place < p .pivotal) where
-      pub step-tries : TriesEdge es only to t sc shut walk g (nextAt p place) (getD order place 0)
+      pub step-tries : TriesEdge es index targets t sc closed walks g (nextAt p place) (getD order place 0)
       step-tries =
           let G = T .resting .ground in
           let H = T .resting .holds in
@@ -395,8 +395,8 @@ module _ {es only to t : List ℕ} {sc : List Float} {shut order marks walk : Li
             agrees = G .agrees;
             source = G .source;
             table = H .records .held .table;
-            shut-known = H .shut-known;
-            shut-room = H .shut-room;
+            closed-known = H .closed-known;
+            closed-room = H .closed-room;
             numbers = H .records .number;
             short = H .records .short;
             walk-room = T .walk-room;
@@ -412,26 +412,26 @@ module _ {es only to t : List ℕ} {sc : List Float} {shut order marks walk : Li
       e = getD order place 0
 
       abbrev best : ℕ
-      best = bestFor es only to t sc shut (nextAt p place) (getD order place 0)
+      best = bestFor es index targets t sc closed (nextAt p place) (getD order place 0)
 
       abbrev keeps : ℕ
-      keeps = kept only to t (bestFor es only to t sc shut (nextAt p place) (getD order place 0) - 1) (edgeFrom es (getD order place 0))
+      keeps = kept index targets t (bestFor es index targets t sc closed (nextAt p place) (getD order place 0) - 1) (edgeFrom es (getD order place 0))
 
       best-low : 0 < best → best - 1 < p .records
       best-low q = best-at step-tries (best - 1) (omega arith)
 
       -- nothing was made
-      lost : (A : Around) (s : State Float) (column : List Float) → Resting A es only to t sc shut order marks g p s → (t′ : List ℕ) (sc′ : List Float) (p′ : Progress)
+      lost : (A : Around) (s : State Float) (column : List Float) → Resting A es index targets t sc closed order marks g p s → (t′ : List ℕ) (sc′ : List Float) (p′ : Progress)
           → Lost t sc (nextAt p place) t′ sc′ p′
           → recover (columnScoring column) (A .f) (nameOf es e) (withPivotal s (restFrom es order marks p place)) ≡ made (withPivotal s (restFrom es order marks p place)) []
-          → Remade A es only to shut order marks g p s column t′ sc′ p′
+          → Remade A es index targets closed order marks g p s column t′ sc′ p′
       unfolding next-edge
       lost A s column R t′ sc′ p′ L q =
           rw (L .progress, L .cells, L .scores)
           (record {
             next = next-edge R N h;
             bs = A .bs;
-            gives = q ∙ ap (λ (l : List (Path Float)). made (withPivotal s (restFrom es order marks p place)) l) (sym (none-from (pathOf (A .f) es only to (A .bs) t sc) (p .records)));
+            gives = q ∙ ap (λ (l : List (Path Float)). made (withPivotal s (restFrom es order marks p place)) l) (sym (none-from (pathOf (A .f) es index targets (A .bs) t sc) (p .records)));
             holds = next-resting R N h .holds;
             new = λ d a c. absurd (omega arith);
           })
@@ -442,8 +442,8 @@ module _ {es only to t : List ℕ} {sc : List Float} {shut order marks walk : Li
           (record { next = omega (arith, N .low); low = omega arith; high = omega arith; waiting = refl; closed = refl; pivotal = refl; pushes = refl; mark = refl })
 
       -- a path was made
-      more : (A : Around) (s : State Float) (column : List Float) → Resting A es only to t sc shut order marks g p s → (t′ : List ℕ) (sc′ : List Float) (p′ : Progress) → 0 < best
-          → Recovered only to t sc g (nextAt p place) (best - 1) keeps e t′ sc′ p′ → Remade A es only to shut order marks g p s column t′ sc′ p′
+      more : (A : Around) (s : State Float) (column : List Float) → Resting A es index targets t sc closed order marks g p s → (t′ : List ℕ) (sc′ : List Float) (p′ : Progress) → 0 < best
+          → Recovered index targets t sc g (nextAt p place) (best - 1) keeps e t′ sc′ p′ → Remade A es index targets closed order marks g p s column t′ sc′ p′
       unfolding next-edge
       more A s column R t′ sc′ p′ pos L =
           let S = next-resting R N h in
@@ -451,9 +451,9 @@ module _ {es only to t : List ℕ} {sc : List Float} {shut order marks walk : Li
           let E = edge-known R place h in
           let B : suc (best - 1) ≡ best = omega arith in
           let low = keeps-low S column e (best - 1) B l (L .some) in
-          let view = pathOf (A .f) es only to (with-none (A .bs) (p .records)) (putCells t (p .records) (recoveredRow only t sc to (best - 1) keeps e)) (set sc (p .records) (scoreOf sc (best - 1))) in
-          let one : viewOf (A .f) (nameOf es) only to [] (putCells t (p .records) (recoveredRow only t sc to (best - 1) keeps e)) (set sc (p .records) (scoreOf sc (best - 1))) (p .records) ≡ view (p .records) =
-          ap (λ (y : List Branches). viewOf (A .f) (nameOf es) only to y (putCells t (p .records) (recoveredRow only t sc to (best - 1) keeps e)) (set sc (p .records) (scoreOf sc (best - 1))) (p .records))
+          let view = pathOf (A .f) es index targets (with-none (A .bs) (p .records)) (putCells t (p .records) (recoveredRow index t sc targets (best - 1) keeps e)) (set sc (p .records) (scoreOf sc (best - 1))) in
+          let one : viewOf (A .f) (nameOf es) index targets [] (putCells t (p .records) (recoveredRow index t sc targets (best - 1) keeps e)) (set sc (p .records) (scoreOf sc (best - 1))) (p .records) ≡ view (p .records) =
+          ap (λ (y : List Branches). viewOf (A .f) (nameOf es) index targets y (putCells t (p .records) (recoveredRow index t sc targets (best - 1) keeps e)) (set sc (p .records) (scoreOf sc (best - 1))) (p .records))
           (sym (with-new (A .bs) (p .records) (p .records) refl))
           in
           rw (L .progress, L .cells, L .scores)
@@ -468,7 +468,7 @@ module _ {es only to t : List ℕ} {sc : List Float} {shut order marks walk : Li
             new = λ d a c. (let z : d ≡ p .records = omega arith in rw z (new-idle S inside (best - 1) keeps e l (L .some) low E (L .short)));
           })
 
-      more-moved : (t′ : List ℕ) (sc′ : List Float) (p′ : Progress) → Recovered only to t sc g (nextAt p place) (best - 1) keeps e t′ sc′ p′ → Moved p p′
+      more-moved : (t′ : List ℕ) (sc′ : List Float) (p′ : Progress) → Recovered index targets t sc g (nextAt p place) (best - 1) keeps e t′ sc′ p′ → Moved p p′
       more-moved t′ sc′ p′ L =
           rw (L .progress)
           (record { next = omega (arith, N .low); low = omega arith; high = omega arith; waiting = refl; closed = refl; pivotal = refl; pushes = refl; mark = refl })
@@ -476,8 +476,8 @@ module _ {es only to t : List ℕ} {sc : List Float} {shut order marks walk : Li
       made-number : {a c : Progress} → recovery.Made a ≡ recovery.Made c → a ≡ c
       made-number q = cc
 
-      pub step-tried : (t′ : List ℕ) (sc′ : List Float) (r : Recovery) → EdgeTried es only to t sc shut g (nextAt p place) (getD order place 0) t′ sc′ r
-          → Tried es only to t sc shut order marks g p t′ sc′ r
+      pub step-tried : (t′ : List ℕ) (sc′ : List Float) (r : Recovery) → EdgeTried es index targets t sc closed g (nextAt p place) (getD order place 0) t′ sc′ r
+          → Tried es index targets t sc closed order marks g p t′ sc′ r
       unfolding next-edge
       step-tried t′ sc′ recovery.Ended (inl q) = let u = q .1 in let z : _≡_ {A = ℕ} 0 1 = cc in absurd (omega arith)
       step-tried t′ sc′ recovery.Ended (inr q) = absurd (q .1)
@@ -495,8 +495,8 @@ module _ {es only to t : List ℕ} {sc : List Float} {shut order marks walk : Li
           (lost-moved t′ sc′ p′ L, λ A s column R. lost A s column R t′ sc′ p′ L (gives-none (next-resting R N h) column e (q .0)))
       step-tried t′ sc′ (recovery.Made p′) (inr q) = go (q .1)
         where
-          go : ((keeps ≡ 0) × Lost t sc (nextAt p place) t′ sc′ p′) ⊎ Recovered only to t sc g (nextAt p place) (best - 1) keeps e t′ sc′ p′
-              → Tried es only to t sc shut order marks g p t′ sc′ (recovery.Made p′)
+          go : ((keeps ≡ 0) × Lost t sc (nextAt p place) t′ sc′ p′) ⊎ Recovered index targets t sc g (nextAt p place) (best - 1) keeps e t′ sc′ p′
+              → Tried es index targets t sc closed order marks g p t′ sc′ (recovery.Made p′)
           go (inl L) = (
             lost-moved t′ sc′ p′ (L .1),
             λ A s column R.
@@ -506,10 +506,10 @@ module _ {es only to t : List ℕ} {sc : List Float} {shut order marks walk : Li
 
 -- ---- the definition's `advance`, by the answer
 
-module _ {A : Around} {es only to t : List ℕ} {sc : List Float} {shut order marks : List ℕ} {g : Setting} {p : Progress} {s : State Float}
-    (R : Resting A es only to t sc shut order marks g p s) where
+module _ {A : Around} {es index targets t : List ℕ} {sc : List Float} {closed order marks : List ℕ} {g : Setting} {p : Progress} {s : State Float}
+    (R : Resting A es index targets t sc closed order marks g p s) where
   pub nothing-waits : s .waiting ≡ []
-  nothing-waits = R .holds .waiting ∙ ap (λ q. map (pathOf (A .f) es only to (A .bs) t sc) q) (none-waiting R sc)
+  nothing-waits = R .holds .waiting ∙ ap (λ q. map (pathOf (A .f) es index targets (A .bs) t sc) q) (none-waiting R sc)
 
   module _ (column : List Float) where
     advance-next : (n : NextEdge es s)
@@ -519,7 +519,7 @@ module _ {A : Around} {es only to t : List ℕ} {sc : List Float} {shut order ma
         ap (λ (w : List (Path Float)). advance (columnScoring column) (A .f) s w (s .pivotal)) nothing-waits
         ∙ ap (λ (l : List Ends). advance (columnScoring column) (A .f) s [] l) (n .is)
 
-    pub advance-made : (t′ : List ℕ) (sc′ : List Float) (p′ : Progress) (M : Remade A es only to shut order marks g p s column t′ sc′ p′)
+    pub advance-made : (t′ : List ℕ) (sc′ : List Float) (p′ : Progress) (M : Remade A es index targets closed order marks g p s column t′ sc′ p′)
         → advance (columnScoring column) (A .f) s (s .waiting) (s .pivotal)
-        ≡ made (withPivotal s (M .next .rest)) (map (pathOf (A .f) es only to (M .bs) t′ sc′) (upFrom (p .records) (p′ .records - p .records)))
+        ≡ made (withPivotal s (M .next .rest)) (map (pathOf (A .f) es index targets (M .bs) t′ sc′) (upFrom (p .records) (p′ .records - p .records)))
     advance-made t′ sc′ p′ M = advance-next (M .next) ∙ M .gives

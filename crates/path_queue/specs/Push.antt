@@ -110,9 +110,9 @@ module _ {sc : List Float} {queue : List ℕ} {g : Setting} {p : Progress} {path
                     (distinct-insert (aheadOf sc) path (waiting sc queue (p .waiting))
                     (waiting-all (λ q. q ≢ path) sc queue (p .waiting) (λ i l. omega (arith, R .later i l))) (H .once));
                 waiting = list;
-                shut-known = H .shut-known;
+                closed-known = H .closed-known;
                 closed = H .closed;
-                shut-room = H .shut-room;
+                closed-room = H .closed-room;
                 pivotal = H .pivotal;
                 pivotal-once = H .pivotal-once;
                 pivotal-known = H .pivotal-known;

@@ -18,21 +18,21 @@ pub record Scene : Type 0 where
   pub f : SearchInput
   pub es : List ℕ
   pub x : List ℕ
-  pub only : List ℕ
-  pub to : List ℕ
+  pub index : List ℕ
+  pub targets : List ℕ
   pub bs : ℕ → List Branches
   pub closing : ℕ → ℕ
   pub t : List ℕ
   pub ac : List ℕ
-  pub shut : List ℕ
+  pub closed : List ℕ
   pub order : List ℕ
   pub marks : List ℕ
 
 abbrev pub Stands : Scene → Setting → List Float → List ℕ → Progress → State Float → Type 0
-Stands G g sc queue p s = Holds (G .f) g (G .es) (G .x) (G .only) (G .to) (G .bs) (G .closing) (G .t) sc (G .ac) queue (G .shut) (G .order) (G .marks) p s
+Stands G g sc queue p s = Holds (G .f) g (G .es) (G .x) (G .index) (G .targets) (G .bs) (G .closing) (G .t) sc (G .ac) queue (G .closed) (G .order) (G .marks) p s
 
 abbrev pub pathIn : Scene → List Float → ℕ → Path Float
-pathIn G sc r = pathOf (G .f) (G .es) (G .only) (G .to) (G .bs) (G .t) sc r
+pathIn G sc r = pathOf (G .f) (G .es) (G .index) (G .targets) (G .bs) (G .t) sc r
 
 -- ---- numbers that stand once
 

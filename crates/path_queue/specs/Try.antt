@@ -27,30 +27,30 @@ use Rattle.path_queue.specs.declared.Recovery.{Recovery}
 use Rattle.path_queue.specs.declared.Recovery.the-variants as recovery
 use Rattle.path_queue.specs.Recover.{Leaves, Lost, Left}
 
-pub record TriesEdge (es only to t : List ℕ) (sc : List Float) (shut walk : List ℕ) (g : Setting) (p : Progress) (e : ℕ) : Type 0 where
+pub record TriesEdge (es index targets t : List ℕ) (sc : List Float) (closed walks : List ℕ) (g : Setting) (p : Progress) (e : ℕ) : Type 0 where
   pub f : SearchInput
-  pub agrees : Agrees f only to (nameOf es)
+  pub agrees : Agrees f index targets (nameOf es)
   pub source : f .source ≡ 0
-  pub table : Table only to t sc (p .records)
-  pub shut-known : All (λ r. r < p .records) (take (p .closed) shut)
-  pub shut-room : p .closed ≤ length shut
+  pub table : Table index targets t sc (p .records)
+  pub closed-known : All (λ r. r < p .records) (take (p .closed) closed)
+  pub closed-room : p .closed ≤ length closed
   pub numbers : (r : ℕ) → r < p .records → isNan (scoreOf sc r) ≡ false
   pub short : (r : ℕ) → r < p .records → countOf t r ≤ g .most
-  pub walk-room : g .most ≤ length walk
+  pub walk-room : g .most ≤ length walks
   pub most-fits : g .most ≤ 4096
   pub room : Inside t sc (p .records)
   pub fits : p .records + 1 < 4294967296
-  pub edge : e < length to
+  pub edge : e < length targets
   pub row : HasEdge es e
 
 -- the number + 1 of the best closed path through the vertex that e leaves
 abbrev pub bestFor : List ℕ → List ℕ → List ℕ → List ℕ → List Float → List ℕ → Progress → ℕ → ℕ
-bestFor es only to t sc shut p e = bestOf only to 0 t sc (edgeFrom es e) (take (p .closed) shut)
+bestFor es index targets t sc closed p e = bestOf index targets 0 t sc (edgeFrom es e) (take (p .closed) closed)
 
 abbrev pub EdgeTried : List ℕ → List ℕ → List ℕ → List ℕ → List Float → List ℕ → Setting → Progress → ℕ → List ℕ → List Float → Recovery → Type 0
-EdgeTried es only to t sc shut g p e t′ sc′ r =
-    ((bestFor es only to t sc shut p e ≡ 0) × (r ≡ recovery.Made p) × Lost t sc p t′ sc′ p)
-    ⊎ ((0 < bestFor es only to t sc shut p e) × Left only to t sc g p (bestFor es only to t sc shut p e - 1) (edgeFrom es e) e t′ sc′ r)
+EdgeTried es index targets t sc closed g p e t′ sc′ r =
+    ((bestFor es index targets t sc closed p e ≡ 0) × (r ≡ recovery.Made p) × Lost t sc p t′ sc′ p)
+    ⊎ ((0 < bestFor es index targets t sc closed p e) × Left index targets t sc g p (bestFor es index targets t sc closed p e - 1) (edgeFrom es e) e t′ sc′ r)
 
 -- what holds of all closed paths holds of the greatest
 all-greatest : (𝓢 : Scoring Float) {P : Closed Float → Type 0} {cs : List (Closed Float)} (b : Closed Float) → All P cs → greatest 𝓢 cs ≡ some b → P b
@@ -66,53 +66,53 @@ all-greatest 𝓢 {P} b (cons {x = c} {xs = cs} p ps) t = go (greatest 𝓢 cs) 
         pick true u = let h : some c ≡ some b = rw (e, greatest, u) at t in let same : c ≡ b = cc in subst P same p
         pick false u = let h : some d ≡ some b = rw (e, greatest, u) at t in let same : d ≡ b = cc in subst P same (ih d e)
 
-module _ {es only to t : List ℕ} {sc : List Float} {shut walk : List ℕ} {g : Setting} {p : Progress} {e : ℕ} (T : TriesEdge es only to t sc shut walk g p e) where
+module _ {es index targets t : List ℕ} {sc : List Float} {closed walks : List ℕ} {g : Setting} {p : Progress} {e : ℕ} (T : TriesEdge es index targets t sc closed walks g p e) where
   pub edge-row : (i : ℕ) → i ≡ e → HasEdge es i
   edge-row i h = rw h (T .row)
 
   pub edge-from-is : (i v : ℕ) → i ≡ e → v ≡ edgeFrom es i → v ≡ edgeFrom es e
   edge-from-is i v h k = k ∙ ap (λ x. edgeFrom es x) h
 
-  closed-low : (i : ℕ) → i < p .closed → getD shut i 0 < p .records
+  closed-low : (i : ℕ) → i < p .closed → getD closed i 0 < p .records
   closed-low i h =
-      let a = all-at (λ r. r < p .records) (take (p .closed) shut) (T .shut-known) i (omega (arith, length-take-le (p .closed) shut (T .shut-room))) in
-      omega (arith, getD-take (p .closed) shut i 0 h)
+      let a = all-at (λ r. r < p .records) (take (p .closed) closed) (T .closed-known) i (omega (arith, length-take-le (p .closed) closed (T .closed-room))) in
+      omega (arith, getD-take (p .closed) closed i 0 h)
 
-  pub try-closed : (v : ℕ) → ClosedIn only to 0 t sc v shut (p .closed)
+  pub try-closed : (v : ℕ) → ClosedIn index targets 0 t sc v closed (p .closed)
   try-closed v =
       record {
-        room = T .shut-room;
-        tables = λ i h. table-front only to t sc (p .records) (getD shut i 0 + 1) (T .table) (omega (arith, closed-low i h));
+        room = T .closed-room;
+        tables = λ i h. table-front index targets t sc (p .records) (getD closed i 0 + 1) (T .table) (omega (arith, closed-low i h));
         small = λ i h. omega (arith, closed-low i h, T .fits);
-        numbers = λ i h. T .numbers (getD shut i 0) (closed-low i h);
+        numbers = λ i h. T .numbers (getD closed i 0) (closed-low i h);
       }
 
   -- the best closed path is one of the records: by the definition's greatest, where each closed path's number is its record's
-  pub best-at : (b : ℕ) → bestFor es only to t sc shut p e ≡ suc b → b < p .records
+  pub best-at : (b : ℕ) → bestFor es index targets t sc closed p e ≡ suc b → b < p .records
   best-at b h =
       let v = edgeFrom es e in
-      let cs = take (p .closed) shut in
-      let at = closedAt (T .f) (nameOf es) only to (T .agrees) [] (λ r. r) t sc v in
-      let j : bestOf only to (T .f .source) t sc v cs ≡ suc b = rw (T .source) h in
+      let cs = take (p .closed) closed in
+      let at = closedAt (T .f) (nameOf es) index targets (T .agrees) [] (λ r. r) t sc v in
+      let j : bestOf index targets (T .f .source) t sc v cs ≡ suc b = rw (T .source) h in
       let k : greatest (columnScoring []) (keep (λ c. any (eqb v) (verticesFrom (T .f .source) (c .edges))) (map at cs)) ≡ some (at b) =
-      best-greatest (T .f) (nameOf es) only to (T .agrees) [] (λ r. r) t sc v cs
-      ∙ ap (λ x. foundAt (T .f) (nameOf es) only to (T .agrees) [] (λ r. r) t sc v x) j
+      best-greatest (T .f) (nameOf es) index targets (T .agrees) [] (λ r. r) t sc v cs
+      ∙ ap (λ x. foundAt (T .f) (nameOf es) index targets (T .agrees) [] (λ r. r) t sc v x) j
       in
       all-greatest (columnScoring []) {P = λ c. c .closing < p .records} (at b)
-      (all-keep (λ c. any (eqb v) (verticesFrom (T .f .source) (c .edges))) (all-map at (λ r l. l) (T .shut-known))) k
+      (all-keep (λ c. any (eqb v) (verticesFrom (T .f .source) (c .edges))) (all-map at (λ r l. l) (T .closed-known))) k
 
-  module _ (v best : ℕ) (v-is : v ≡ edgeFrom es e) (B : best ≡ bestOf only to 0 t sc v (take (p .closed) shut)) where
-    best-is : best ≡ bestFor es only to t sc shut p e
-    best-is = B ∙ ap (λ x. bestOf only to 0 t sc x (take (p .closed) shut)) v-is
+  module _ (v best : ℕ) (v-is : v ≡ edgeFrom es e) (B : best ≡ bestOf index targets 0 t sc v (take (p .closed) closed)) where
+    best-is : best ≡ bestFor es index targets t sc closed p e
+    best-is = B ∙ ap (λ x. bestOf index targets 0 t sc x (take (p .closed) closed)) v-is
 
-    pub try-none : best ≡ 0 → EdgeTried es only to t sc shut g p e t sc (recovery.Made p)
+    pub try-none : best ≡ 0 → EdgeTried es index targets t sc closed g p e t sc (recovery.Made p)
     try-none z = inl (sym best-is ∙ z, refl, record { progress = refl; cells = refl; scores = refl })
 
     module _ (h : best ≡ 0 → ⊥) where
       low : best - 1 < p .records
       low = best-at (best - 1) (omega (arith, best-is))
 
-      pub try-leaves : Leaves only to t sc walk g p (best - 1) e
+      pub try-leaves : Leaves index targets t sc walks g p (best - 1) e
       try-leaves =
           record {
             table = T .table;
@@ -125,5 +125,5 @@ module _ {es only to t : List ℕ} {sc : List Float} {shut walk : List ℕ} {g :
             edge = T .edge;
           }
 
-      pub try-left : (t′ : List ℕ) (sc′ : List Float) (r : Recovery) → Left only to t sc g p (best - 1) v e t′ sc′ r → EdgeTried es only to t sc shut g p e t′ sc′ r
+      pub try-left : (t′ : List ℕ) (sc′ : List Float) (r : Recovery) → Left index targets t sc g p (best - 1) v e t′ sc′ r → EdgeTried es index targets t sc closed g p e t′ sc′ r
       try-left t′ sc′ r L = inr (omega (arith, best-is), rw (← best-is, ← v-is) L)

@@ -125,13 +125,13 @@ fn set_marks(marks: &mut [u32], n: usize, x: u32)
 fn list_pivotal(
     vertices: &[u32],
     edges: &[u32],
-    pivots: &mut [u32],
+    walks: &mut [u32],
     order: &mut [u32],
     marks: &mut [u32],
     g: Setting,
     recovery: bool,
 ) -> usize
-    requires { ⌜ ListsPivotal g (now vertices) (now edges) (now pivots) (now order) (now marks) ⌝ }
+    requires { ⌜ ListsPivotal g (now vertices) (now edges) (now walks) (now order) (now marks) ⌝ }
     ensures { λ n. ⌜ PivotalListed g (now (vertices .entry)) (now (edges .entry)) (now (order .exit)) (now (marks .exit)) n recovery ⌝ }
 {
     if !recovery {
@@ -142,7 +142,7 @@ fn list_pivotal(
         vertices,
         edges,
         g.edges,
-        pivots,
+        walks,
         marks,
         order,
     );
@@ -157,18 +157,18 @@ pub fn begin(
     paths: &mut [u32],
     scores: &mut [f64],
     queue: &mut [u32],
-    pivots: &mut [u32],
+    walks: &mut [u32],
     order: &mut [u32],
     marks: &mut [u32],
     g: Setting,
     recovery: bool,
 ) -> Progress
-    requires { ⌜ Begins g (now vertices) (now edges) (now paths) (now scores) (now queue) (now pivots) (now order) (now marks) ⌝ }
+    requires { ⌜ Begins g (now vertices) (now edges) (now paths) (now scores) (now queue) (now walks) (now order) (now marks) ⌝ }
     ensures { λ r. ⌜ Begun g (now (vertices .entry)) (now (edges .entry)) (now (paths .exit)) (now (scores .exit)) (now (queue .exit)) (now (order .exit)) (now (marks .exit)) recovery r ⌝ }
 {
     start_path(paths, scores, 0);
     heap_push(queue, 0, scores, 0);
-    let n = list_pivotal(vertices, edges, pivots, order, marks, g, recovery);
+    let n = list_pivotal(vertices, edges, walks, order, marks, g, recovery);
     Progress {
         records: 1,
         waiting: 1,
@@ -200,45 +200,45 @@ fn next_pivotal(order: &[u32], marks: &[u32], n: usize, next: usize) -> usize
 fn split_at(
     paths: &[u32],
     scores: &[f64],
-    only: &[u32],
-    to: &[u32],
-    walk: &mut [u32],
+    index: &[u32],
+    targets: &[u32],
+    walks: &mut [u32],
     path: u32,
     v: u32,
 ) -> usize
-    requires { ⌜ Splits (now only) (now to) (now paths) (now scores) (now walk) path ⌝ }
-    ensures { λ k. ⌜ k ≡ splitAt (now (to .entry)) v (edges (now (only .entry)) (now (to .entry)) (now (paths .entry)) path) ⌝ }
+    requires { ⌜ Splits (now index) (now targets) (now paths) (now scores) (now walks) path ⌝ }
+    ensures { λ k. ⌜ k ≡ splitAt (now (targets .entry)) v (edges (now (index .entry)) (now (targets .entry)) (now (paths .entry)) path) ⌝ }
 {
     let row = path_at(paths, scores, path);
-    write_path(paths, scores, only, to, walk, 0, path);
-    split_place(walk, wide(row.edges), to, v)
+    write_path(paths, scores, index, targets, walks, 0, path);
+    split_place(walks, wide(row.edges), targets, v)
 }
 
 // The path is left at v by the edge e: its front and the edge become a new record.
 fn leave_path(
-    only: &[u32],
-    to: &[u32],
+    index: &[u32],
+    targets: &[u32],
     paths: &mut [u32],
     scores: &mut [f64],
-    walk: &mut [u32],
+    walks: &mut [u32],
     g: Setting,
     p: Progress,
     path: u32,
     v: u32,
     e: u32,
 ) -> Recovery
-    requires { ⌜ Leaves (now only) (now to) (now paths) (now scores) (now walk) g p path e ⌝ }
-    ensures { λ r. ⌜ Left (now (only .entry)) (now (to .entry)) (now (paths .entry)) (now (scores .entry)) g p path v e (now (paths .exit)) (now (scores .exit)) r ⌝ }
+    requires { ⌜ Leaves (now index) (now targets) (now paths) (now scores) (now walks) g p path e ⌝ }
+    ensures { λ r. ⌜ Left (now (index .entry)) (now (targets .entry)) (now (paths .entry)) (now (scores .entry)) g p path v e (now (paths .exit)) (now (scores .exit)) r ⌝ }
 {
-    let k = split_at(paths, scores, only, to, walk, path, v);
+    let k = split_at(paths, scores, index, targets, walks, path, v);
     if k == 0 {
         return Recovery::Made(p);
     }
     let r = recover_path(
         paths,
         scores,
-        only,
-        to,
+        index,
+        targets,
         p.records,
         path,
         k as u32,
@@ -262,43 +262,43 @@ fn leave_path(
 // The edge e is tried: the best closed path through the vertex that it leaves goes on by it.
 fn try_edge(
     edges: &[u32],
-    only: &[u32],
-    to: &[u32],
+    index: &[u32],
+    targets: &[u32],
     paths: &mut [u32],
     scores: &mut [f64],
-    shut: &[u32],
-    walk: &mut [u32],
+    closed: &[u32],
+    walks: &mut [u32],
     g: Setting,
     p: Progress,
     e: u32,
 ) -> Recovery
-    requires { ⌜ TriesEdge (now edges) (now only) (now to) (now paths) (now scores) (now shut) (now walk) g p e ⌝ }
-    ensures { λ r. ⌜ EdgeTried (now (edges .entry)) (now (only .entry)) (now (to .entry)) (now (paths .entry)) (now (scores .entry)) (now (shut .entry)) g p e (now (paths .exit)) (now (scores .exit)) r ⌝ }
+    requires { ⌜ TriesEdge (now edges) (now index) (now targets) (now paths) (now scores) (now closed) (now walks) g p e ⌝ }
+    ensures { λ r. ⌜ EdgeTried (now (edges .entry)) (now (index .entry)) (now (targets .entry)) (now (paths .entry)) (now (scores .entry)) (now (closed .entry)) g p e (now (paths .exit)) (now (scores .exit)) r ⌝ }
 {
     let v = edge_from(edges, wide(e)) as u32;
-    let best = best_through(paths, scores, only, to, 0, shut, p.closed, v);
+    let best = best_through(paths, scores, index, targets, 0, closed, p.closed, v);
     if best == 0 {
         return Recovery::Made(p);
     }
-    leave_path(only, to, paths, scores, walk, g, p, best - 1, v, e)
+    leave_path(index, targets, paths, scores, walks, g, p, best - 1, v, e)
 }
 
 // Where nothing waits, the next pivotal edge that no path has visited is tried.
 pub fn enqueue_next_pivotal_edge(
     edges: &[u32],
-    only: &[u32],
-    to: &[u32],
+    index: &[u32],
+    targets: &[u32],
     paths: &mut [u32],
     scores: &mut [f64],
-    shut: &[u32],
+    closed: &[u32],
     order: &[u32],
     marks: &[u32],
-    walk: &mut [u32],
+    walks: &mut [u32],
     g: Setting,
     p: Progress,
 ) -> Recovery
-    requires { ⌜ TriesNext (now edges) (now only) (now to) (now paths) (now scores) (now shut) (now order) (now marks) (now walk) g p ⌝ }
-    ensures { λ r. ⌜ Tried (now (edges .entry)) (now (only .entry)) (now (to .entry)) (now (paths .entry)) (now (scores .entry)) (now (shut .entry)) (now (order .entry)) (now (marks .entry)) g p (now (paths .exit)) (now (scores .exit)) r ⌝ }
+    requires { ⌜ TriesNext (now edges) (now index) (now targets) (now paths) (now scores) (now closed) (now order) (now marks) (now walks) g p ⌝ }
+    ensures { λ r. ⌜ Tried (now (edges .entry)) (now (index .entry)) (now (targets .entry)) (now (paths .entry)) (now (scores .entry)) (now (closed .entry)) (now (order .entry)) (now (marks .entry)) g p (now (paths .exit)) (now (scores .exit)) r ⌝ }
 {
     let place = next_pivotal(order, marks, p.pivotal, p.next);
     if place >= p.pivotal {
@@ -315,12 +315,12 @@ pub fn enqueue_next_pivotal_edge(
     };
     try_edge(
         edges,
-        only,
-        to,
+        index,
+        targets,
         paths,
         scores,
-        shut,
-        walk,
+        closed,
+        walks,
         g,
         after,
         order[place],

@@ -43,10 +43,10 @@ module _ (sc : List Float) where
   pub outscores-some : (best c i j : ℕ) → (best ≡ 0 → ⊥) → i ≡ c → j ≡ best - 1 → lt (scoreOf sc i) (scoreOf sc j) ≡ outscores best c
   outscores-some best c i j h I J = rw (I, J) (outscores-suc best (best - 1) c (omega arith))
 
-module _ (only to : List ℕ) (source : ℕ) (t : List ℕ) (sc : List Float) (v : ℕ) where
+module _ (index targets : List ℕ) (source : ℕ) (t : List ℕ) (sc : List Float) (v : ℕ) where
   -- the path goes through v
   abbrev pub through : ℕ → Bool
-  through c = any (eqb v) (verticesOf to source (edges only to t c))
+  through c = any (eqb v) (verticesOf targets source (edges index targets t c))
 
   -- of a path c, which goes through v or not, and the best of those that closed after it
   ofBoth : Bool → ℕ → ℕ → ℕ
@@ -101,17 +101,17 @@ module _ (only to : List ℕ) (source : ℕ) (t : List ℕ) (sc : List Float) (v
     unfolding later
     later-less h = sym (next-out (through c) best c (sym e ∙ h))
 
-    module _ (f : b ≡ false) (k : ℕ) (K : k ≡ times to source v (edges only to t c)) where
+    module _ (f : b ≡ false) (k : ℕ) (K : k ≡ times targets source v (edges index targets t c)) where
       pub later-none : k ≡ 0 → best ≡ later best c
       unfolding later
       later-none z =
-          let a : through c ≡ false = sym (times-any to source v (edges only to t c)) ∙ le-ltb 0 (times to source v (edges only to t c)) (omega arith) in
+          let a : through c ≡ false = sym (times-any targets source v (edges index targets t c)) ∙ le-ltb 0 (times targets source v (edges index targets t c)) (omega arith) in
           rw a (sym (next-not best c))
 
       pub later-some : (k ≡ 0 → ⊥) → c + 1 ≡ later best c
       unfolding later
       later-some z =
-          let a : through c ≡ true = sym (times-any to source v (edges only to t c)) ∙ lt-ltb 0 (times to source v (edges only to t c)) (omega arith) in
+          let a : through c ≡ true = sym (times-any targets source v (edges index targets t c)) ∙ lt-ltb 0 (times targets source v (edges index targets t c)) (omega arith) in
           rw a (add-one c ∙ sym (next-on best c (sym e ∙ f)))
 
   -- ---- the best of some paths and one that closed after them, where the scores are numbers
@@ -163,7 +163,7 @@ module _ (only to : List ℕ) (source : ℕ) (t : List ℕ) (sc : List Float) (v
   -- each of the closed paths stands in a table, and its score is a number
   pub record ClosedIn (closed : List ℕ) (count : ℕ) : Type 0 where
     pub room : count ≤ length closed
-    pub tables : (i : ℕ) → i < count → Table only to t sc (getD closed i 0 + 1)
+    pub tables : (i : ℕ) → i < count → Table index targets t sc (getD closed i 0 + 1)
     pub small : (i : ℕ) → i < count → getD closed i 0 + 1 < 4294967296
     pub numbers : (i : ℕ) → i < count → isNan (scoreOf sc (getD closed i 0)) ≡ false
 
@@ -181,7 +181,7 @@ module _ (only to : List ℕ) (source : ℕ) (t : List ℕ) (sc : List Float) (v
         all-taken (x ∷ xs) (suc n) h m = cons (h 0 (omega arith)) (all-taken xs n (λ j k. h (suc j) (omega arith)) (omega arith))
 
     module _ (i best : ℕ) (S : Searching closed count i best) where
-      pub searching-table : i < count → Table only to t sc (getD closed i 0 + 1)
+      pub searching-table : i < count → Table index targets t sc (getD closed i 0 + 1)
       searching-table h = C .tables i h
 
       later-known : (c : ℕ) → c < length sc → 0 < later best c → later best c - 1 < length sc
@@ -208,47 +208,47 @@ module _ (only to : List ℕ) (source : ℕ) (t : List ℕ) (sc : List Float) (v
 
 -- ---- the definition's greatest
 
-module _ (f : SearchInput) (ends : ℕ → Ends) (only to : List ℕ) (A : Agrees f only to ends) (column : List Float) (closing : ℕ → ℕ) (t : List ℕ) (sc : List Float)
+module _ (f : SearchInput) (ends : ℕ → Ends) (index targets : List ℕ) (A : Agrees f index targets ends) (column : List Float) (closing : ℕ → ℕ) (t : List ℕ) (sc : List Float)
     (v : ℕ) where
   -- the closed paths, each with its closing number
   abbrev pub closedAt : ℕ → Closed Float
-  closedAt c = closedOf ends only to t sc (closing c) c
+  closedAt c = closedOf ends index targets t sc (closing c) c
 
   abbrev pub foundAt : ℕ → Option (Closed Float)
   foundAt zero = none
   foundAt (suc c) = some (closedAt c)
 
-  through-same : (c : ℕ) → any (eqb v) (verticesFrom (f .source) (closedAt c .edges)) ≡ through only to (f .source) t sc v c
+  through-same : (c : ℕ) → any (eqb v) (verticesFrom (f .source) (closedAt c .edges)) ≡ through index targets (f .source) t sc v c
   unfolding verticesFrom
-  through-same c = ap (λ (x : List ℕ). any (eqb v) (f .source ∷ x)) (sym (targets-same f only to ends A (edges only to t c)))
+  through-same c = ap (λ (x : List ℕ). any (eqb v) (f .source ∷ x)) (sym (targets-same f index targets ends A (edges index targets t c)))
 
   abbrev hits : Closed Float → Bool
   hits c = any (eqb v) (verticesFrom (f .source) (c .edges))
 
-  step : (c : ℕ) (cs : List (Closed Float)) (b : ℕ) → through only to (f .source) t sc v c ≡ true → greatest (columnScoring column) cs ≡ foundAt b
-      → greatest (columnScoring column) (closedAt c ∷ cs) ≡ foundAt (better only to (f .source) t sc v c b)
+  step : (c : ℕ) (cs : List (Closed Float)) (b : ℕ) → through index targets (f .source) t sc v c ≡ true → greatest (columnScoring column) cs ≡ foundAt b
+      → greatest (columnScoring column) (closedAt c ∷ cs) ≡ foundAt (better index targets (f .source) t sc v c b)
   unfolding greatest columnScoring better ofBoth
   step c cs zero m e = rw (e, greatest, m)
   step c cs (suc d) m e = go (lt (scoreOf sc d) (scoreOf sc c)) refl
     where
       go : (b : Bool) → lt (scoreOf sc d) (scoreOf sc c) ≡ b
-          → greatest (columnScoring column) (closedAt c ∷ cs) ≡ foundAt (better only to (f .source) t sc v c (suc d))
+          → greatest (columnScoring column) (closedAt c ∷ cs) ≡ foundAt (better index targets (f .source) t sc v c (suc d))
       go true h = rw (e, greatest, h, m, h)
       go false h = rw (e, greatest, h, m, h)
 
   pub best-greatest : (cs : List ℕ)
-      → greatest (columnScoring column) (keep (λ c. any (eqb v) (verticesFrom (f .source) (c .edges))) (map closedAt cs)) ≡ foundAt (bestOf only to (f .source) t sc v cs)
+      → greatest (columnScoring column) (keep (λ c. any (eqb v) (verticesFrom (f .source) (c .edges))) (map closedAt cs)) ≡ foundAt (bestOf index targets (f .source) t sc v cs)
   unfolding greatest bestOf better ofBoth
   best-greatest [] = refl
-  best-greatest (c ∷ cs) = go (Bool-cases (through only to (f .source) t sc v c)) (best-greatest cs)
+  best-greatest (c ∷ cs) = go (Bool-cases (through index targets (f .source) t sc v c)) (best-greatest cs)
     where
-      go : (through only to (f .source) t sc v c ≡ true) ⊎ (through only to (f .source) t sc v c ≡ false)
-          → greatest (columnScoring column) (keep hits (map closedAt cs)) ≡ foundAt (bestOf only to (f .source) t sc v cs)
-          → greatest (columnScoring column) (keep hits (closedAt c ∷ map closedAt cs)) ≡ foundAt (bestOf only to (f .source) t sc v (c ∷ cs))
+      go : (through index targets (f .source) t sc v c ≡ true) ⊎ (through index targets (f .source) t sc v c ≡ false)
+          → greatest (columnScoring column) (keep hits (map closedAt cs)) ≡ foundAt (bestOf index targets (f .source) t sc v cs)
+          → greatest (columnScoring column) (keep hits (closedAt c ∷ map closedAt cs)) ≡ foundAt (bestOf index targets (f .source) t sc v (c ∷ cs))
       go (inl m) ih =
           let k : hits (closedAt c) ≡ true = through-same c ∙ m in
-          rw k (step c (keep hits (map closedAt cs)) (bestOf only to (f .source) t sc v cs) m ih)
+          rw k (step c (keep hits (map closedAt cs)) (bestOf index targets (f .source) t sc v cs) m ih)
       go (inr m) ih =
           let k : hits (closedAt c) ≡ false = through-same c ∙ m in
-          let e : bestOf only to (f .source) t sc v cs ≡ better only to (f .source) t sc v c (bestOf only to (f .source) t sc v cs) = sym (rw m) in
+          let e : bestOf index targets (f .source) t sc v cs ≡ better index targets (f .source) t sc v c (bestOf index targets (f .source) t sc v cs) = sym (rw m) in
           rw k (ih ∙ ap (λ x. foundAt x) e)

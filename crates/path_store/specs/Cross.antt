@@ -57,12 +57,12 @@ clear-last m l i h e = rw e (ap (λ es. clears m es) (sym (lastEdge-is l (omega 
 
 -- no chain goes on by the edge e
 abbrev pub Fork : List ℕ → ℕ → Type 0
-Fork only e = (u : ℕ) → getD only u 0 ≡ suc e → ⊥
+Fork index e = (u : ℕ) → getD index u 0 ≡ suc e → ⊥
 
 -- the marks of the edges that no chain goes on by are what they are once those of the edges es are cleared
-pub record Struck (only m es m′ : List ℕ) : Type 0 where
+pub record Struck (index m es m′ : List ℕ) : Type 0 where
   pub size : length m′ ≡ length m
-  pub same : (e : ℕ) → e < length m → Fork only e → getD m′ e 0 ≡ getD (clears m es) e 0
+  pub same : (e : ℕ) → e < length m → Fork index e → getD m′ e 0 ≡ getD (clears m es) e 0
 
 -- marks that agree at e do so still once the same ones are cleared
 clears-agree : (e : ℕ) (ds m n : List ℕ) → e < length m → length m ≡ length n → getD m e 0 ≡ getD n e 0 → getD (clears m ds) e 0 ≡ getD (clears n ds) e 0
@@ -75,55 +75,55 @@ clears-agree e (d ∷ ds) m n b l h =
     go (no q) = getD-set-other m d e 0 0 (λ z. q (sym z)) ∙ h ∙ sym (getD-set-other n d e 0 0 (λ z. q (sym z)))
 
 -- a chain leaves the marks of the others as they are
-run-off : (only to : List ℕ) (e : ℕ) → Fork only e → (m : List ℕ) (u c : ℕ) → Runs only to u c → getD (clears m (run only to u c)) e 0 ≡ getD m e 0
+run-off : (index targets : List ℕ) (e : ℕ) → Fork index e → (m : List ℕ) (u c : ℕ) → Runs index targets u c → getD (clears m (run index targets u c)) e 0 ≡ getD m e 0
 unfolding run Runs
-run-off only to e F m u zero r = refl
-run-off only to e F m u (suc c) r =
-    run-off only to e F (set m (sole only u) 0) (next only to u) c (r .1) ∙ getD-set-other m (sole only u) e 0 0 (λ z. F u (omega (arith, r .0)))
+run-off index targets e F m u zero r = refl
+run-off index targets e F m u (suc c) r =
+    run-off index targets e F (set m (sole index u) 0) (next index targets u) c (r .1) ∙ getD-set-other m (sole index u) e 0 0 (λ z. F u (omega (arith, r .0)))
 
-pub record Crossing (only to t : List ℕ) (n path : ℕ) (m₀ m : List ℕ) (r p l : ℕ) : Type 0 where
+pub record Crossing (index targets t : List ℕ) (n path : ℕ) (m₀ m : List ℕ) (r p l : ℕ) : Type 0 where
   pub size : length m ≡ length m₀
   pub low : r < n
   pub par : p ≡ parentOf t r
   pub last : l ≡ edgeOf t r
-  pub is : (e : ℕ) → e < length m₀ → Fork only e → getD (clears m (edges only to t r)) e 0 ≡ getD (clears m₀ (edges only to t path)) e 0
+  pub is : (e : ℕ) → e < length m₀ → Fork index e → getD (clears m (edges index targets t r)) e 0 ≡ getD (clears m₀ (edges index targets t path)) e 0
 
-module _ (only to t : List ℕ) (sc : List Float) (n : ℕ) (T : Table only to t sc n) where
-  pub crossing-start : (path p l : ℕ) (m : List ℕ) → path < n → p ≡ parentOf t path → l ≡ edgeOf t path → Crossing only to t n path m m path p l
+module _ (index targets t : List ℕ) (sc : List Float) (n : ℕ) (T : Table index targets t sc n) where
+  pub crossing-start : (path p l : ℕ) (m : List ℕ) → path < n → p ≡ parentOf t path → l ≡ edgeOf t path → Crossing index targets t n path m m path p l
   crossing-start path p l m h e f = record { size = refl; low = h; par = e; last = f; is = λ d b F. refl }
 
-  module _ (path : ℕ) (m₀ m : List ℕ) (r p l : ℕ) (U : Crossing only to t n path m₀ m r p l) where
+  module _ (path : ℕ) (m₀ m : List ℕ) (r p l : ℕ) (U : Crossing index targets t n path m₀ m r p l) where
     low : 0 < p → p - 1 < n
     low h = omega (arith, U .par, U .low, T .rows r (U .low) .rises)
 
     pub crossing-inside : 0 < p → Inside t sc (p - 1)
-    crossing-inside h = inside only to t sc n T (p - 1) (low h)
+    crossing-inside h = inside index targets t sc n T (p - 1) (low h)
 
-    pub crossing-last : length to ≤ length m₀ → l ≤ length m
+    pub crossing-last : length targets ≤ length m₀ → l ≤ length m
     crossing-last h = omega (arith, U .last, U .size, T .rows r (U .low) .last)
 
     -- the last edge alone, and all edges that the record adds
-    own : 0 < p → (e : ℕ) → e < length m₀ → Fork only e → getD (clears m (lastEdge l)) e 0 ≡ getD (clears m (pieceOf only to t r)) e 0
+    own : 0 < p → (e : ℕ) → e < length m₀ → Fork index e → getD (clears m (lastEdge l)) e 0 ≡ getD (clears m (pieceOf index targets t r)) e 0
     own h e b F =
-        let P = piece-at only to t sc n T r (U .low) (rw (U .par) at h) in
+        let P = piece-at index targets t sc n T r (U .low) (rw (U .par) at h) in
         let u = endOf t (parentOf t r - 1) in
         let c = chainOf t r in
-        let k = length-clears m (run only to u c) in
+        let k = length-clears m (run index targets u c) in
         ap (λ (x : ℕ). getD (clears m (lastEdge x)) e 0) (U .last)
         ∙ sym
-        (ap (λ x. getD (clears m x) e 0) (piece-is only to u c (edgeOf t r))
-        ∙ ap (λ (x : List ℕ). getD x e 0) (clears-append m (run only to u c) (lastEdge (edgeOf t r)))
-        ∙ clears-agree e (lastEdge (edgeOf t r)) (clears m (run only to u c)) m (omega (arith, U .size)) k (run-off only to e F m u c (P .runs)))
+        (ap (λ x. getD (clears m x) e 0) (piece-is index targets u c (edgeOf t r))
+        ∙ ap (λ (x : List ℕ). getD x e 0) (clears-append m (run index targets u c) (lastEdge (edgeOf t r)))
+        ∙ clears-agree e (lastEdge (edgeOf t r)) (clears m (run index targets u c)) m (omega (arith, U .size)) k (run-off index targets e F m u c (P .runs)))
 
     pub crossing-next : (q d : ℕ) (m′ : List ℕ) → 0 < p → m′ ≡ clears m (lastEdge l) → q ≡ parentOf t (p - 1) → d ≡ edgeOf t (p - 1)
-        → Crossing only to t n path m₀ m′ (p - 1) q d
+        → Crossing index targets t n path m₀ m′ (p - 1) q d
     crossing-next q d m′ h z f g =
         let a : parentOf t r ≡ p = sym (U .par) in
-        let up : edges only to t r ≡ edges only to t (p - 1) ++ pieceOf only to t r =
-        edges-up only to t sc n T r (U .low) (rw (U .par) at h) ∙ ap (λ x. edges only to t (x - 1) ++ pieceOf only to t r) a
+        let up : edges index targets t r ≡ edges index targets t (p - 1) ++ pieceOf index targets t r =
+        edges-up index targets t sc n T r (U .low) (rw (U .par) at h) ∙ ap (λ x. edges index targets t (x - 1) ++ pieceOf index targets t r) a
         in
         let i = length-clears m (lastEdge l) in
-        let j = length-clears m (pieceOf only to t r) in
+        let j = length-clears m (pieceOf index targets t r) in
         record {
           size = ap (λ x. length x) z ∙ i ∙ U .size;
           low = low h;
@@ -131,18 +131,18 @@ module _ (only to t : List ℕ) (sc : List Float) (n : ℕ) (T : Table only to t
           last = g;
           is =
               λ e b F.
-              ap (λ x. getD (clears x (edges only to t (p - 1))) e 0) z
-              ∙ clears-agree e (edges only to t (p - 1)) (clears m (lastEdge l)) (clears m (pieceOf only to t r)) (omega (arith, i, U .size)) (i ∙ sym j) (own h e b F)
-              ∙ ap (λ (x : List ℕ). getD x e 0) (clears-back m (edges only to t (p - 1)) (pieceOf only to t r))
+              ap (λ x. getD (clears x (edges index targets t (p - 1))) e 0) z
+              ∙ clears-agree e (edges index targets t (p - 1)) (clears m (lastEdge l)) (clears m (pieceOf index targets t r)) (omega (arith, i, U .size)) (i ∙ sym j) (own h e b F)
+              ∙ ap (λ (x : List ℕ). getD x e 0) (clears-back m (edges index targets t (p - 1)) (pieceOf index targets t r))
               ∙ ap (λ x. getD (clears m x) e 0) (sym up)
               ∙ U .is e b F;
         }
 
-    pub crossing-end : p ≤ 0 → Struck only m₀ (edges only to t path) m
+    pub crossing-end : p ≤ 0 → Struck index m₀ (edges index targets t path) m
     crossing-end h =
         record {
           size = U .size;
-          same = λ e b F. ap (λ es. getD (clears m es) e 0) (sym (edges-none only to t r (sym (U .par) ∙ omega arith))) ∙ U .is e b F;
+          same = λ e b F. ap (λ es. getD (clears m es) e 0) (sym (edges-none index targets t r (sym (U .par) ∙ omega arith))) ∙ U .is e b F;
         }
 
 -- ---- the definition's list
@@ -185,12 +185,12 @@ module _ (m : List ℕ) (e : ℕ) where
       go (no q) (inl h) ih = rw (other x q, h) (ap (λ (l : List ℕ). x ∷ l) ih ∙ sym (drop-past (eqb e) x (unvisited xs m) (ne-eqb e x q)))
       go (no q) (inr h) ih = rw (other x q, h) ih
 
-module _ (f : SearchInput) (only to : List ℕ) (ends : ℕ → Ends) (A : Agrees f only to ends) where
-  struck : (e : ℕ) (xs : List ℕ) → e < length to → All (λ x. x < length to) xs → map ends (dropFirst (eqb e) xs) ≡ dropFirst (eqEnds (ends e)) (map ends xs)
+module _ (f : SearchInput) (index targets : List ℕ) (ends : ℕ → Ends) (A : Agrees f index targets ends) where
+  struck : (e : ℕ) (xs : List ℕ) → e < length targets → All (λ x. x < length targets) xs → map ends (dropFirst (eqb e) xs) ≡ dropFirst (eqEnds (ends e)) (map ends xs)
   struck e xs l a = sym (drop-map (eqb e) (eqEnds (ends e)) ends xs (all-mono (λ x h. A .apart e x l h) a))
 
   -- the marks of a path's edges cleared: the path's edges struck out
-  crossed : (order m es : List ℕ) → Distinct order → All (λ x. x < length to) order → length to ≤ length m → All (λ e. e < length to) es
+  crossed : (order m es : List ℕ) → Distinct order → All (λ x. x < length targets) order → length targets ≤ length m → All (λ e. e < length targets) es
       → map ends (unvisited order (clears m es)) ≡ crossOff (map ends es) (map ends (unvisited order m))
   unfolding crossOff
   crossed order m [] d o l a = refl
@@ -205,8 +205,8 @@ module _ (f : SearchInput) (only to : List ℕ) (ends : ℕ → Ends) (A : Agree
   agreed (x ∷ xs) m n (cons h a) = rw (h, agreed xs m n a)
 
   -- the same of marks that are struck out: every pivotal edge is one that no chain goes on by
-  pub struck-out : (order m es m′ : List ℕ) → Distinct order → All (λ x. x < length to) order → All (Fork only) order → length to ≤ length m → All (λ e. e < length to) es
-      → Struck only m es m′ → map ends (unvisited order m′) ≡ crossOff (map ends es) (map ends (unvisited order m))
+  pub struck-out : (order m es m′ : List ℕ) → Distinct order → All (λ x. x < length targets) order → All (Fork index) order → length targets ≤ length m → All (λ e. e < length targets) es
+      → Struck index m es m′ → map ends (unvisited order m′) ≡ crossOff (map ends es) (map ends (unvisited order m))
   struck-out order m es m′ d o F l a S =
       ap (λ x. map ends x) (agreed order m′ (clears m es) (all-mono (λ x h. S .same x (omega (arith, h .0)) (h .1)) (all-zip o F)))
       ∙ crossed order m es d o l a

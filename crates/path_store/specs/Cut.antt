@@ -45,13 +45,13 @@ pub record Links (t : List ℕ) (sc : List Float) (n : ℕ) : Type 0 where
   pub rises : (r : ℕ) → r < n → parentOf t r ≤ r
   pub root : (r : ℕ) → r < n → parentOf t r ≡ 0 → countOf t r ≡ 0
 
-pub table-links : (only to t : List ℕ) (sc : List Float) (n : ℕ) → Table only to t sc n → Links t sc n
-table-links only to t sc n T =
+pub table-links : (index targets t : List ℕ) (sc : List Float) (n : ℕ) → Table index targets t sc n → Links t sc n
+table-links index targets t sc n T =
     record {
       room = T .room;
       scored = T .scored;
       rises = λ r l. T .rows r l .rises;
-      root = λ r l h. T .rows r l .count ∙ ap (λ es. length es) (edges-none only to t r h);
+      root = λ r l h. T .rows r l .count ∙ ap (λ es. length es) (edges-none index targets t r h);
     }
 
 pub links-front : (t : List ℕ) (sc : List Float) (n m : ℕ) → Links t sc n → m ≤ n → Links t sc m

@@ -70,14 +70,14 @@ startRow source =
     }
 
 abbrev pub extendedRow : List ℕ → List ℕ → Taken → Extension → PathRecord
-extendedRow t to taken x =
+extendedRow t targets taken x =
     record {
       score = x .score;
       parent = taken .path + 1;
       chain = taken .chain;
       edge = x .edge + 1;
       edges = countOf t (taken .path) + taken .chain + 1;
-      end = getD to (x .edge) 0;
+      end = getD targets (x .edge) 0;
       fork = taken .vertex;
       since = x .since;
       joined = 0;
@@ -102,15 +102,15 @@ closedRow t sc taken =
     }
 
 abbrev pub recoveredRow : List ℕ → List ℕ → List Float → List ℕ → ℕ → ℕ → ℕ → PathRecord
-recoveredRow only t sc to path k e =
+recoveredRow index t sc targets path k e =
     record {
       score = scoreOf sc path;
       parent = cutOf t k path .parent;
       chain = cutOf t k path .chain;
       edge = e + 1;
       edges = k + 1;
-      end = getD to e 0;
-      fork = after only to (endOf t (cutOf t k path .parent - 1)) (cutOf t k path .chain);
+      end = getD targets e 0;
+      fork = after index targets (endOf t (cutOf t k path .parent - 1)) (cutOf t k path .chain);
       since = 0;
       joined = 0;
       trees = 0;
@@ -145,17 +145,17 @@ abbrev pub Joined : List ℕ → List Float → ℕ → ℕ → ℕ → PathAnsw
 Joined t sc r v most a t′ sc′ = _≡_ {A = Store} (record { answer = a; cells = t′; scores = sc′ }) (join t sc r v most)
 
 -- the chain after the path
-pub record Following (only to t : List ℕ) (r : ℕ) (taken : Taken) : Type 0 where
+pub record Following (index targets t : List ℕ) (r : ℕ) (taken : Taken) : Type 0 where
   pub path : taken .path ≡ r
-  pub chain : Chained only to (endOf t r) (taken .chain)
-  pub vertex : taken .vertex ≡ after only to (endOf t r) (taken .chain)
+  pub chain : Chained index targets (endOf t r) (taken .chain)
+  pub vertex : taken .vertex ≡ after index targets (endOf t r) (taken .chain)
 
-pub followed : (only to t : List ℕ) (r u c v : ℕ) → u ≡ endOf t r → Chained only to u c → v ≡ after only to u c
-    → Following only to t r (record { path = r; chain = c; vertex = v })
-followed only to t r u c v e C h = record { path = refl; chain = rw e at C; vertex = rw e at h }
+pub followed : (index targets t : List ℕ) (r u c v : ℕ) → u ≡ endOf t r → Chained index targets u c → v ≡ after index targets u c
+    → Following index targets t r (record { path = r; chain = c; vertex = v })
+followed index targets t r u c v e C h = record { path = refl; chain = rw e at C; vertex = rw e at h }
 
 -- ---- the records by the values that the code has read
-pub extend-row : (t to : List ℕ) (taken : Taken) (x : Extension) (k v : ℕ) → k ≡ countOf t (taken .path) + taken .chain + 1 → v ≡ getD to (x .edge) 0
+pub extend-row : (t targets : List ℕ) (taken : Taken) (x : Extension) (k v : ℕ) → k ≡ countOf t (taken .path) + taken .chain + 1 → v ≡ getD targets (x .edge) 0
     → _≡_ {A = PathRecord}
     (record {
       score = x .score;
@@ -170,8 +170,8 @@ pub extend-row : (t to : List ℕ) (taken : Taken) (x : Extension) (k v : ℕ) �
       trees = x .trees;
       recovered = false;
     })
-    (extendedRow t to taken x)
-extend-row t to taken x k v p q = rw (p, q)
+    (extendedRow t targets taken x)
+extend-row t targets taken x k v p q = rw (p, q)
 
 pub close-row : (t : List ℕ) (sc : List Float) (taken : Taken) (s : Float) (k : ℕ) → s ≡ scoreOf sc (taken .path)
     → k ≡ countOf t (taken .path) + taken .chain
@@ -192,8 +192,8 @@ pub close-row : (t : List ℕ) (sc : List Float) (taken : Taken) (s : Float) (k 
     (closedRow t sc taken)
 close-row t sc taken s k p q = rw (p, q)
 
-pub recover-row : (only t : List ℕ) (sc : List Float) (to : List ℕ) (path k e : ℕ) (s : Float) (cut : Cut) (v w u : ℕ) → s ≡ scoreOf sc path → cut ≡ cutOf t k path
-    → v ≡ getD to e 0 → u ≡ endOf t (cut .parent - 1) → w ≡ after only to u (cut .chain)
+pub recover-row : (index t : List ℕ) (sc : List Float) (targets : List ℕ) (path k e : ℕ) (s : Float) (cut : Cut) (v w u : ℕ) → s ≡ scoreOf sc path → cut ≡ cutOf t k path
+    → v ≡ getD targets e 0 → u ≡ endOf t (cut .parent - 1) → w ≡ after index targets u (cut .chain)
     → _≡_ {A = PathRecord}
     (record {
       score = s;
@@ -208,8 +208,8 @@ pub recover-row : (only t : List ℕ) (sc : List Float) (to : List ℕ) (path k 
       trees = 0;
       recovered = true;
     })
-    (recoveredRow only t sc to path k e)
-recover-row only t sc to path k e s cut v w u p q h x y = rw (p, y, x, q, h)
+    (recoveredRow index t sc targets path k e)
+recover-row index t sc targets path k e s cut v w u p q h x y = rw (p, y, x, q, h)
 
 -- ---- the two ways of `grow` and of `join`
 pub grow-full : (t : List ℕ) (sc : List Float) (n : ℕ) (row : PathRecord) (most : ℕ) → most < row .edges → Grown t sc n row most (Refused 11) t sc

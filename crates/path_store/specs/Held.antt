@@ -28,9 +28,9 @@ use Rattle.path_store.specs.Extend.{started, started-rooted, extended-fr
 use Rattle.path_store.specs.View.{viewOf, closedOf, hasTree, view-kept, closed-kept}
 use Rattle.path_store.specs.Join.{Childless, joined-same, joined-table, joined-rooted, joined-apart}
 
-pub record Held (only to : List ℕ) (source : ℕ) (t : List ℕ) (sc : List Float) (n : ℕ) : Type 0 where
-  pub table : Table only to t sc n
-  pub rooted : Rooted only to source t n
+pub record Held (index targets : List ℕ) (source : ℕ) (t : List ℕ) (sc : List Float) (n : ℕ) : Type 0 where
+  pub table : Table index targets t sc n
+  pub rooted : Rooted index targets source t n
 
 -- ---- what an answer tells of the tables
 
@@ -111,72 +111,72 @@ module _ (t : List ℕ) (sc : List Float) (r v most : ℕ) (t′ : List ℕ) (sc
           let e : _≡_ {A = Store} (record { answer = Refused k; cells = t′; scores = sc′ }) (record { answer = Refused 11; cells = t; scores = sc }) = rw (h, join) at g in
           (record { number = refused-number (ap (λ (x : Store). x .answer) e); cells = ap (λ (x : Store). x .cells) e; scores = ap (λ (x : Store). x .scores) e }, ltb-false (treesOf t r) most h)
 
-module _ (only to : List ℕ) (source : ℕ) where
+module _ (index targets : List ℕ) (source : ℕ) where
   -- ---- the start path
-  pub held-start : (t : List ℕ) (sc : List Float) → Graph only to → source < length only → Inside t sc 0
-      → Held only to source (putCells t 0 (startRow source)) (set sc 0 (startRow source .score)) 1
-  held-start t sc g s I = record { table = started only to t sc source g s I; rooted = started-rooted only to t sc source I }
+  pub held-start : (t : List ℕ) (sc : List Float) → Graph index targets → source < length index → Inside t sc 0
+      → Held index targets source (putCells t 0 (startRow source)) (set sc 0 (startRow source .score)) 1
+  held-start t sc g s I = record { table = started index targets t sc source g s I; rooted = started-rooted index targets t sc source I }
 
   -- ---- a new record: an extension, a closed path, a recovered path
-  module _ (t : List ℕ) (sc : List Float) (n : ℕ) (H : Held only to source t sc n) (I : Inside t sc n) where
-    held-pushed : (p : ℕ) (row : PathRecord) → Fresh only to t sc n p row → Held only to source (putCells t n row) (set sc n (row .score)) (n + 1)
-    held-pushed p row F = record { table = pushed only to t sc n p row F .table; rooted = pushed-rooted only to t sc n p row F source (H .rooted) }
+  module _ (t : List ℕ) (sc : List Float) (n : ℕ) (H : Held index targets source t sc n) (I : Inside t sc n) where
+    held-pushed : (p : ℕ) (row : PathRecord) → Fresh index targets t sc n p row → Held index targets source (putCells t n row) (set sc n (row .score)) (n + 1)
+    held-pushed p row F = record { table = pushed index targets t sc n p row F .table; rooted = pushed-rooted index targets t sc n p row F source (H .rooted) }
 
-    module _ (taken : Taken) (K : taken .path < n) (F : Following only to t (taken .path) taken) where
-      pub held-extended : (x : Extension) → x .edge < length to → Held only to source (putCells t n (extendedRow t to taken x)) (set sc n (x .score)) (n + 1)
-      held-extended x h = held-pushed (taken .path) (extendedRow t to taken x) (extended-fresh only to t sc n taken (H .table) I K F x h)
+    module _ (taken : Taken) (K : taken .path < n) (F : Following index targets t (taken .path) taken) where
+      pub held-extended : (x : Extension) → x .edge < length targets → Held index targets source (putCells t n (extendedRow t targets taken x)) (set sc n (x .score)) (n + 1)
+      held-extended x h = held-pushed (taken .path) (extendedRow t targets taken x) (extended-fresh index targets t sc n taken (H .table) I K F x h)
 
-      pub held-closed : Held only to source (putCells t n (closedRow t sc taken)) (set sc n (scoreOf sc (taken .path))) (n + 1)
-      held-closed = held-pushed (taken .path) (closedRow t sc taken) (closed-fresh only to t sc n taken (H .table) I K F)
+      pub held-closed : Held index targets source (putCells t n (closedRow t sc taken)) (set sc n (scoreOf sc (taken .path))) (n + 1)
+      held-closed = held-pushed (taken .path) (closedRow t sc taken) (closed-fresh index targets t sc n taken (H .table) I K F)
 
-    pub held-recovered : (path k e : ℕ) → path < n → 0 < k → k ≤ countOf t path → e < length to
-        → Held only to source (putCells t n (recoveredRow only t sc to path k e)) (set sc n (scoreOf sc path)) (n + 1)
+    pub held-recovered : (path k e : ℕ) → path < n → 0 < k → k ≤ countOf t path → e < length targets
+        → Held index targets source (putCells t n (recoveredRow index t sc targets path k e)) (set sc n (scoreOf sc path)) (n + 1)
     held-recovered path k e K pos low h =
-        held-pushed (cutOf t k path .parent - 1) (recoveredRow only t sc to path k e) (recovered-fresh only to t sc n path k e (H .table) I K pos low h)
+        held-pushed (cutOf t k path .parent - 1) (recoveredRow index t sc targets path k e) (recovered-fresh index targets t sc n path k e (H .table) I K pos low h)
 
     -- the earlier paths stay, whatever the new record is
     pub pushed-view : (f : SearchInput) (ends : ℕ → Ends) (bs : List Branches) (row : PathRecord) (r : ℕ) → r < n
-        → viewOf f ends only to bs (putCells t n row) (set sc n (row .score)) r ≡ viewOf f ends only to bs t sc r
+        → viewOf f ends index targets bs (putCells t n row) (set sc n (row .score)) r ≡ viewOf f ends index targets bs t sc r
     pushed-view f ends bs row r l =
-        view-kept f ends only to bs t (putCells t n row) sc (set sc n (row .score)) n r (H .table) (put-same t n row) (getD-set-other sc n r (row .score) nan (omega arith)) l
+        view-kept f ends index targets bs t (putCells t n row) sc (set sc n (row .score)) n r (H .table) (put-same t n row) (getD-set-other sc n r (row .score) nan (omega arith)) l
 
     pub pushed-closed : (f : SearchInput) (ends : ℕ → Ends) (row : PathRecord) (k r : ℕ) → r < n
-        → closedOf ends only to (putCells t n row) (set sc n (row .score)) k r ≡ closedOf ends only to t sc k r
+        → closedOf ends index targets (putCells t n row) (set sc n (row .score)) k r ≡ closedOf ends index targets t sc k r
     pushed-closed f ends row k r l =
-        closed-kept f ends only to t (putCells t n row) sc (set sc n (row .score)) n k r (H .table) (λ a b x y. put-same t n row a b x (omega arith))
+        closed-kept f ends index targets t (putCells t n row) sc (set sc n (row .score)) n k r (H .table) (λ a b x y. put-same t n row a b x (omega arith))
         (getD-set-other sc n r (row .score) nan (omega arith)) l
 
     -- the chain that was followed before the record was put
-    pub following-pushed : (row : PathRecord) (taken : Taken) → taken .path < n → Following only to t (taken .path) taken → Following only to (putCells t n row) (taken .path) taken
+    pub following-pushed : (row : PathRecord) (taken : Taken) → taken .path < n → Following index targets t (taken .path) taken → Following index targets (putCells t n row) (taken .path) taken
     following-pushed row taken K F =
         let e : endOf (putCells t n row) (taken .path) ≡ endOf t (taken .path) = put-same t n row (taken .path) 4 K (omega arith) in
         record { path = F .path; chain = rw e (F .chain); vertex = rw e (F .vertex) }
 
   -- ---- a tree joins the path r
-  module _ (t : List ℕ) (sc : List Float) (n r v : ℕ) (H : Held only to source t sc n) (l : r < n) where
-    pub held-joined : Held only to source (putCells t r (joinedRow (pathAt t sc r) v)) sc n
-    held-joined = record { table = joined-table only to t sc n r v (H .table) l; rooted = joined-rooted only to t sc n r v (H .table) l source (H .rooted) }
+  module _ (t : List ℕ) (sc : List Float) (n r v : ℕ) (H : Held index targets source t sc n) (l : r < n) where
+    pub held-joined : Held index targets source (putCells t r (joinedRow (pathAt t sc r) v)) sc n
+    held-joined = record { table = joined-table index targets t sc n r v (H .table) l; rooted = joined-rooted index targets t sc n r v (H .table) l source (H .rooted) }
 
-    pub following-joined : (taken : Taken) → taken .path < n → Following only to t (taken .path) taken
-        → Following only to (putCells t r (joinedRow (pathAt t sc r) v)) (taken .path) taken
+    pub following-joined : (taken : Taken) → taken .path < n → Following index targets t (taken .path) taken
+        → Following index targets (putCells t r (joinedRow (pathAt t sc r) v)) (taken .path) taken
     following-joined taken K F =
         let e : endOf (putCells t r (joinedRow (pathAt t sc r) v)) (taken .path) ≡ endOf t (taken .path) =
-        joined-same only to t sc n r v (H .table) l (taken .path) 4 K (omega arith)
+        joined-same index targets t sc n r v (H .table) l (taken .path) 4 K (omega arith)
         in
         record { path = F .path; chain = rw e (F .chain); vertex = rw e (F .vertex) }
 
     -- a path that is not r stays, where r has no children yet
     pub joined-view : (f : SearchInput) (ends : ℕ → Ends) (bs : List Branches) → Childless t n r → (q : ℕ) → q < n → q ≢ r
-        → viewOf f ends only to bs (putCells t r (joinedRow (pathAt t sc r) v)) sc q ≡ viewOf f ends only to bs t sc q
+        → viewOf f ends index targets bs (putCells t r (joinedRow (pathAt t sc r) v)) sc q ≡ viewOf f ends index targets bs t sc q
     joined-view f ends bs childless q m d =
         cc
-        (edges-kept only to t (putCells t r (joinedRow (pathAt t sc r) v)) sc sc n (H .table) (joined-same only to t sc n r v (H .table) l) q m, joined-apart only to t sc n r v (H .table) l (hasTree f) (f .source) childless q m d, put-other t r (joinedRow (pathAt t sc r) v) q 6 d (omega arith))
+        (edges-kept index targets t (putCells t r (joinedRow (pathAt t sc r) v)) sc sc n (H .table) (joined-same index targets t sc n r v (H .table) l) q m, joined-apart index targets t sc n r v (H .table) l (hasTree f) (f .source) childless q m d, put-other t r (joinedRow (pathAt t sc r) v) q 6 d (omega arith))
 
     pub joined-closed : (f : SearchInput) (ends : ℕ → Ends) (k q : ℕ) → q < n
-        → closedOf ends only to (putCells t r (joinedRow (pathAt t sc r) v)) sc k q ≡ closedOf ends only to t sc k q
+        → closedOf ends index targets (putCells t r (joinedRow (pathAt t sc r) v)) sc k q ≡ closedOf ends index targets t sc k q
     joined-closed f ends k q m =
-        closed-kept f ends only to t (putCells t r (joinedRow (pathAt t sc r) v)) sc sc n k q (H .table) (joined-same only to t sc n r v (H .table) l) refl m
+        closed-kept f ends index targets t (putCells t r (joinedRow (pathAt t sc r) v)) sc sc n k q (H .table) (joined-same index targets t sc n r v (H .table) l) refl m
 
 -- a followed path is the one that was asked for
-pub following-own : (only to t : List ℕ) (r : ℕ) (taken : Taken) → Following only to t r taken → Following only to t (taken .path) taken
-following-own only to t r taken F = record { path = refl; chain = rw (F .path) (F .chain); vertex = rw (F .path) (F .vertex) }
+pub following-own : (index targets t : List ℕ) (r : ℕ) (taken : Taken) → Following index targets t r taken → Following index targets t (taken .path) taken
+following-own index targets t r taken F = record { path = refl; chain = rw (F .path) (F .chain); vertex = rw (F .path) (F .vertex) }

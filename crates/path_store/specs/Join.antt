@@ -32,12 +32,12 @@ use Rattle.path_store.specs.View.{viewOf, hasTree}
 abbrev pub Childless : List ℕ → ℕ → ℕ → Type 0
 Childless t n r = (q : ℕ) → q < n → parentOf t q ≢ suc r
 
-module _ (only to t : List ℕ) (sc : List Float) (n r v : ℕ) (T : Table only to t sc n) (l : r < n) where
+module _ (index targets t : List ℕ) (sc : List Float) (n r v : ℕ) (T : Table index targets t sc n) (l : r < n) where
   row : PathRecord
   row = joinedRow (pathAt t sc r) v
 
   room : r * 9 + 9 ≤ length t
-  room = inside only to t sc n T r l .cells
+  room = inside index targets t sc n T r l .cells
 
   own : (j : ℕ) → j < 6 → field (putCells t r (joinedRow (pathAt t sc r) v)) 9 r j ≡ field t 9 r j
   own zero h = put-at t r (joinedRow (pathAt t sc r) v) room 0 (omega arith)
@@ -60,13 +60,13 @@ module _ (only to t : List ℕ) (sc : List Float) (n r v : ℕ) (T : Table only 
   pub joined-scores : set sc r (scoreOf sc r) ≡ sc
   joined-scores = set-getD sc r nan
 
-  pub joined-table : Table only to (putCells t r (joinedRow (pathAt t sc r) v)) sc n
+  pub joined-table : Table index targets (putCells t r (joinedRow (pathAt t sc r) v)) sc n
   joined-table =
-      table-kept only to t (putCells t r (joinedRow (pathAt t sc r) v)) sc sc n T joined-same
+      table-kept index targets t (putCells t r (joinedRow (pathAt t sc r) v)) sc sc n T joined-same
       (omega (arith, put-length t r (joinedRow (pathAt t sc r) v), T .room)) (T .scored)
 
-  pub joined-rooted : (source : ℕ) → Rooted only to source t n → Rooted only to source (putCells t r (joinedRow (pathAt t sc r) v)) n
-  joined-rooted source R = rooted-kept only to t (putCells t r (joinedRow (pathAt t sc r) v)) sc sc n T joined-same source R
+  pub joined-rooted : (source : ℕ) → Rooted index targets source t n → Rooted index targets source (putCells t r (joinedRow (pathAt t sc r) v)) n
+  joined-rooted source R = rooted-kept index targets t (putCells t r (joinedRow (pathAt t sc r) v)) sc sc n T joined-same source R
 
   module _ (has : ℕ → Bool) (source : ℕ) where
     u : List ℕ
@@ -96,29 +96,29 @@ module _ (only to t : List ℕ) (sc : List Float) (n r v : ℕ) (T : Table only 
     parent = own 0 (omega arith)
 
     -- the path has visited v more
-    pub joined-visited : joinedOf t r ≡ 0 → visited has only to source (putCells t r (joinedRow (pathAt t sc r) v)) r ≡ v ∷ visited has only to source t r
+    pub joined-visited : joinedOf t r ≡ 0 → visited has index targets source (putCells t r (joinedRow (pathAt t sc r) v)) r ≡ v ∷ visited has index targets source t r
     unfolding u
     joined-visited j = go (Bool-cases (recoveredOf t r)) (Nat-cases (parentOf t r))
       where
         go : (recoveredOf t r ≡ true) ⊎ (recoveredOf t r ≡ false) → (parentOf t r ≡ 0) ⊎ (parentOf t r ≡ suc (parentOf t r - 1))
-            → visited has only to source u r ≡ v ∷ visited has only to source t r
+            → visited has index targets source u r ≡ v ∷ visited has index targets source t r
         go (inl h) c =
-            let b : visited has only to source t r ≡ keep has (verticesOf to source (edges only to t r)) = visited-recovered has only to source t r h ∙ (rw j) in
-            visited-recovered has only to source u r (marks ∙ h) ∙ (rw (joins, edges-kept only to t u sc sc n T joined-same r l, b))
+            let b : visited has index targets source t r ≡ keep has (verticesOf targets source (edges index targets t r)) = visited-recovered has index targets source t r h ∙ (rw j) in
+            visited-recovered has index targets source u r (marks ∙ h) ∙ (rw (joins, edges-kept index targets t u sc sc n T joined-same r l, b))
         go (inr h) (inl c) =
-            let b : visited has only to source t r ≡ [] = visited-start has only to source t r h c ∙ (rw j) in
-            visited-start has only to source u r (marks ∙ h) (parent ∙ c) ∙ (rw (joins, b))
+            let b : visited has index targets source t r ≡ [] = visited-start has index targets source t r h c ∙ (rw j) in
+            visited-start has index targets source u r (marks ∙ h) (parent ∙ c) ∙ (rw (joins, b))
         go (inr h) (inr c) =
             let p = parentOf t r - 1 in
-            let b : visited has only to source t r ≡ visited has only to source t p = visited-next has only to source t n r p rise l h c ∙ (rw j) in
-            let d : visited has only to source u p ≡ visited has only to source t p =
-            visited-same has only to source t u r p (λ i k. rise i (omega arith)) below (omega (arith, rise r l))
+            let b : visited has index targets source t r ≡ visited has index targets source t p = visited-next has index targets source t n r p rise l h c ∙ (rw j) in
+            let d : visited has index targets source u p ≡ visited has index targets source t p =
+            visited-same has index targets source t u r p (λ i k. rise i (omega arith)) below (omega (arith, rise r l))
             in
-            visited-next has only to source u n r p rise-u l (marks ∙ h) (parent ∙ c) ∙ (rw (joins, b, d))
+            visited-next has index targets source u n r p rise-u l (marks ∙ h) (parent ∙ c) ∙ (rw (joins, b, d))
 
     -- no other path sees it
     module _ (childless : Childless t n r) where
-      apart-to : (m q : ℕ) → q < m → q < n → q ≢ r → visited has only to source u q ≡ visited has only to source t q
+      apart-to : (m q : ℕ) → q < m → q < n → q ≢ r → visited has index targets source u q ≡ visited has index targets source t q
       unfolding u
       apart-to zero q a b d = absurd (omega arith)
       apart-to (suc m) q a b d = go (λ p x y z. apart-to m p (omega arith) y (λ e. childless q b (x ∙ ap suc e))) (Bool-cases (recoveredOf t q)) (Nat-cases (parentOf t q))
@@ -126,52 +126,52 @@ module _ (only to t : List ℕ) (sc : List Float) (n r v : ℕ) (T : Table only 
           cell : (j : ℕ) → j < 9 → field u 9 q j ≡ field t 9 q j
           cell j h = put-other t r (joinedRow (pathAt t sc r) v) q j d h
 
-          go : ((p : ℕ) → parentOf t q ≡ suc p → p < n → p < q → visited has only to source u p ≡ visited has only to source t p) → (recoveredOf t q ≡ true) ⊎ (recoveredOf t q ≡ false)
-              → (parentOf t q ≡ 0) ⊎ (parentOf t q ≡ suc (parentOf t q - 1)) → visited has only to source u q ≡ visited has only to source t q
+          go : ((p : ℕ) → parentOf t q ≡ suc p → p < n → p < q → visited has index targets source u p ≡ visited has index targets source t p) → (recoveredOf t q ≡ true) ⊎ (recoveredOf t q ≡ false)
+              → (parentOf t q ≡ 0) ⊎ (parentOf t q ≡ suc (parentOf t q - 1)) → visited has index targets source u q ≡ visited has index targets source t q
           go up (inl h) c =
-              visited-recovered has only to source u q ((rw (cell 8 (omega arith))) ∙ h)
-              ∙ (rw (cell 7 (omega arith), edges-kept only to t u sc sc n T joined-same q b))
-              ∙ sym (visited-recovered has only to source t q h)
+              visited-recovered has index targets source u q ((rw (cell 8 (omega arith))) ∙ h)
+              ∙ (rw (cell 7 (omega arith), edges-kept index targets t u sc sc n T joined-same q b))
+              ∙ sym (visited-recovered has index targets source t q h)
           go up (inr h) (inl c) =
-              visited-start has only to source u q ((rw (cell 8 (omega arith))) ∙ h) (cell 0 (omega arith) ∙ c)
+              visited-start has index targets source u q ((rw (cell 8 (omega arith))) ∙ h) (cell 0 (omega arith) ∙ c)
               ∙ (rw (cell 7 (omega arith)))
-              ∙ sym (visited-start has only to source t q h c)
+              ∙ sym (visited-start has index targets source t q h c)
           go up (inr h) (inr c) =
               let p = parentOf t q - 1 in
-              visited-next has only to source u n q p rise-u b ((rw (cell 8 (omega arith))) ∙ h) (cell 0 (omega arith) ∙ c)
+              visited-next has index targets source u n q p rise-u b ((rw (cell 8 (omega arith))) ∙ h) (cell 0 (omega arith) ∙ c)
               ∙ (rw (cell 7 (omega arith), up p c (omega (arith, rise q b)) (omega (arith, rise q b))))
-              ∙ sym (visited-next has only to source t n q p rise b h c)
+              ∙ sym (visited-next has index targets source t n q p rise b h c)
 
-      pub joined-apart : (q : ℕ) → q < n → q ≢ r → visited has only to source (putCells t r (joinedRow (pathAt t sc r) v)) q ≡ visited has only to source t q
+      pub joined-apart : (q : ℕ) → q < n → q ≢ r → visited has index targets source (putCells t r (joinedRow (pathAt t sc r) v)) q ≡ visited has index targets source t q
       unfolding u
       joined-apart q b d = apart-to (suc q) q (omega arith) b d
 
   -- ---- `joinTree`
   module _ (f : SearchInput) (ends : ℕ → Ends) (bs : List Branches) where
-    pub join-none : treeAt (f .trees) v ≡ none → joinTree f v (viewOf f ends only to bs t sc r) ≡ ok (viewOf f ends only to bs t sc r)
+    pub join-none : treeAt (f .trees) v ≡ none → joinTree f v (viewOf f ends index targets bs t sc r) ≡ ok (viewOf f ends index targets bs t sc r)
     unfolding joinTree
     join-none h = rw (h, joinTree)
 
     module _ (b : Branches) (h : treeAt (f .trees) v ≡ some b) where
-      pub join-bare : hasBranch b ≡ false → joinTree f v (viewOf f ends only to bs t sc r) ≡ ok (viewOf f ends only to bs t sc r)
+      pub join-bare : hasBranch b ≡ false → joinTree f v (viewOf f ends index targets bs t sc r) ≡ ok (viewOf f ends index targets bs t sc r)
       unfolding joinTree
       join-bare e = rw (h, e, joinTree)
 
       module _ (e : hasBranch b ≡ true) where
-        pub join-had : any (eqb v) (visited (hasTree f) only to (f .source) t r) ≡ true → joinTree f v (viewOf f ends only to bs t sc r) ≡ ok (viewOf f ends only to bs t sc r)
+        pub join-had : any (eqb v) (visited (hasTree f) index targets (f .source) t r) ≡ true → joinTree f v (viewOf f ends index targets bs t sc r) ≡ ok (viewOf f ends index targets bs t sc r)
         unfolding joinTree
         join-had g = rw (h, e, g, joinTree)
 
-        module _ (g : any (eqb v) (visited (hasTree f) only to (f .source) t r) ≡ false) (k : length bs ≡ treesOf t r) where
-          pub join-over : f .active ≤ treesOf t r → joinTree f v (viewOf f ends only to bs t sc r) ≡ refused 11
+        module _ (g : any (eqb v) (visited (hasTree f) index targets (f .source) t r) ≡ false) (k : length bs ≡ treesOf t r) where
+          pub join-over : f .active ≤ treesOf t r → joinTree f v (viewOf f ends index targets bs t sc r) ≡ refused 11
           unfolding joinTree
           join-over m = rw (h, e, g, le-ltb (length bs) (f .active) (omega arith), joinTree)
 
           pub join-made : joinedOf t r ≡ 0 → treesOf t r < f .active
-              → joinTree f v (viewOf f ends only to bs t sc r) ≡ ok (viewOf f ends only to (bs ++ b ∷ []) (putCells t r (joinedRow (pathAt t sc r) v)) sc r)
+              → joinTree f v (viewOf f ends index targets bs t sc r) ≡ ok (viewOf f ends index targets (bs ++ b ∷ []) (putCells t r (joinedRow (pathAt t sc r) v)) sc r)
           unfolding joinTree
           join-made j m =
-              let a = edges-kept only to t (putCells t r (joinedRow (pathAt t sc r) v)) sc sc n T joined-same r l in
+              let a = edges-kept index targets t (putCells t r (joinedRow (pathAt t sc r) v)) sc sc n T joined-same r l in
               let w = joined-visited (hasTree f) (f .source) j in
               let d : sinceOf (putCells t r (joinedRow (pathAt t sc r) v)) r ≡ 0 = put-at t r (joinedRow (pathAt t sc r) v) room 6 (omega arith) in
               rw (h, e, g, lt-ltb (length bs) (f .active) (omega arith), joinTree) (sym (rw (a, w, d)))

@@ -39,16 +39,16 @@ module _ (f : SearchInput) (o : Once (endsOf (f .edges))) (ends : ℕ → Ends) 
   pub pivotal-distinct : Distinct order
   pivotal-distinct = distinct ends order (rw names (pivotal-differ f (differ (f .edges) o) .0))
 
-  pub pivotal-forks : (only to : List ℕ) → Agrees f only to ends → All (Fork only) order
-  pivotal-forks only to A = numbers order (rw names (pivotal-differ f (differ (f .edges) o) .1))
+  pub pivotal-forks : (index targets : List ℕ) → Agrees f index targets ends → All (Fork index) order
+  pivotal-forks index targets A = numbers order (rw names (pivotal-differ f (differ (f .edges) o) .1))
     where
-      fork : (e : ℕ) → forks.Fork (f .edges) (ends e) → Fork only e
+      fork : (e : ℕ) → forks.Fork (f .edges) (ends e) → Fork index e
       fork e h u k =
           let s : On f ends u e = A .on u e k in
           let one : length (leaving (f .edges) (s .edge .ends .from)) ≡ 1 = onward-sole f u (s .edge) (s .is) in
           let same : length (leaving (f .edges) (ends e .from)) ≡ 1 = rw (s .name) at one in
           absurd (omega arith)
 
-      numbers : (ds : List ℕ) → All (forks.Fork (f .edges)) (map ends ds) → All (Fork only) ds
+      numbers : (ds : List ℕ) → All (forks.Fork (f .edges)) (map ends ds) → All (Fork index) ds
       numbers [] a = nil
       numbers (d ∷ ds) (cons h a) = cons (fork d h) (numbers ds a)

@@ -28,36 +28,36 @@ use Rattle.path_store.specs.Split.{lastInto, splitAt, last-ends, place-e
 
 -- ---- every edge of a path is one of the graph's
 
-module _ (only to : List ℕ) (g : Graph only to) where
-  run-in : (u c : ℕ) → Runs only to u c → All (λ e. e < length to) (run only to u c)
+module _ (index targets : List ℕ) (g : Graph index targets) where
+  run-in : (u c : ℕ) → Runs index targets u c → All (λ e. e < length targets) (run index targets u c)
   unfolding run Runs
   run-in u zero r = nil
-  run-in u (suc c) r = cons {x = sole only u} (omega (arith, g .near u, r .0)) (run-in (next only to u) c (r .1))
+  run-in u (suc c) r = cons {x = sole index u} (omega (arith, g .near u, r .0)) (run-in (next index targets u) c (r .1))
 
-  last-in : (l : ℕ) → l ≤ length to → All (λ e. e < length to) (lastEdge l)
+  last-in : (l : ℕ) → l ≤ length targets → All (λ e. e < length targets) (lastEdge l)
   last-in zero h = nil
   last-in (suc e) h = cons {x = e} (omega arith) nil
 
-module _ (only to t : List ℕ) (sc : List Float) (n : ℕ) (T : Table only to t sc n) where
-  piece-in : (r : ℕ) → r < n → 0 < parentOf t r → All (λ e. e < length to) (pieceOf only to t r)
+module _ (index targets t : List ℕ) (sc : List Float) (n : ℕ) (T : Table index targets t sc n) where
+  piece-in : (r : ℕ) → r < n → 0 < parentOf t r → All (λ e. e < length targets) (pieceOf index targets t r)
   piece-in r l h =
-      rw (piece-is only to (endOf t (parentOf t r - 1)) (chainOf t r) (edgeOf t r))
-      (all-append (run-in only to (T .graph) (endOf t (parentOf t r - 1)) (chainOf t r) (T .rows r l .runs h)) (last-in only to (T .graph) (edgeOf t r) (T .rows r l .last)))
+      rw (piece-is index targets (endOf t (parentOf t r - 1)) (chainOf t r) (edgeOf t r))
+      (all-append (run-in index targets (T .graph) (endOf t (parentOf t r - 1)) (chainOf t r) (T .rows r l .runs h)) (last-in index targets (T .graph) (edgeOf t r) (T .rows r l .last)))
 
-  in-to : (m r : ℕ) → r < m → r < n → All (λ e. e < length to) (edges only to t r)
+  in-to : (m r : ℕ) → r < m → r < n → All (λ e. e < length targets) (edges index targets t r)
   in-to zero r a l = absurd (omega arith)
   in-to (suc m) r a l = go (λ p b c. in-to m p b c) (Nat-cases (parentOf t r))
     where
-      go : ((p : ℕ) → p < m → p < n → All (λ e. e < length to) (edges only to t p)) → (parentOf t r ≡ 0) ⊎ (parentOf t r ≡ suc (parentOf t r - 1))
-          → All (λ e. e < length to) (edges only to t r)
-      go up (inl z) = rw (edges-none only to t r z) nil
+      go : ((p : ℕ) → p < m → p < n → All (λ e. e < length targets) (edges index targets t p)) → (parentOf t r ≡ 0) ⊎ (parentOf t r ≡ suc (parentOf t r - 1))
+          → All (λ e. e < length targets) (edges index targets t r)
+      go up (inl z) = rw (edges-none index targets t r z) nil
       go up (inr z) =
           let p = parentOf t r - 1 in
           let h : 0 < parentOf t r = omega arith in
           let q : (p < m) × (p < n) = omega (arith, T .rows r l .rises) in
-          rw (edges-up only to t sc n T r l h) (all-append (up p (q .0) (q .1)) (piece-in r l h))
+          rw (edges-up index targets t sc n T r l h) (all-append (up p (q .0) (q .1)) (piece-in r l h))
 
-  pub edges-in : (r : ℕ) → r < n → All (λ e. e < length to) (edges only to t r)
+  pub edges-in : (r : ℕ) → r < n → All (λ e. e < length targets) (edges index targets t r)
   edges-in r l = in-to (suc r) r (omega arith) l
 
 -- every place of a list with this property has it
@@ -85,90 +85,90 @@ found-below p (x ∷ es) d h = go (findLast p es) refl (λ k. found-below p es d
     go (some y) e ih = later (ih (e ∙ sym (last-later p x y es e) ∙ h)) (Bool-cases (eqb d x))
 
 -- what a split says
-pub record SplitIs (to : List ℕ) (v : ℕ) (es : List ℕ) (k : ℕ) : Type 0 where
+pub record SplitIs (targets : List ℕ) (v : ℕ) (es : List ℕ) (k : ℕ) : Type 0 where
   pub edge : ℕ
-  pub last : lastInto to v es ≡ some edge
+  pub last : lastInto targets v es ≡ some edge
   pub place : k ≡ suc (position (eqb edge) es)
 
-split-zero : (to : List ℕ) (v : ℕ) (es : List ℕ) (o : Option ℕ) → lastInto to v es ≡ o → splitAt to v es ≡ 0 → lastInto to v es ≡ none
+split-zero : (targets : List ℕ) (v : ℕ) (es : List ℕ) (o : Option ℕ) → lastInto targets v es ≡ o → splitAt targets v es ≡ 0 → lastInto targets v es ≡ none
 unfolding splitAt
-split-zero to v es none e h = e
-split-zero to v es (some d) e h =
+split-zero targets v es none e h = e
+split-zero targets v es (some d) e h =
     let z : suc (position (eqb d) es) ≡ 0 = rw (e, splitAt) at h in
     absurd (omega arith)
 
-split-is : (to : List ℕ) (v : ℕ) (es : List ℕ) (o : Option ℕ) (k : ℕ) → lastInto to v es ≡ o → k ≡ splitAt to v es → 0 < k → SplitIs to v es k
+split-is : (targets : List ℕ) (v : ℕ) (es : List ℕ) (o : Option ℕ) (k : ℕ) → lastInto targets v es ≡ o → k ≡ splitAt targets v es → 0 < k → SplitIs targets v es k
 unfolding splitAt
-split-is to v es none k e h p =
+split-is targets v es none k e h p =
     let z : k ≡ 0 = rw (e, splitAt) at h in
     absurd (omega arith)
-split-is to v es (some d) k e h p = record { edge = d; last = e; place = rw (e, splitAt) at h }
+split-is targets v es (some d) k e h p = record { edge = d; last = e; place = rw (e, splitAt) at h }
 
 -- a split keeps no more edges than there are
-pub split-low : (to : List ℕ) (v : ℕ) (es : List ℕ) (k : ℕ) → k ≡ splitAt to v es → 0 < k → k ≤ length es
-split-low to v es k h p =
-    let S = split-is to v es (lastInto to v es) k refl h p in
-    omega (arith, S .place, found-below (λ d. eqb (getD to d 0) v) es (S .edge) (S .last))
+pub split-low : (targets : List ℕ) (v : ℕ) (es : List ℕ) (k : ℕ) → k ≡ splitAt targets v es → 0 < k → k ≤ length es
+split-low targets v es k h p =
+    let S = split-is targets v es (lastInto targets v es) k refl h p in
+    omega (arith, S .place, found-below (λ d. eqb (getD targets d 0) v) es (S .edge) (S .last))
 
 -- ---- `recover`
-module _ (f : SearchInput) (ends : ℕ → Ends) (only to : List ℕ) (A : Agrees f only to ends) (column : List Float) (closing : ℕ → ℕ) (t : List ℕ) (sc : List Float) (n : ℕ)
-    (T : Table only to t sc n) (e : ℕ) (cs : List ℕ) (s : State Float) (C : s .closed ≡ map (closedAt f ends only to A column closing t sc (ends e .from)) cs) where
-  top : (b : ℕ) → b ≡ bestOf only to (f .source) t sc (ends e .from) cs
-      → greatest (columnScoring column) (keep (λ c. any (eqb (ends e .from)) (verticesFrom (f .source) (c .edges))) (s .closed)) ≡ foundAt f ends only to A column closing t sc (ends e .from) b
-  top b h = rw (C, h) (best-greatest f ends only to A column closing t sc (ends e .from) cs)
+module _ (f : SearchInput) (ends : ℕ → Ends) (index targets : List ℕ) (A : Agrees f index targets ends) (column : List Float) (closing : ℕ → ℕ) (t : List ℕ) (sc : List Float) (n : ℕ)
+    (T : Table index targets t sc n) (e : ℕ) (cs : List ℕ) (s : State Float) (C : s .closed ≡ map (closedAt f ends index targets A column closing t sc (ends e .from)) cs) where
+  top : (b : ℕ) → b ≡ bestOf index targets (f .source) t sc (ends e .from) cs
+      → greatest (columnScoring column) (keep (λ c. any (eqb (ends e .from)) (verticesFrom (f .source) (c .edges))) (s .closed)) ≡ foundAt f ends index targets A column closing t sc (ends e .from) b
+  top b h = rw (C, h) (best-greatest f ends index targets A column closing t sc (ends e .from) cs)
 
-  pub recover-none : (b : ℕ) → b ≡ bestOf only to (f .source) t sc (ends e .from) cs → b ≡ 0 → recover (columnScoring column) f (ends e) s ≡ made s []
+  pub recover-none : (b : ℕ) → b ≡ bestOf index targets (f .source) t sc (ends e .from) cs → b ≡ 0 → recover (columnScoring column) f (ends e) s ≡ made s []
   unfolding recover
   recover-none b h z =
       let g : greatest (columnScoring column) (keep (λ c. any (eqb (ends e .from)) (verticesFrom (f .source) (c .edges))) (s .closed)) ≡ none =
-      top b h ∙ ap (λ x. foundAt f ends only to A column closing t sc (ends e .from) x) z
+      top b h ∙ ap (λ x. foundAt f ends index targets A column closing t sc (ends e .from) x) z
       in
       rw (g, recover)
 
-  module _ (b : ℕ) (h : suc b ≡ bestOf only to (f .source) t sc (ends e .from) cs) (l : b < n) where
-    found : greatest (columnScoring column) (keep (λ c. any (eqb (ends e .from)) (verticesFrom (f .source) (c .edges))) (s .closed)) ≡ some (closedOf ends only to t sc (closing b) b)
+  module _ (b : ℕ) (h : suc b ≡ bestOf index targets (f .source) t sc (ends e .from) cs) (l : b < n) where
+    found : greatest (columnScoring column) (keep (λ c. any (eqb (ends e .from)) (verticesFrom (f .source) (c .edges))) (s .closed)) ≡ some (closedOf ends index targets t sc (closing b) b)
     found = top (suc b) h
 
-    pub recover-lost : splitAt to (ends e .from) (edges only to t b) ≡ 0 → recover (columnScoring column) f (ends e) s ≡ made s []
+    pub recover-lost : splitAt targets (ends e .from) (edges index targets t b) ≡ 0 → recover (columnScoring column) f (ends e) s ≡ made s []
     unfolding recover
     recover-lost z =
-        let o : findLast (λ (d : Ends). eqb (d .to) (ends e .from)) (map ends (edges only to t b)) ≡ none =
-        last-ends f only to ends A (ends e .from) (edges only to t b)
-        ∙ ap (λ x. onSome ends x) (split-zero to (ends e .from) (edges only to t b) (lastInto to (ends e .from) (edges only to t b)) refl z)
+        let o : findLast (λ (d : Ends). eqb (d .to) (ends e .from)) (map ends (edges index targets t b)) ≡ none =
+        last-ends f index targets ends A (ends e .from) (edges index targets t b)
+        ∙ ap (λ x. onSome ends x) (split-zero targets (ends e .from) (edges index targets t b) (lastInto targets (ends e .from) (edges index targets t b)) refl z)
         in
         rw (found, o, recover)
 
-    module _ (k : ℕ) (K : k ≡ splitAt to (ends e .from) (edges only to t b)) (pos : 0 < k) where
-      S : SplitIs to (ends e .from) (edges only to t b) k
-      S = split-is to (ends e .from) (edges only to t b) (lastInto to (ends e .from) (edges only to t b)) k refl K pos
+    module _ (k : ℕ) (K : k ≡ splitAt targets (ends e .from) (edges index targets t b)) (pos : 0 < k) where
+      S : SplitIs targets (ends e .from) (edges index targets t b) k
+      S = split-is targets (ends e .from) (edges index targets t b) (lastInto targets (ends e .from) (edges index targets t b)) k refl K pos
 
-      edge-low : S .edge < length to
-      edge-low = all-findLast (λ d. eqb (getD to d 0) (ends e .from)) (edges-in only to t sc n T b l) (S .last) .0
+      edge-low : S .edge < length targets
+      edge-low = all-findLast (λ d. eqb (getD targets d 0) (ends e .from)) (edges-in index targets t sc n T b l) (S .last) .0
 
-      last-is : findLast (λ (d : Ends). eqb (d .to) (ends e .from)) (map ends (edges only to t b)) ≡ some (ends (S .edge))
-      last-is = last-ends f only to ends A (ends e .from) (edges only to t b) ∙ ap (λ x. onSome ends x) (S .last)
+      last-is : findLast (λ (d : Ends). eqb (d .to) (ends e .from)) (map ends (edges index targets t b)) ≡ some (ends (S .edge))
+      last-is = last-ends f index targets ends A (ends e .from) (edges index targets t b) ∙ ap (λ x. onSome ends x) (S .last)
 
-      place-is : suc (position (eqEnds (ends (S .edge))) (map ends (edges only to t b))) ≡ k
-      place-is = ap suc (place-ends f only to ends A (S .edge) (edges only to t b) edge-low (edges-in only to t sc n T b l)) ∙ sym (S .place)
+      place-is : suc (position (eqEnds (ends (S .edge))) (map ends (edges index targets t b))) ≡ k
+      place-is = ap suc (place-ends f index targets ends A (S .edge) (edges index targets t b) edge-low (edges-in index targets t sc n T b l)) ∙ sym (S .place)
 
       pub recover-low : k ≤ countOf t b
-      recover-low = omega (arith, split-low to (ends e .from) (edges only to t b) k K pos, T .rows b l .count)
+      recover-low = omega (arith, split-low targets (ends e .from) (edges index targets t b) k K pos, T .rows b l .count)
 
-      module _ (I : Inside t sc n) (E : e < length to) where
-        size : length (take k (map ends (edges only to t b)) ++ ends e ∷ []) ≡ k + 1
-        size = recovered-length f ends only to A t sc n b k e T I l pos recover-low E
+      module _ (I : Inside t sc n) (E : e < length targets) where
+        size : length (take k (map ends (edges index targets t b)) ++ ends e ∷ []) ≡ k + 1
+        size = recovered-length f ends index targets A t sc n b k e T I l pos recover-low E
 
         pub recover-over : f .pathEdges < k + 1 → recover (columnScoring column) f (ends e) s ≡ broken 11
         unfolding recover
         recover-over m =
             rw
-            (found, last-is, place-is, lt-leb (length (take k (map ends (edges only to t b)) ++ ends e ∷ [])) (f .pathEdges) (omega (arith, size)), recover)
+            (found, last-is, place-is, lt-leb (length (take k (map ends (edges index targets t b)) ++ ends e ∷ [])) (f .pathEdges) (omega (arith, size)), recover)
 
         pub recover-made : k + 1 ≤ f .pathEdges
             → recover (columnScoring column) f (ends e) s
-            ≡ made s (viewOf f ends only to [] (putCells t n (recoveredRow only t sc to b k e)) (set sc n (scoreOf sc b)) n ∷ [])
+            ≡ made s (viewOf f ends index targets [] (putCells t n (recoveredRow index t sc targets b k e)) (set sc n (scoreOf sc b)) n ∷ [])
         unfolding recover
         recover-made m =
             rw
-            (found, last-is, place-is, le-leb (length (take k (map ends (edges only to t b)) ++ ends e ∷ [])) (f .pathEdges) (omega (arith, size)), recover, place-is)
-            (ap (λ (p : Path Float). made s (p ∷ [])) (sym (recovered-view f ends only to A t sc n b k e T I l pos recover-low E)))
+            (found, last-is, place-is, le-leb (length (take k (map ends (edges index targets t b)) ++ ends e ∷ [])) (f .pathEdges) (omega (arith, size)), recover, place-is)
+            (ap (λ (p : Path Float). made s (p ∷ [])) (sym (recovered-view f ends index targets A t sc n b k e T I l pos recover-low E)))

@@ -25,54 +25,54 @@ found none = 0
 found (some d) = suc d
 
 abbrev pub lastInto : List ℕ → ℕ → List ℕ → Option ℕ
-lastInto to v es = findLast (λ d. eqb (getD to d 0) v) es
+lastInto targets v es = findLast (λ d. eqb (getD targets d 0) v) es
 
 -- how many edges are kept: 0 where none enters v
 unfoldable pub splitAt : List ℕ → ℕ → List ℕ → ℕ
-splitAt to v es = elim (lastInto to v es) [ none ↦ 0 | some d ↦ suc (position (eqb d) es) ]
+splitAt targets v es = elim (lastInto targets v es) [ none ↦ 0 | some d ↦ suc (position (eqb d) es) ]
 
 -- ---- newer and last_into
 pub newer : List ℕ → ℕ → ℕ → ℕ → ℕ
-newer to v e last = elim (eqb (getD to e 0) v) [ true ↦ e + 1 | false ↦ last ]
+newer targets v e last = elim (eqb (getD targets e 0) v) [ true ↦ e + 1 | false ↦ last ]
 
-pub newer-hit : (to : List ℕ) (v e last x : ℕ) → x ≡ getD to e 0 → x ≡ v → e + 1 ≡ newer to v e last
+pub newer-hit : (targets : List ℕ) (v e last x : ℕ) → x ≡ getD targets e 0 → x ≡ v → e + 1 ≡ newer targets v e last
 unfolding newer
-newer-hit to v e last x h k = rw (eq-eqb (getD to e 0) v (sym h ∙ k), newer)
+newer-hit targets v e last x h k = rw (eq-eqb (getD targets e 0) v (sym h ∙ k), newer)
 
-pub newer-miss : (to : List ℕ) (v e last x : ℕ) → x ≡ getD to e 0 → (x ≡ v → ⊥) → last ≡ newer to v e last
+pub newer-miss : (targets : List ℕ) (v e last x : ℕ) → x ≡ getD targets e 0 → (x ≡ v → ⊥) → last ≡ newer targets v e last
 unfolding newer
-newer-miss to v e last x h k = rw (ne-eqb (getD to e 0) v (λ z. k (h ∙ z)), newer)
+newer-miss targets v e last x h k = rw (ne-eqb (getD targets e 0) v (λ z. k (h ∙ z)), newer)
 
-newer-is : (to : List ℕ) (v e : ℕ) (es : List ℕ) → newer to v e (found (lastInto to v es)) ≡ found (lastInto to v (es ++ e ∷ []))
+newer-is : (targets : List ℕ) (v e : ℕ) (es : List ℕ) → newer targets v e (found (lastInto targets v es)) ≡ found (lastInto targets v (es ++ e ∷ []))
 unfolding newer
-newer-is to v e es = go (Bool-cases (eqb (getD to e 0) v))
+newer-is targets v e es = go (Bool-cases (eqb (getD targets e 0) v))
   where
-    go : (eqb (getD to e 0) v ≡ true) ⊎ (eqb (getD to e 0) v ≡ false) → newer to v e (found (lastInto to v es)) ≡ found (lastInto to v (es ++ e ∷ []))
-    go (inl h) = let q : e + 1 ≡ suc e = add-one e in rw (h, newer, q) (ap (λ o. found o) (sym (last-hit (λ d. eqb (getD to d 0) v) es e h)))
-    go (inr h) = rw (h, newer) (ap (λ o. found o) (sym (last-miss (λ d. eqb (getD to d 0) v) es e h)))
+    go : (eqb (getD targets e 0) v ≡ true) ⊎ (eqb (getD targets e 0) v ≡ false) → newer targets v e (found (lastInto targets v es)) ≡ found (lastInto targets v (es ++ e ∷ []))
+    go (inl h) = let q : e + 1 ≡ suc e = add-one e in rw (h, newer, q) (ap (λ o. found o) (sym (last-hit (λ d. eqb (getD targets d 0) v) es e h)))
+    go (inr h) = rw (h, newer) (ap (λ o. found o) (sym (last-miss (λ d. eqb (getD targets d 0) v) es e h)))
 
-pub record Latest (to : List ℕ) (v : ℕ) (walk : List ℕ) (n i last : ℕ) : Type 0 where
+pub record Latest (targets : List ℕ) (v : ℕ) (walk : List ℕ) (n i last : ℕ) : Type 0 where
   pub low : i ≤ n
-  pub is : last ≡ found (lastInto to v (take i walk))
+  pub is : last ≡ found (lastInto targets v (take i walk))
 
-pub latest-start : (to : List ℕ) (v : ℕ) (walk : List ℕ) (n : ℕ) → Latest to v walk n 0 0
-latest-start to v walk n = record { low = omega arith; is = refl }
+pub latest-start : (targets : List ℕ) (v : ℕ) (walk : List ℕ) (n : ℕ) → Latest targets v walk n 0 0
+latest-start targets v walk n = record { low = omega arith; is = refl }
 
-pub latest-next : (to : List ℕ) (v : ℕ) (walk : List ℕ) (n i last b : ℕ) → Latest to v walk n i last → n ≤ length walk → i < n → b ≡ newer to v (getD walk i 0) last
-    → Latest to v walk n (i + 1) b
-latest-next to v walk n i last b L r h e =
+pub latest-next : (targets : List ℕ) (v : ℕ) (walk : List ℕ) (n i last b : ℕ) → Latest targets v walk n i last → n ≤ length walk → i < n → b ≡ newer targets v (getD walk i 0) last
+    → Latest targets v walk n (i + 1) b
+latest-next targets v walk n i last b L r h e =
     record {
       low = omega arith;
       is =
           e
-          ∙ ap (λ x. newer to v (getD walk i 0) x) (L .is)
-          ∙ newer-is to v (getD walk i 0) (take i walk)
-          ∙ ap (λ x. found (lastInto to v x)) (sym (take-suc walk i 0 (omega arith)))
-          ∙ ap (λ x. found (lastInto to v (take x walk))) (sym (add-one i));
+          ∙ ap (λ x. newer targets v (getD walk i 0) x) (L .is)
+          ∙ newer-is targets v (getD walk i 0) (take i walk)
+          ∙ ap (λ x. found (lastInto targets v x)) (sym (take-suc walk i 0 (omega arith)))
+          ∙ ap (λ x. found (lastInto targets v (take x walk))) (sym (add-one i));
     }
 
-pub latest-end : (to : List ℕ) (v : ℕ) (walk : List ℕ) (n i last : ℕ) → Latest to v walk n i last → n ≤ i → last ≡ found (lastInto to v (take n walk))
-latest-end to v walk n i last L h = let z : i ≡ n = omega (arith, L .low) in rw z at (L .is)
+pub latest-end : (targets : List ℕ) (v : ℕ) (walk : List ℕ) (n i last : ℕ) → Latest targets v walk n i last → n ≤ i → last ≡ found (lastInto targets v (take n walk))
+latest-end targets v walk n i last L h = let z : i ≡ n = omega (arith, L .low) in rw z at (L .is)
 
 -- ---- first_place
 pub record Placing (walk : List ℕ) (n e i : ℕ) : Type 0 where
@@ -114,34 +114,34 @@ module _ (walk : List ℕ) (n e i : ℕ) (r : n ≤ length walk) (P : Placing wa
 pub place-fits : (walk : List ℕ) (n e k : ℕ) → n ≤ length walk → k ≡ position (eqb e) (take n walk) → k ≤ length walk
 place-fits walk n e k r h = omega (arith, position-le (eqb e) (take n walk), length-take-le n walk r)
 
-split-none′ : (to : List ℕ) (v : ℕ) (es : List ℕ) (o : Option ℕ) → lastInto to v es ≡ o → found o ≡ 0 → 0 ≡ splitAt to v es
+split-none′ : (targets : List ℕ) (v : ℕ) (es : List ℕ) (o : Option ℕ) → lastInto targets v es ≡ o → found o ≡ 0 → 0 ≡ splitAt targets v es
 unfolding splitAt
-split-none′ to v es none e h = rw (e, splitAt)
-split-none′ to v es (some d) e h = absurd (omega arith)
+split-none′ targets v es none e h = rw (e, splitAt)
+split-none′ targets v es (some d) e h = absurd (omega arith)
 
-pub split-none : (to : List ℕ) (v : ℕ) (es : List ℕ) (d : ℕ) → d ≡ found (lastInto to v es) → d ≡ 0 → 0 ≡ splitAt to v es
-split-none to v es d e h = split-none′ to v es (lastInto to v es) refl (sym e ∙ h)
+pub split-none : (targets : List ℕ) (v : ℕ) (es : List ℕ) (d : ℕ) → d ≡ found (lastInto targets v es) → d ≡ 0 → 0 ≡ splitAt targets v es
+split-none targets v es d e h = split-none′ targets v es (lastInto targets v es) refl (sym e ∙ h)
 
-split-some′ : (to : List ℕ) (v : ℕ) (es : List ℕ) (o : Option ℕ) (d k : ℕ) → lastInto to v es ≡ o → suc d ≡ found o → k ≡ position (eqb d) es → k + 1 ≡ splitAt to v es
+split-some′ : (targets : List ℕ) (v : ℕ) (es : List ℕ) (o : Option ℕ) (d k : ℕ) → lastInto targets v es ≡ o → suc d ≡ found o → k ≡ position (eqb d) es → k + 1 ≡ splitAt targets v es
 unfolding splitAt
-split-some′ to v es none d k e h p = absurd (omega arith)
-split-some′ to v es (some x) d k e h p =
+split-some′ targets v es none d k e h p = absurd (omega arith)
+split-some′ targets v es (some x) d k e h p =
     let q : k + 1 ≡ suc k = add-one k in
     let y : d ≡ x = omega arith in
     rw (e, splitAt, q, p, y)
 
-pub split-some : (to : List ℕ) (v : ℕ) (es : List ℕ) (d k : ℕ) → d ≡ found (lastInto to v es) → (d ≡ 0 → ⊥) → k ≡ position (eqb (d - 1)) es → k + 1 ≡ splitAt to v es
-split-some to v es d k e h p = split-some′ to v es (lastInto to v es) (d - 1) k refl (omega arith) p
+pub split-some : (targets : List ℕ) (v : ℕ) (es : List ℕ) (d k : ℕ) → d ≡ found (lastInto targets v es) → (d ≡ 0 → ⊥) → k ≡ position (eqb (d - 1)) es → k + 1 ≡ splitAt targets v es
+split-some targets v es d k e h p = split-some′ targets v es (lastInto targets v es) (d - 1) k refl (omega arith) p
 
 -- ---- over the definition's edges
 
-module _ (f : SearchInput) (only to : List ℕ) (ends : ℕ → Ends) (A : Agrees f only to ends) where
-  pub last-ends : (v : ℕ) (es : List ℕ) → findLast (λ (d : Ends). eqb (d .to) v) (map ends es) ≡ onSome ends (lastInto to v es)
-  last-ends v es = last-map (λ d. eqb (getD to d 0) v) (λ (d : Ends). eqb (d .to) v) ends es (every es)
+module _ (f : SearchInput) (index targets : List ℕ) (ends : ℕ → Ends) (A : Agrees f index targets ends) where
+  pub last-ends : (v : ℕ) (es : List ℕ) → findLast (λ (d : Ends). eqb (d .to) v) (map ends es) ≡ onSome ends (lastInto targets v es)
+  last-ends v es = last-map (λ d. eqb (getD targets d 0) v) (λ (d : Ends). eqb (d .to) v) ends es (every es)
     where
-      every : (es : List ℕ) → All (λ x. eqb (ends x .to) v ≡ eqb (getD to x 0) v) es
+      every : (es : List ℕ) → All (λ x. eqb (ends x .to) v ≡ eqb (getD targets x 0) v) es
       every [] = nil
       every (x ∷ es) = cons (ap (λ y. eqb y v) (A .target x)) (every es)
 
-  pub place-ends : (d : ℕ) (es : List ℕ) → d < length to → All (λ x. x < length to) es → position (eqEnds (ends d)) (map ends es) ≡ position (eqb d) es
+  pub place-ends : (d : ℕ) (es : List ℕ) → d < length targets → All (λ x. x < length targets) es → position (eqEnds (ends d)) (map ends es) ≡ position (eqb d) es
   place-ends d es l a = position-map (eqb d) (eqEnds (ends d)) ends es (all-mono (λ x h. A .apart d x l h) a)

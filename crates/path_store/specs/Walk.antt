@@ -1,4 +1,4 @@
--- Chains of single edges, over numbers. `only`: at a vertex 0 where a chain stops, else the number + 1 of its sole out-edge. `to`: at an edge its
+-- Chains of single edges, over numbers. `index`: at a vertex 0 where a chain stops, else the number + 1 of its sole out-edge. `targets`: at an edge its
 -- target.
 use mathlib.Core.Path.{_≡_, refl, sym, ap, _∙_}
 use mathlib.Core.Logic.{_⊎_, inl, inr}
@@ -16,51 +16,51 @@ use Rattle.laws.specs.BoolLaws.{Bool-cases, both-ways, or-split, or-right}
 -- ---- the definition's words, over edge numbers
 
 unfoldable pub endFrom : List ℕ → ℕ → List ℕ → ℕ
-endFrom to v [] = v
-endFrom to v (e ∷ es) = endFrom to (getD to e 0) es
+endFrom targets v [] = v
+endFrom targets v (e ∷ es) = endFrom targets (getD targets e 0) es
 
 -- how often v is the target of one of the edges
 pub hits : List ℕ → ℕ → List ℕ → ℕ
-hits to v es = tally (eqb v) (map (λ e. getD to e 0) es)
+hits targets v es = tally (eqb v) (map (λ e. getD targets e 0) es)
 
 -- how often v stands among the vertices of a path of these edges from s
 unfoldable pub times : List ℕ → ℕ → ℕ → List ℕ → ℕ
-times to s v es = tally (eqb v) (s ∷ map (λ e. getD to e 0) es)
+times targets s v es = tally (eqb v) (s ∷ map (λ e. getD targets e 0) es)
 
 unfoldable pub chainFrom : List ℕ → List ℕ → ℕ → ℕ → List ℕ → List ℕ
-chainFrom only to zero v c = c
-chainFrom only to (suc n) v c =
-    elim (getD only v 0) [ zero ↦ c | suc e ↦ elim (any (eqb e) c) [ true ↦ c | false ↦ chainFrom only to n (getD to e 0) (c ++ e ∷ []) ] ]
+chainFrom index targets zero v c = c
+chainFrom index targets (suc n) v c =
+    elim (getD index v 0) [ zero ↦ c | suc e ↦ elim (any (eqb e) c) [ true ↦ c | false ↦ chainFrom index targets n (getD targets e 0) (c ++ e ∷ []) ] ]
 
 unfoldable pub chain : List ℕ → List ℕ → ℕ → List ℕ
-chain only to v = chainFrom only to (length to) v []
+chain index targets v = chainFrom index targets (length targets) v []
 
--- ---- n steps along `only`
+-- ---- n steps along `index`
 
 -- the sole edge at v, and the vertex that it leads to
 abbrev pub sole : List ℕ → ℕ → ℕ
-sole only v = getD only v 0 - 1
+sole index v = getD index v 0 - 1
 
 abbrev pub next : List ℕ → List ℕ → ℕ → ℕ
-next only to v = getD to (getD only v 0 - 1) 0
+next index targets v = getD targets (getD index v 0 - 1) 0
 
 unfoldable pub run : List ℕ → List ℕ → ℕ → ℕ → List ℕ
-run only to v zero = []
-run only to v (suc n) = sole only v ∷ run only to (next only to v) n
+run index targets v zero = []
+run index targets v (suc n) = sole index v ∷ run index targets (next index targets v) n
 
 unfoldable pub after : List ℕ → List ℕ → ℕ → ℕ → ℕ
-after only to v zero = v
-after only to v (suc n) = after only to (next only to v) n
+after index targets v zero = v
+after index targets v (suc n) = after index targets (next index targets v) n
 
 -- no step of the n meets a stop
 unfoldable pub Runs : List ℕ → List ℕ → ℕ → ℕ → Type 0
-Runs only to v zero = Unit {0}
-Runs only to v (suc n) = (0 < getD only v 0) × Runs only to (next only to v) n
+Runs index targets v zero = Unit {0}
+Runs index targets v (suc n) = (0 < getD index v 0) × Runs index targets (next index targets v) n
 
-pub record Graph (only to : List ℕ) : Type 0 where
-  pub near : (v : ℕ) → getD only v 0 ≤ length to
-  pub far : (e : ℕ) → e < length to → getD to e 0 < length only
-  pub small : length to < 4294967295
+pub record Graph (index targets : List ℕ) : Type 0 where
+  pub near : (v : ℕ) → getD index v 0 ≤ length targets
+  pub far : (e : ℕ) → e < length targets → getD targets e 0 < length index
+  pub small : length targets < 4294967295
 
 pub any-append : (p : ℕ → Bool) (a b : List ℕ) → any p (a ++ b) ≡ true → (any p a ≡ true) ⊎ (any p b ≡ true)
 any-append p [] b h = inr h
@@ -107,193 +107,193 @@ tally-le p (x ∷ a) = go (p x) (tally-le p a)
     go false h = omega arith
 
 -- ---- vertices of a path
-module _ (to : List ℕ) where
-  pub end-nil : (v : ℕ) → endFrom to v [] ≡ v
+module _ (targets : List ℕ) where
+  pub end-nil : (v : ℕ) → endFrom targets v [] ≡ v
   unfolding endFrom
   end-nil v = refl
 
-  pub end-append : (v : ℕ) (a b : List ℕ) → endFrom to v (a ++ b) ≡ endFrom to (endFrom to v a) b
+  pub end-append : (v : ℕ) (a b : List ℕ) → endFrom targets v (a ++ b) ≡ endFrom targets (endFrom targets v a) b
   unfolding endFrom
   end-append v [] b = refl
-  end-append v (e ∷ a) b = end-append (getD to e 0) a b
+  end-append v (e ∷ a) b = end-append (getD targets e 0) a b
 
-  pub end-one : (v e : ℕ) → endFrom to v (e ∷ []) ≡ getD to e 0
+  pub end-one : (v e : ℕ) → endFrom targets v (e ∷ []) ≡ getD targets e 0
   unfolding endFrom
   end-one v e = refl
 
-  pub hits-append : (v : ℕ) (a b : List ℕ) → hits to v (a ++ b) ≡ hits to v a + hits to v b
+  pub hits-append : (v : ℕ) (a b : List ℕ) → hits targets v (a ++ b) ≡ hits targets v a + hits targets v b
   unfolding hits
-  hits-append v a b = rw (map-append (λ e. getD to e 0) a b) (tally-append (eqb v) (map (λ e. getD to e 0) a) (map (λ e. getD to e 0) b))
+  hits-append v a b = rw (map-append (λ e. getD targets e 0) a b) (tally-append (eqb v) (map (λ e. getD targets e 0) a) (map (λ e. getD targets e 0) b))
 
-  pub hits-nil : (v : ℕ) → hits to v [] ≡ 0
+  pub hits-nil : (v : ℕ) → hits targets v [] ≡ 0
   unfolding hits
   hits-nil v = refl
 
-  pub hits-step : (v e : ℕ) (es : List ℕ) → hits to v (e ∷ es) ≡ cond (eqb v (getD to e 0)) 1 0 + hits to v es
+  pub hits-step : (v e : ℕ) (es : List ℕ) → hits targets v (e ∷ es) ≡ cond (eqb v (getD targets e 0)) 1 0 + hits targets v es
   unfolding hits
   hits-step v e es = refl
 
-  pub times-step : (s v : ℕ) (es : List ℕ) → times to s v es ≡ cond (eqb v s) 1 0 + hits to v es
+  pub times-step : (s v : ℕ) (es : List ℕ) → times targets s v es ≡ cond (eqb v s) 1 0 + hits targets v es
   unfolding times hits
   times-step s v es = refl
 
-  pub times-append : (s v : ℕ) (a b : List ℕ) → times to s v (a ++ b) ≡ times to s v a + hits to v b
+  pub times-append : (s v : ℕ) (a b : List ℕ) → times targets s v (a ++ b) ≡ times targets s v a + hits targets v b
   unfolding times hits
   times-append s v a b =
-      let h : tally (eqb v) (map (λ e. getD to e 0) (a ++ b)) ≡ tally (eqb v) (map (λ e. getD to e 0) a) + tally (eqb v) (map (λ e. getD to e 0) b)
-      = rw (map-append (λ e. getD to e 0) a b) (tally-append (eqb v) (map (λ e. getD to e 0) a) (map (λ e. getD to e 0) b))
+      let h : tally (eqb v) (map (λ e. getD targets e 0) (a ++ b)) ≡ tally (eqb v) (map (λ e. getD targets e 0) a) + tally (eqb v) (map (λ e. getD targets e 0) b)
+      = rw (map-append (λ e. getD targets e 0) a b) (tally-append (eqb v) (map (λ e. getD targets e 0) a) (map (λ e. getD targets e 0) b))
       in
       omega arith
 
-  pub times-le : (s v : ℕ) (es : List ℕ) → times to s v es ≤ length es + 1
+  pub times-le : (s v : ℕ) (es : List ℕ) → times targets s v es ≤ length es + 1
   unfolding times
-  times-le s v es = omega (arith, tally-le (eqb v) (s ∷ map (λ e. getD to e 0) es), length-map es (λ e. getD to e 0))
+  times-le s v es = omega (arith, tally-le (eqb v) (s ∷ map (λ e. getD targets e 0) es), length-map es (λ e. getD targets e 0))
 
-  pub hits-le : (v : ℕ) (es : List ℕ) → hits to v es ≤ length es
+  pub hits-le : (v : ℕ) (es : List ℕ) → hits targets v es ≤ length es
   unfolding hits
-  hits-le v es = omega (arith, tally-le (eqb v) (map (λ e. getD to e 0) es), length-map es (λ e. getD to e 0))
+  hits-le v es = omega (arith, tally-le (eqb v) (map (λ e. getD targets e 0) es), length-map es (λ e. getD targets e 0))
 
-module _ (only to : List ℕ) where
+module _ (index targets : List ℕ) where
   -- ---- the run
-  pub run-zero : (v : ℕ) → run only to v 0 ≡ []
+  pub run-zero : (v : ℕ) → run index targets v 0 ≡ []
   unfolding run
   run-zero v = refl
 
-  pub run-more : (v n : ℕ) → 0 < n → run only to v n ≡ sole only v ∷ run only to (next only to v) (n - 1)
+  pub run-more : (v n : ℕ) → 0 < n → run index targets v n ≡ sole index v ∷ run index targets (next index targets v) (n - 1)
   unfolding run
   run-more v zero h = absurd (omega arith)
   run-more v (suc n) h = let e : suc n - 1 ≡ n = omega arith in rw e
 
-  pub run-length : (v n : ℕ) → length (run only to v n) ≡ n
+  pub run-length : (v n : ℕ) → length (run index targets v n) ≡ n
   unfolding run
   run-length v zero = refl
-  run-length v (suc n) = ap suc (run-length (next only to v) n)
+  run-length v (suc n) = ap suc (run-length (next index targets v) n)
 
-  pub after-zero : (v : ℕ) → after only to v 0 ≡ v
+  pub after-zero : (v : ℕ) → after index targets v 0 ≡ v
   unfolding after
   after-zero v = refl
 
-  after-suc : (v n : ℕ) → after only to v (suc n) ≡ next only to (after only to v n)
+  after-suc : (v n : ℕ) → after index targets v (suc n) ≡ next index targets (after index targets v n)
   unfolding after
   after-suc v zero = refl
-  after-suc v (suc n) = after-suc (next only to v) n
+  after-suc v (suc n) = after-suc (next index targets v) n
 
-  pub after-more : (v n : ℕ) → after only to v (n + 1) ≡ next only to (after only to v n)
+  pub after-more : (v n : ℕ) → after index targets v (n + 1) ≡ next index targets (after index targets v n)
   after-more v n = rw (add-one n) (after-suc v n)
 
-  run-suc : (v n : ℕ) → run only to v (suc n) ≡ run only to v n ++ sole only (after only to v n) ∷ []
+  run-suc : (v n : ℕ) → run index targets v (suc n) ≡ run index targets v n ++ sole index (after index targets v n) ∷ []
   unfolding run after
   run-suc v zero = refl
-  run-suc v (suc n) = ap (λ l. sole only v ∷ l) (run-suc (next only to v) n)
+  run-suc v (suc n) = ap (λ l. sole index v ∷ l) (run-suc (next index targets v) n)
 
-  pub run-snoc : (v n : ℕ) → run only to v (n + 1) ≡ run only to v n ++ sole only (after only to v n) ∷ []
+  pub run-snoc : (v n : ℕ) → run index targets v (n + 1) ≡ run index targets v n ++ sole index (after index targets v n) ∷ []
   run-snoc v n = rw (add-one n) (run-suc v n)
 
-  pub end-run : (v n : ℕ) → endFrom to v (run only to v n) ≡ after only to v n
+  pub end-run : (v n : ℕ) → endFrom targets v (run index targets v n) ≡ after index targets v n
   unfolding run after endFrom
   end-run v zero = refl
-  end-run v (suc n) = end-run (next only to v) n
+  end-run v (suc n) = end-run (next index targets v) n
 
-  pub runs-zero : (v : ℕ) → Runs only to v 0
+  pub runs-zero : (v : ℕ) → Runs index targets v 0
   unfolding Runs
   runs-zero v = tt
 
-  runs-suc : (v n : ℕ) → Runs only to v n → 0 < getD only (after only to v n) 0 → Runs only to v (suc n)
+  runs-suc : (v n : ℕ) → Runs index targets v n → 0 < getD index (after index targets v n) 0 → Runs index targets v (suc n)
   unfolding Runs after
   runs-suc v zero r h = (h, tt)
-  runs-suc v (suc n) r h = (r .0, runs-suc (next only to v) n (r .1) h)
+  runs-suc v (suc n) r h = (r .0, runs-suc (next index targets v) n (r .1) h)
 
-  pub runs-more : (v n : ℕ) → Runs only to v n → 0 < getD only (after only to v n) 0 → Runs only to v (n + 1)
+  pub runs-more : (v n : ℕ) → Runs index targets v n → 0 < getD index (after index targets v n) 0 → Runs index targets v (n + 1)
   runs-more v n r h = rw (add-one n) (runs-suc v n r h)
 
-  pub runs-now : (v n : ℕ) → 0 < n → Runs only to v n → 0 < getD only v 0
+  pub runs-now : (v n : ℕ) → 0 < n → Runs index targets v n → 0 < getD index v 0
   unfolding Runs
   runs-now v zero h r = absurd (omega arith)
   runs-now v (suc n) h r = r .0
 
-  pub runs-next : (v n : ℕ) → 0 < n → Runs only to v n → Runs only to (next only to v) (n - 1)
+  pub runs-next : (v n : ℕ) → 0 < n → Runs index targets v n → Runs index targets (next index targets v) (n - 1)
   unfolding Runs
   runs-next v zero h r = absurd (omega arith)
   runs-next v (suc n) h r = let e : suc n - 1 ≡ n = omega arith in rw e (r .1)
 
   -- the next vertex is one of the graph's
-  pub next-low : Graph only to → (v : ℕ) → 0 < getD only v 0 → next only to v < length only
-  next-low g v h = g .far (sole only v) (omega (arith, g .near v))
+  pub next-low : Graph index targets → (v : ℕ) → 0 < getD index v 0 → next index targets v < length index
+  next-low g v h = g .far (sole index v) (omega (arith, g .near v))
 
   -- ---- the definition's chain, step by step
-  pub chain-end : (n v : ℕ) (c : List ℕ) → getD only v 0 ≡ 0 → chainFrom only to n v c ≡ c
+  pub chain-end : (n v : ℕ) (c : List ℕ) → getD index v 0 ≡ 0 → chainFrom index targets n v c ≡ c
   unfolding chainFrom
   chain-end zero v c h = refl
   chain-end (suc n) v c h = rw (h, chainFrom)
 
-  chain-had′ : (n v e : ℕ) (c : List ℕ) → getD only v 0 ≡ suc e → any (eqb e) c ≡ true → chainFrom only to (suc n) v c ≡ c
+  chain-had′ : (n v e : ℕ) (c : List ℕ) → getD index v 0 ≡ suc e → any (eqb e) c ≡ true → chainFrom index targets (suc n) v c ≡ c
   unfolding chainFrom
   chain-had′ n v e c h k = rw (h, k, chainFrom)
 
-  chain-on′ : (n v e : ℕ) (c : List ℕ) → getD only v 0 ≡ suc e → any (eqb e) c ≡ false
-      → chainFrom only to (suc n) v c ≡ chainFrom only to n (getD to e 0) (c ++ e ∷ [])
+  chain-on′ : (n v e : ℕ) (c : List ℕ) → getD index v 0 ≡ suc e → any (eqb e) c ≡ false
+      → chainFrom index targets (suc n) v c ≡ chainFrom index targets n (getD targets e 0) (c ++ e ∷ [])
   unfolding chainFrom
   chain-on′ n v e c h k = rw (h, k, chainFrom)
 
-  pub chain-had : (n v : ℕ) (c : List ℕ) → 0 < getD only v 0 → any (eqb (sole only v)) c ≡ true → chainFrom only to n v c ≡ c
+  pub chain-had : (n v : ℕ) (c : List ℕ) → 0 < getD index v 0 → any (eqb (sole index v)) c ≡ true → chainFrom index targets n v c ≡ c
   unfolding chainFrom
   chain-had zero v c h k = refl
-  chain-had (suc n) v c h k = chain-had′ n v (sole only v) c (omega arith) k
+  chain-had (suc n) v c h k = chain-had′ n v (sole index v) c (omega arith) k
 
-  pub chain-on : (n v : ℕ) (c : List ℕ) → 0 < n → 0 < getD only v 0 → any (eqb (sole only v)) c ≡ false
-      → chainFrom only to n v c ≡ chainFrom only to (n - 1) (next only to v) (c ++ sole only v ∷ [])
+  pub chain-on : (n v : ℕ) (c : List ℕ) → 0 < n → 0 < getD index v 0 → any (eqb (sole index v)) c ≡ false
+      → chainFrom index targets n v c ≡ chainFrom index targets (n - 1) (next index targets v) (c ++ sole index v ∷ [])
   chain-on zero v c p h k = absurd (omega arith)
-  chain-on (suc n) v c p h k = let e : suc n - 1 ≡ n = omega arith in rw e (chain-on′ n v (sole only v) c (omega arith) k)
+  chain-on (suc n) v c p h k = let e : suc n - 1 ≡ n = omega arith in rw e (chain-on′ n v (sole index v) c (omega arith) k)
 
-  pub chain-out : (v : ℕ) (c : List ℕ) → chainFrom only to 0 v c ≡ c
+  pub chain-out : (v : ℕ) (c : List ℕ) → chainFrom index targets 0 v c ≡ c
   unfolding chainFrom
   chain-out v c = refl
 
   -- ---- a run that stops within the number of edges is the chain: it has no edge twice, since after the same edge it would stop as late
   Stops : ℕ → ℕ → Type 0
-  Stops v zero = getD only v 0 ≡ 0
-  Stops v (suc d) = (0 < getD only v 0) × Stops (next only to v) d
+  Stops v zero = getD index v 0 ≡ 0
+  Stops v (suc d) = (0 < getD index v 0) × Stops (next index targets v) d
 
   stops-unique : (v d k : ℕ) → Stops v d → Stops v k → d ≡ k
   unfolding Stops
   stops-unique v zero zero p q = refl
   stops-unique v zero (suc k) p q = absurd (omega (arith, q .0))
   stops-unique v (suc d) zero p q = absurd (omega (arith, p .0))
-  stops-unique v (suc d) (suc k) p q = ap suc (stops-unique (next only to v) d k (p .1) (q .1))
+  stops-unique v (suc d) (suc k) p q = ap suc (stops-unique (next index targets v) d k (p .1) (q .1))
 
-  runs-stops : (v d : ℕ) → Runs only to v d → getD only (after only to v d) 0 ≡ 0 → Stops v d
+  runs-stops : (v d : ℕ) → Runs index targets v d → getD index (after index targets v d) 0 ≡ 0 → Stops v d
   unfolding Runs after Stops
   runs-stops v zero r h = h
-  runs-stops v (suc d) r h = (r .0, runs-stops (next only to v) d (r .1) h)
+  runs-stops v (suc d) r h = (r .0, runs-stops (next index targets v) d (r .1) h)
 
   record Past (d e : ℕ) : Type 0 where
     late : ℕ
     le : d ≤ late
-    stops : Stops (getD to e 0) late
+    stops : Stops (getD targets e 0) late
 
   chain-run : (n d v : ℕ) (c : List ℕ) → d ≤ n → Stops v d → ((e : ℕ) → any (eqb e) c ≡ true → Past d e)
-      → chainFrom only to n v c ≡ c ++ run only to v d
+      → chainFrom index targets n v c ≡ c ++ run index targets v d
   unfolding Stops run
   chain-run n zero v c l s past = chain-end n v c s ∙ sym (append-nil c)
   chain-run zero (suc d) v c l s past = absurd (omega arith)
-  chain-run (suc n) (suc d) v c l s past = go (λ p. chain-run n d (next only to v) (c ++ sole only v ∷ []) (omega arith) (s .1) p) (Bool-cases (any (eqb (sole only v)) c))
+  chain-run (suc n) (suc d) v c l s past = go (λ p. chain-run n d (next index targets v) (c ++ sole index v ∷ []) (omega arith) (s .1) p) (Bool-cases (any (eqb (sole index v)) c))
     where
-      step : (e : ℕ) → (any (eqb e) c ≡ true) ⊎ (any (eqb e) (sole only v ∷ []) ≡ true) → Past d e
+      step : (e : ℕ) → (any (eqb e) c ≡ true) ⊎ (any (eqb e) (sole index v ∷ []) ≡ true) → Past d e
       step e (inl h) = let p = past e h in record { late = p .late; le = omega (arith, p .le); stops = p .stops }
-      step e (inr h) = let q = any-one (sole only v) e h in rw q (record { late = d; le = omega arith; stops = s .1 })
+      step e (inr h) = let q = any-one (sole index v) e h in rw q (record { late = d; le = omega arith; stops = s .1 })
 
-      go : (((e : ℕ) → any (eqb e) (c ++ sole only v ∷ []) ≡ true → Past d e)
-          → chainFrom only to n (next only to v) (c ++ sole only v ∷ []) ≡ (c ++ sole only v ∷ []) ++ run only to (next only to v) d)
-          → (any (eqb (sole only v)) c ≡ true) ⊎ (any (eqb (sole only v)) c ≡ false)
-          → chainFrom only to (suc n) v c ≡ c ++ sole only v ∷ run only to (next only to v) d
+      go : (((e : ℕ) → any (eqb e) (c ++ sole index v ∷ []) ≡ true → Past d e)
+          → chainFrom index targets n (next index targets v) (c ++ sole index v ∷ []) ≡ (c ++ sole index v ∷ []) ++ run index targets (next index targets v) d)
+          → (any (eqb (sole index v)) c ≡ true) ⊎ (any (eqb (sole index v)) c ≡ false)
+          → chainFrom index targets (suc n) v c ≡ c ++ sole index v ∷ run index targets (next index targets v) d
       go up (inl h) =
-          let p = past (sole only v) h in
-          absurd (omega (arith, p .le, stops-unique (next only to v) (p .late) d (p .stops) (s .1)))
+          let p = past (sole index v) h in
+          absurd (omega (arith, p .le, stops-unique (next index targets v) (p .late) d (p .stops) (s .1)))
       go up (inr h) =
-          chain-on′ n v (sole only v) c (omega (arith, s .0)) h
-          ∙ up (λ e k. step e (any-append (eqb e) c (sole only v ∷ []) k))
-          ∙ append-assoc c (sole only v ∷ []) (run only to (next only to v) d)
+          chain-on′ n v (sole index v) c (omega (arith, s .0)) h
+          ∙ up (λ e k. step e (any-append (eqb e) c (sole index v ∷ []) k))
+          ∙ append-assoc c (sole index v ∷ []) (run index targets (next index targets v) d)
 
-  pub chain-plain : (v d : ℕ) → d ≤ length to → Runs only to v d → getD only (after only to v d) 0 ≡ 0 → chain only to v ≡ run only to v d
+  pub chain-plain : (v d : ℕ) → d ≤ length targets → Runs index targets v d → getD index (after index targets v d) 0 ≡ 0 → chain index targets v ≡ run index targets v d
   unfolding chain
-  chain-plain v d l r h = chain-run (length to) d v [] l (runs-stops v d r h) (λ e k. both-ways k (any-nil (eqb e)))
+  chain-plain v d l r h = chain-run (length targets) d v [] l (runs-stops v d r h) (λ e k. both-ways k (any-nil (eqb e)))

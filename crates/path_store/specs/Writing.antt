@@ -47,13 +47,13 @@ module _ (tell : ℕ → ℕ) (walk : List ℕ) (n : ℕ) (out₀ : List ℕ) (f
 
 -- the base that an edge adds: the last base of its target
 abbrev pub baseOf : List ℕ → List ℕ → ℕ → ℕ
-baseOf to last e = getD last (getD to e 0) 0
+baseOf targets last e = getD last (getD targets e 0) 0
 
 -- ---- over the definition
 
-module _ (f : SearchInput) (only to : List ℕ) (ends : ℕ → Ends) (A : Agrees f only to ends) where
+module _ (f : SearchInput) (index targets : List ℕ) (ends : ℕ → Ends) (A : Agrees f index targets ends) where
   -- the origins, by what a table of records tells of each edge
-  pub origins-same : (es₀ : List Edge) (tell : ℕ → Origin) (part : Origin → ℕ) → ((e : ℕ) → e < length to → originAt es₀ (ends e) ≡ tell e) → (es : List ℕ)
-      → All (λ e. e < length to) es → map part (map (originAt es₀) (map ends es)) ≡ map (λ e. part (tell e)) es
+  pub origins-same : (es₀ : List Edge) (tell : ℕ → Origin) (part : Origin → ℕ) → ((e : ℕ) → e < length targets → originAt es₀ (ends e) ≡ tell e) → (es : List ℕ)
+      → All (λ e. e < length targets) es → map part (map (originAt es₀) (map ends es)) ≡ map (λ e. part (tell e)) es
   origins-same es₀ tell part h [] nil = refl
   origins-same es₀ tell part h (e ∷ es) (cons l a) = rw (h e l) (ap (λ (x : List ℕ). part (tell e) ∷ x) (origins-same es₀ tell part h es a))

@@ -78,12 +78,12 @@ pub fn start_path(paths: &mut [u32], scores: &mut [f64], source: u32)
 }
 
 // The chain after a path.
-pub fn follow_chain(paths: &[u32], scores: &[f64], only: &[u32], to: &[u32], path: u32) -> Taken
-    requires { ⌜ Table (now only) (now to) (now paths) (now scores) (path + 1) ⌝ }
-    ensures { λ r. ⌜ Following (now (only .entry)) (now (to .entry)) (now (paths .entry)) path r ⌝ }
+pub fn follow_chain(paths: &[u32], scores: &[f64], index: &[u32], targets: &[u32], path: u32) -> Taken
+    requires { ⌜ Table (now index) (now targets) (now paths) (now scores) (path + 1) ⌝ }
+    ensures { λ r. ⌜ Following (now (index .entry)) (now (targets .entry)) (now (paths .entry)) path r ⌝ }
 {
     let row = path_at(paths, scores, path);
-    let c = chain_from(only, to, row.end);
+    let c = chain_from(index, targets, row.end);
     Taken {
         path: path,
         chain: c.steps as u32,
@@ -95,14 +95,14 @@ pub fn follow_chain(paths: &[u32], scores: &[f64], only: &[u32], to: &[u32], pat
 pub fn extend_path(
     paths: &mut [u32],
     scores: &mut [f64],
-    to: &[u32],
+    targets: &[u32],
     n: u32,
     taken: Taken,
     x: Extension,
     most: u32,
 ) -> PathAnswer
-    requires { ⌜ Growable (now paths) (now scores) n (taken .path) × (x .edge < length (now to)) × (x .edge + 1 < 4294967296) × (x .trees < 2147483648) ⌝ }
-    ensures { λ r. ⌜ Grown (now (paths .entry)) (now (scores .entry)) n (extendedRow (now (paths .entry)) (now (to .entry)) taken x) most r (now (paths .exit)) (now (scores .exit)) ⌝ }
+    requires { ⌜ Growable (now paths) (now scores) n (taken .path) × (x .edge < length (now targets)) × (x .edge + 1 < 4294967296) × (x .trees < 2147483648) ⌝ }
+    ensures { λ r. ⌜ Grown (now (paths .entry)) (now (scores .entry)) n (extendedRow (now (paths .entry)) (now (targets .entry)) taken x) most r (now (paths .exit)) (now (scores .exit)) ⌝ }
 {
     let parent = path_at(paths, scores, taken.path);
     let k = wide(parent.edges) + wide(taken.chain) + 1;
@@ -115,7 +115,7 @@ pub fn extend_path(
         chain: taken.chain,
         edge: x.edge + 1,
         edges: k as u32,
-        end: at(to, x.edge),
+        end: at(targets, x.edge),
         fork: taken.vertex,
         since: x.since,
         joined: 0,
@@ -209,12 +209,12 @@ pub fn cut_path(paths: &[u32], scores: &[f64], path: u32, k: u32) -> Cut
 }
 
 // The vertex that a cut leads to.
-fn cut_end(paths: &[u32], scores: &[f64], only: &[u32], to: &[u32], cut: Cut) -> u32
-    requires { ⌜ Ends (now only) (now to) (now paths) (now scores) cut ⌝ }
-    ensures { λ r. ⌜ r ≡ after (now (only .entry)) (now (to .entry)) (endOf (now (paths .entry)) (cut .parent - 1)) (cut .chain) ⌝ }
+fn cut_end(paths: &[u32], scores: &[f64], index: &[u32], targets: &[u32], cut: Cut) -> u32
+    requires { ⌜ Ends (now index) (now targets) (now paths) (now scores) cut ⌝ }
+    ensures { λ r. ⌜ r ≡ after (now (index .entry)) (now (targets .entry)) (endOf (now (paths .entry)) (cut .parent - 1)) (cut .chain) ⌝ }
 {
     let parent = path_at(paths, scores, cut.parent - 1);
-    walk(only, to, parent.end, wide(cut.chain))
+    walk(index, targets, parent.end, wide(cut.chain))
 }
 
 // The first k edges of a path and then the edge e become the record n, with the whole score of the path; more edges than the maximum is 11.
@@ -222,16 +222,16 @@ fn cut_end(paths: &[u32], scores: &[f64], only: &[u32], to: &[u32], cut: Cut) ->
 pub fn recover_path(
     paths: &mut [u32],
     scores: &mut [f64],
-    only: &[u32],
-    to: &[u32],
+    index: &[u32],
+    targets: &[u32],
     n: u32,
     path: u32,
     k: u32,
     e: u32,
     most: u32,
 ) -> PathAnswer
-    requires { ⌜ Growable (now paths) (now scores) n path × Table (now only) (now to) (now paths) (now scores) (path + 1) × (0 < k) × (k ≤ countOf (now paths) path) × (e < length (now to)) × (e + 1 < 4294967296) ⌝ }
-    ensures { λ r. ⌜ Grown (now (paths .entry)) (now (scores .entry)) n (recoveredRow (now (only .entry)) (now (paths .entry)) (now (scores .entry)) (now (to .entry)) path k e) most r (now (paths .exit)) (now (scores .exit)) ⌝ }
+    requires { ⌜ Growable (now paths) (now scores) n path × Table (now index) (now targets) (now paths) (now scores) (path + 1) × (0 < k) × (k ≤ countOf (now paths) path) × (e < length (now targets)) × (e + 1 < 4294967296) ⌝ }
+    ensures { λ r. ⌜ Grown (now (paths .entry)) (now (scores .entry)) n (recoveredRow (now (index .entry)) (now (paths .entry)) (now (scores .entry)) (now (targets .entry)) path k e) most r (now (paths .exit)) (now (scores .exit)) ⌝ }
 {
     if k >= most {
         return PathAnswer::Refused(ABOVE_MAXIMUM);
@@ -244,8 +244,8 @@ pub fn recover_path(
         chain: cut.chain,
         edge: e + 1,
         edges: k + 1,
-        end: at(to, e),
-        fork: cut_end(paths, scores, only, to, cut),
+        end: at(targets, e),
+        fork: cut_end(paths, scores, index, targets, cut),
         since: 0,
         joined: 0,
         trees: 0,

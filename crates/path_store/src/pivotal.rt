@@ -26,17 +26,17 @@ fn clear_last(marks: &mut [u32], l: u32)
 }
 
 // The edges of a path are no longer pivotal: the mark of the last edge of each of its records is cleared. The edges of chains are never pivotal, so they
-// are not looked at; `only` and `to` say which they are.
+// are not looked at; `index` and `targets` say which they are.
 pub fn cross_off(
     paths: &[u32],
     scores: &[f64],
-    only: &[u32],
-    to: &[u32],
+    index: &[u32],
+    targets: &[u32],
     marks: &mut [u32],
     path: u32,
 )
-    requires { ⌜ Table (now only) (now to) (now paths) (now scores) (path + 1) × (length (now to) ≤ length (now marks)) ⌝ }
-    ensures { λ _. ⌜ Struck (now (only .entry)) (now (marks .entry)) (edges (now (only .entry)) (now (to .entry)) (now (paths .entry)) path) (now (marks .exit)) ⌝ }
+    requires { ⌜ Table (now index) (now targets) (now paths) (now scores) (path + 1) × (length (now targets) ≤ length (now marks)) ⌝ }
+    ensures { λ _. ⌜ Struck (now (index .entry)) (now (marks .entry)) (edges (now (index .entry)) (now (targets .entry)) (now (paths .entry)) path) (now (marks .exit)) ⌝ }
 {
     let mut r = path;
     let first = path_at(paths, scores, r);
@@ -66,20 +66,20 @@ fn outscored(scores: &[f64], path: u32, best: u32) -> bool
 fn later(
     paths: &[u32],
     scores: &[f64],
-    only: &[u32],
-    to: &[u32],
+    index: &[u32],
+    targets: &[u32],
     source: u32,
     path: u32,
     v: u32,
     best: u32,
 ) -> u32
-    requires { ⌜ Table (now only) (now to) (now paths) (now scores) (path + 1) × (path + 1 < 4294967296) × (0 < best → best - 1 < length (now scores)) ⌝ }
-    ensures { λ r. ⌜ r ≡ later (now (only .entry)) (now (to .entry)) source (now (paths .entry)) (now (scores .entry)) v best path ⌝ }
+    requires { ⌜ Table (now index) (now targets) (now paths) (now scores) (path + 1) × (path + 1 < 4294967296) × (0 < best → best - 1 < length (now scores)) ⌝ }
+    ensures { λ r. ⌜ r ≡ later (now (index .entry)) (now (targets .entry)) source (now (paths .entry)) (now (scores .entry)) v best path ⌝ }
 {
     if outscored(scores, path, best) {
         return best;
     }
-    if count_in_path(paths, scores, only, to, source, path, v) == 0 {
+    if count_in_path(paths, scores, index, targets, source, path, v) == 0 {
         return best;
     }
     path + 1
@@ -89,45 +89,45 @@ fn later(
 pub fn best_through(
     paths: &[u32],
     scores: &[f64],
-    only: &[u32],
-    to: &[u32],
+    index: &[u32],
+    targets: &[u32],
     source: u32,
     closed: &[u32],
     count: usize,
     v: u32,
 ) -> u32
-    requires { ⌜ ClosedIn (now only) (now to) source (now paths) (now scores) v (now closed) count ⌝ }
-    ensures { λ r. ⌜ r ≡ bestOf (now (only .entry)) (now (to .entry)) source (now (paths .entry)) (now (scores .entry)) v (take count (now (closed .entry))) ⌝ }
+    requires { ⌜ ClosedIn (now index) (now targets) source (now paths) (now scores) v (now closed) count ⌝ }
+    ensures { λ r. ⌜ r ≡ bestOf (now (index .entry)) (now (targets .entry)) source (now (paths .entry)) (now (scores .entry)) v (take count (now (closed .entry))) ⌝ }
 {
     let mut best: u32 = 0;
     let mut i: usize = 0;
     while i < count {
-        best = later(paths, scores, only, to, source, closed[i], v, best);
+        best = later(paths, scores, index, targets, source, closed[i], v, best);
         i += 1;
     }
     best
 }
 
 // The edge e where it enters v, else the one that was found last; each as its number + 1.
-fn newer(to: &[u32], e: u32, v: u32, last: u32) -> u32
-    requires { ⌜ (e < length (now to)) × (e + 1 < 4294967296) ⌝ }
-    ensures { λ r. ⌜ r ≡ newer (now (to .entry)) v e last ⌝ }
+fn newer(targets: &[u32], e: u32, v: u32, last: u32) -> u32
+    requires { ⌜ (e < length (now targets)) × (e + 1 < 4294967296) ⌝ }
+    ensures { λ r. ⌜ r ≡ newer (now (targets .entry)) v e last ⌝ }
 {
-    if at(to, e) == v {
+    if at(targets, e) == v {
         return e + 1;
     }
     last
 }
 
 // The number + 1 of the last of the first n edges of a walk that enters v, or 0.
-fn last_into(walk: &[u32], n: usize, to: &[u32], v: u32) -> u32
-    requires { ⌜ (n ≤ length (now walk)) × ((i : ℕ) → i < n → getD (now walk) i 0 < length (now to)) × (length (now to) < 4294967295) ⌝ }
-    ensures { λ r. ⌜ r ≡ found (lastInto (now (to .entry)) v (take n (now (walk .entry)))) ⌝ }
+fn last_into(walk: &[u32], n: usize, targets: &[u32], v: u32) -> u32
+    requires { ⌜ (n ≤ length (now walk)) × ((i : ℕ) → i < n → getD (now walk) i 0 < length (now targets)) × (length (now targets) < 4294967295) ⌝ }
+    ensures { λ r. ⌜ r ≡ found (lastInto (now (targets .entry)) v (take n (now (walk .entry)))) ⌝ }
 {
     let mut last: u32 = 0;
     let mut i: usize = 0;
     while i < n {
-        last = newer(to, walk[i], v, last);
+        last = newer(targets, walk[i], v, last);
         i += 1;
     }
     last
@@ -149,11 +149,11 @@ fn first_place(walk: &[u32], n: usize, e: u32) -> usize
 }
 
 // How many of the first n edges of a walk a recovered path keeps: those up to the first place of the last edge into v; 0 where none enters v.
-pub fn split_place(walk: &[u32], n: usize, to: &[u32], v: u32) -> usize
-    requires { ⌜ (n ≤ length (now walk)) × ((i : ℕ) → i < n → getD (now walk) i 0 < length (now to)) × (length (now to) < 4294967295) ⌝ }
-    ensures { λ r. ⌜ r ≡ splitAt (now (to .entry)) v (take n (now (walk .entry))) ⌝ }
+pub fn split_place(walk: &[u32], n: usize, targets: &[u32], v: u32) -> usize
+    requires { ⌜ (n ≤ length (now walk)) × ((i : ℕ) → i < n → getD (now walk) i 0 < length (now targets)) × (length (now targets) < 4294967295) ⌝ }
+    ensures { λ r. ⌜ r ≡ splitAt (now (targets .entry)) v (take n (now (walk .entry))) ⌝ }
 {
-    let d = last_into(walk, n, to, v);
+    let d = last_into(walk, n, targets, v);
     if d == 0 {
         return 0;
     }

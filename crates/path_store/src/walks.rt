@@ -19,25 +19,25 @@ use crate::chains::write_chain;
 use crate::records::path_at;
 
 // How often v is the target of a last edge, whose number + 1 is l.
-fn count_last(to: &[u32], l: u32, v: u32) -> usize
-    requires { ⌜ l ≤ length (now to) ⌝ }
-    ensures { λ r. ⌜ r ≡ hits (now (to .entry)) v (lastEdge l) ⌝ }
+fn count_last(targets: &[u32], l: u32, v: u32) -> usize
+    requires { ⌜ l ≤ length (now targets) ⌝ }
+    ensures { λ r. ⌜ r ≡ hits (now (targets .entry)) v (lastEdge l) ⌝ }
 {
     if l == 0 {
         return 0;
     }
-    same(v, at(to, l - 1))
+    same(v, at(targets, l - 1))
 }
 
 // Whether every chain that comes to v ends there.
-fn stops_at(only: &[u32], v: u32) -> bool
-    ensures { λ r. ⌜ (r ≡ true → getD (now (only .entry)) v 0 ≡ 0) ⌝ }
+fn stops_at(index: &[u32], v: u32) -> bool
+    ensures { λ r. ⌜ (r ≡ true → getD (now (index .entry)) v 0 ≡ 0) ⌝ }
 {
     let i = wide(v);
-    if i >= only.len() {
+    if i >= index.len() {
         return false;
     }
-    only[i] == 0
+    index[i] == 0
 }
 
 // How often v, where chains stop, stands in a chain of this length that leads to `fork`: nowhere but at its end.
@@ -51,55 +51,55 @@ fn count_fork(chain: u32, fork: u32, v: u32) -> usize
 }
 
 // How often v, where chains stop, is the target of an edge that the path adds to its parent.
-fn count_stop(paths: &[u32], scores: &[f64], to: &[u32], path: u32, v: u32) -> usize
-    requires { ⌜ Inside (now paths) (now scores) path × (edgeOf (now paths) path ≤ length (now to)) ⌝ }
-    ensures { λ k. ⌜ k ≡ stopHits (now (to .entry)) v (now (paths .entry)) path ⌝ }
+fn count_stop(paths: &[u32], scores: &[f64], targets: &[u32], path: u32, v: u32) -> usize
+    requires { ⌜ Inside (now paths) (now scores) path × (edgeOf (now paths) path ≤ length (now targets)) ⌝ }
+    ensures { λ k. ⌜ k ≡ stopHits (now (targets .entry)) v (now (paths .entry)) path ⌝ }
 {
     let row = path_at(paths, scores, path);
-    count_fork(row.chain, row.fork, v) + count_last(to, row.edge, v)
+    count_fork(row.chain, row.fork, v) + count_last(targets, row.edge, v)
 }
 
 // How often v is the target of an edge that the path adds to its parent; where chains stop at v the chain is not walked.
 fn count_piece(
     paths: &[u32],
     scores: &[f64],
-    only: &[u32],
-    to: &[u32],
+    index: &[u32],
+    targets: &[u32],
     path: u32,
     v: u32,
     stops: bool,
 ) -> usize
-    requires { ⌜ Piece (now only) (now to) (now paths) (now scores) path × (stops ≡ true → getD (now only) v 0 ≡ 0) ⌝ }
-    ensures { λ k. ⌜ k ≡ hits (now (to .entry)) v (pieceOf (now (only .entry)) (now (to .entry)) (now (paths .entry)) path) ⌝ }
+    requires { ⌜ Piece (now index) (now targets) (now paths) (now scores) path × (stops ≡ true → getD (now index) v 0 ≡ 0) ⌝ }
+    ensures { λ k. ⌜ k ≡ hits (now (targets .entry)) v (pieceOf (now (index .entry)) (now (targets .entry)) (now (paths .entry)) path) ⌝ }
 {
     if stops {
-        return count_stop(paths, scores, to, path, v);
+        return count_stop(paths, scores, targets, path, v);
     }
     let row = path_at(paths, scores, path);
     let parent = path_at(paths, scores, row.parent - 1);
-    count_chain(only, to, parent.end, row.chain, v) + count_last(to, row.edge, v)
+    count_chain(index, targets, parent.end, row.chain, v) + count_last(targets, row.edge, v)
 }
 
 // How often v stands among the vertices of a path.
 pub fn count_in_path(
     paths: &[u32],
     scores: &[f64],
-    only: &[u32],
-    to: &[u32],
+    index: &[u32],
+    targets: &[u32],
     source: u32,
     path: u32,
     v: u32,
 ) -> usize
-    requires { ⌜ Table (now only) (now to) (now paths) (now scores) (path + 1) ⌝ }
-    ensures { λ k. ⌜ k ≡ times (now (to .entry)) source v (edges (now (only .entry)) (now (to .entry)) (now (paths .entry)) path) ⌝ }
+    requires { ⌜ Table (now index) (now targets) (now paths) (now scores) (path + 1) ⌝ }
+    ensures { λ k. ⌜ k ≡ times (now (targets .entry)) source v (edges (now (index .entry)) (now (targets .entry)) (now (paths .entry)) path) ⌝ }
 {
-    let stops = stops_at(only, v);
+    let stops = stops_at(index, v);
     let mut k: usize = 0;
     let mut r = path;
     let first = path_at(paths, scores, r);
     let mut p = first.parent;
     while p > 0 {
-        k += count_piece(paths, scores, only, to, r, v, stops);
+        k += count_piece(paths, scores, index, targets, r, v, stops);
         r = p - 1;
         let row = path_at(paths, scores, r);
         p = row.parent;
@@ -122,20 +122,20 @@ fn write_last(out: &mut [u32], at: usize, l: u32)
 fn write_piece(
     paths: &[u32],
     scores: &[f64],
-    only: &[u32],
-    to: &[u32],
+    index: &[u32],
+    targets: &[u32],
     out: &mut [u32],
     at: usize,
     path: u32,
 )
-    requires { ⌜ Piece (now only) (now to) (now paths) (now scores) path × (at + countOf (now paths) (parentOf (now paths) path - 1) + length (pieceOf (now only) (now to) (now paths) path) ≤ length (now out)) ⌝ }
-    ensures { λ _. ⌜ now (out .exit) ≡ sets (now (out .entry)) (at + countOf (now (paths .entry)) (parentOf (now (paths .entry)) path - 1)) (pieceOf (now (only .entry)) (now (to .entry)) (now (paths .entry)) path) ⌝ }
+    requires { ⌜ Piece (now index) (now targets) (now paths) (now scores) path × (at + countOf (now paths) (parentOf (now paths) path - 1) + length (pieceOf (now index) (now targets) (now paths) path) ≤ length (now out)) ⌝ }
+    ensures { λ _. ⌜ now (out .exit) ≡ sets (now (out .entry)) (at + countOf (now (paths .entry)) (parentOf (now (paths .entry)) path - 1)) (pieceOf (now (index .entry)) (now (targets .entry)) (now (paths .entry)) path) ⌝ }
 {
     let row = path_at(paths, scores, path);
     let parent = path_at(paths, scores, row.parent - 1);
     let from = at + wide(parent.edges);
     let c = wide(row.chain);
-    write_chain(only, to, out, from, parent.end, row.chain);
+    write_chain(index, targets, out, from, parent.end, row.chain);
     write_last(out, from + c, row.edge);
 }
 
@@ -143,20 +143,20 @@ fn write_piece(
 pub fn write_path(
     paths: &[u32],
     scores: &[f64],
-    only: &[u32],
-    to: &[u32],
+    index: &[u32],
+    targets: &[u32],
     out: &mut [u32],
     at: usize,
     path: u32,
 )
-    requires { ⌜ Table (now only) (now to) (now paths) (now scores) (path + 1) × (at + countOf (now paths) path ≤ length (now out)) ⌝ }
-    ensures { λ _. ⌜ now (out .exit) ≡ sets (now (out .entry)) at (edges (now (only .entry)) (now (to .entry)) (now (paths .entry)) path) ⌝ }
+    requires { ⌜ Table (now index) (now targets) (now paths) (now scores) (path + 1) × (at + countOf (now paths) path ≤ length (now out)) ⌝ }
+    ensures { λ _. ⌜ now (out .exit) ≡ sets (now (out .entry)) at (edges (now (index .entry)) (now (targets .entry)) (now (paths .entry)) path) ⌝ }
 {
     let mut r = path;
     let first = path_at(paths, scores, r);
     let mut p = first.parent;
     while p > 0 {
-        write_piece(paths, scores, only, to, out, at, r);
+        write_piece(paths, scores, index, targets, out, at, r);
         r = p - 1;
         let row = path_at(paths, scores, r);
         p = row.parent;
@@ -167,14 +167,14 @@ pub fn write_path(
 pub fn has_visited(
     paths: &[u32],
     scores: &[f64],
-    only: &[u32],
-    to: &[u32],
+    index: &[u32],
+    targets: &[u32],
     source: u32,
     path: u32,
     v: u32,
 ) -> bool
-    requires { ⌜ Table (now only) (now to) (now paths) (now scores) (path + 1) × (path + 1 < 4294967296) × (v + 1 < 4294967296) ⌝ }
-    ensures { λ r. ⌜ r ≡ any (eqb v) (seen (now (only .entry)) (now (to .entry)) source (now (paths .entry)) path) ⌝ }
+    requires { ⌜ Table (now index) (now targets) (now paths) (now scores) (path + 1) × (path + 1 < 4294967296) × (v + 1 < 4294967296) ⌝ }
+    ensures { λ r. ⌜ r ≡ any (eqb v) (seen (now (index .entry)) (now (targets .entry)) source (now (paths .entry)) path) ⌝ }
 {
     let mut up = path + 1;
     while up > 0 {
@@ -183,7 +183,7 @@ pub fn has_visited(
             return true;
         }
         if row.recovered {
-            return count_in_path(paths, scores, only, to, source, up - 1, v) > 0;
+            return count_in_path(paths, scores, index, targets, source, up - 1, v) > 0;
         }
         up = row.parent;
     }
@@ -194,17 +194,17 @@ pub fn has_visited(
 pub fn repeat_rule(
     paths: &[u32],
     scores: &[f64],
-    only: &[u32],
-    to: &[u32],
+    index: &[u32],
+    targets: &[u32],
     source: u32,
     path: u32,
 ) -> bool
-    requires { ⌜ Table (now only) (now to) (now paths) (now scores) (path + 1) ⌝ }
-    ensures { λ r. ⌜ r ≡ keeps (now (only .entry)) (now (to .entry)) source (now (paths .entry)) path ⌝ }
+    requires { ⌜ Table (now index) (now targets) (now paths) (now scores) (path + 1) ⌝ }
+    ensures { λ r. ⌜ r ≡ keeps (now (index .entry)) (now (targets .entry)) source (now (paths .entry)) path ⌝ }
 {
     let row = path_at(paths, scores, path);
     if row.since == 0 {
         return true;
     }
-    count_in_path(paths, scores, only, to, source, path, row.end) <= 1
+    count_in_path(paths, scores, index, targets, source, path, row.end) <= 1
 }

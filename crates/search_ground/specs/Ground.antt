@@ -127,17 +127,17 @@ settingFor i n m sink c cap least =
       asked = i .asked;
     }
 
--- the edge table ends behind the symbolic edge; `only` has a place for each vertex, the symbolic one too, and each of its places has a record
-pub record Lies (vs es only : List ℕ) (n m : ℕ) : Type 0 where
+-- the edge table ends behind the symbolic edge; `index` has a place for each vertex, the symbolic one too, and each of its places has a record
+pub record Lies (vs es index : List ℕ) (n m : ℕ) : Type 0 where
   pub rows : length es ≡ edgeNumbers (m + 1)
-  pub places : n < length only
-  pub room : HasVertices vs (length only)
-  pub few : length only ≤ 4096
+  pub places : n < length index
+  pub room : HasVertices vs (length index)
+  pub few : length index ≤ 4096
 
 module _ (i : Input) {vs₂ es : List ℕ} {n m sink : ℕ} (rules : firstBroken (sampleRules (i .sample)) ≡ 0)
     (fit : settingsFit (i .asked) (i .graphMaxima) (i .searchMaxima) ≡ true)
     (at : BuiltAt (i .sample) (i .graphMaxima .vertices) (i .graphMaxima .edges) vs₂ es n m sink)
-    {vs : List ℕ} (link : vs ≡ linked vs₂ sink m) {only : List ℕ} (lies : Lies vs es only n m) where
+    {vs : List ℕ} (link : vs ≡ linked vs₂ sink m) {index : List ℕ} (lies : Lies vs es index n m) where
   abbrev s : Sample
   s = i .sample
 
@@ -153,8 +153,8 @@ module _ (i : Input) {vs₂ es : List ℕ} {n m sink : ℕ} (rules : firstBroken
   pub ground-linked : Linked vs es (m + 1)
   ground-linked = rw link (linked-of (at .good) sink (at .inside) (at .from) (at .to) room-n (let a = lies .rows in omega arith) few-edges)
 
-  pub ground-tables : (to : List ℕ) → length to ≡ m + 1 → Tables vs es (m + 1) only to
-  ground-tables to h = record { linked = ground-linked; size = h; room = lies .room }
+  pub ground-tables : (targets : List ℕ) → length targets ≡ m + 1 → Tables vs es (m + 1) index targets
+  ground-tables targets h = record { linked = ground-linked; size = h; room = lies .room }
 
   -- the roots are kept
   same-root : (v : ℕ) → treeRoot vs v ≡ treeRoot vs₂ v
@@ -176,7 +176,7 @@ module _ (i : Input) {vs₂ es : List ℕ} {n m sink : ℕ} (rules : firstBroken
       from j l e (yes z) = let y : edgeFrom es j ≡ sink = rw z (at .from) in let w = at .inside in omega arith
       from j l e (no z) = let y = at .good .from-in j (omega arith) in omega arith
 
-  module _ {x op : List ℕ} {cap c : ℕ} (there : Evident (i .sample) vs₂ x op cap c) {to : List ℕ} (t : Tabled vs es (m + 1) sink only to) where
+  module _ {x op : List ℕ} {cap c : ℕ} (there : Evident (i .sample) vs₂ x op cap c) {targets : List ℕ} (t : Tabled vs es (m + 1) sink index targets) where
     abbrev f : SearchInput
     f = searchInput i (builtFor s)
 
@@ -201,11 +201,11 @@ module _ (i : Input) {vs₂ es : List ℕ} {n m sink : ℕ} (rules : firstBroken
     edges-are : withSymbolic s (threaded s) ≡ edgesOf es (m + 1)
     edges-are = sym (at .edges)
 
-    stops : (v : ℕ) → getD only v 0 ≡ 0 → onward f v ≡ none
+    stops : (v : ℕ) → getD index v 0 ≡ 0 → onward f v ≡ none
     unfolding onward searchInput
     stops v z = go (isSome (treeAt (evidence s (threaded s)) v) || eqb v (sinkOf s (threaded s))) refl
       where
-        inside : (v ≡ sink → ⊥) → treeRoot vs v ≡ 0 → Dec (v < length only) → sole (leaving (withSymbolic s (threaded s)) v) ≡ none
+        inside : (v ≡ sink → ⊥) → treeRoot vs v ≡ 0 → Dec (v < length index) → sole (leaving (withSymbolic s (threaded s)) v) ≡ none
         inside a b (yes l) = rw edges-are (t .sole v l .none z b a)
         inside a b (no l) = rw edges-are (ap sole (none-leave v (let y = lies .places in omega arith)))
 
@@ -214,51 +214,51 @@ module _ (i : Input) {vs₂ es : List ℕ} {n m sink : ℕ} (rules : firstBroken
         go false e =
             let w = or-none (isSome (treeAt (evidence s (threaded s)) v)) (eqb v (sinkOf s (threaded s))) e in
             let a : v ≡ sink → ⊥ = (λ y. clash (sym (eq-eqb v (sinkOf s (threaded s)) (y ∙ at .sink-is)) ∙ w .1)) in
-            rw (e, onward) (inside a (bare-of v (w .0)) (decLt v (length only)))
+            rw (e, onward) (inside a (bare-of v (w .0)) (decLt v (length index)))
 
-    goes : (v e : ℕ) → getD only v 0 ≡ suc e → onward f v ≡ some (edgeAt es e)
+    goes : (v e : ℕ) → getD index v 0 ≡ suc e → onward f v ≡ some (edgeAt es e)
     unfolding onward searchInput
-    goes v e z = go (decLt v (length only))
+    goes v e z = go (decLt v (length index))
       where
-        here : Sole vs es (m + 1) sink v (getD only v 0) → onward f v ≡ some (edgeAt es e)
+        here : Sole vs es (m + 1) sink v (getD index v 0) → onward f v ≡ some (edgeAt es e)
         here k =
-            let pos : 0 < getD only v 0 = omega arith in
+            let pos : 0 < getD index v 0 = omega arith in
             let a : treeAt (evidence s (threaded s)) v ≡ none = no-tree v (k .bare pos) in
             let b : eqb v (sinkOf s (threaded s)) ≡ false = ne-eqb v (sinkOf s (threaded s)) (λ y. k .inner pos (y ∙ sym (at .sink-is))) in
-            let q : getD only v 0 - 1 ≡ e = omega arith in
+            let q : getD index v 0 - 1 ≡ e = omega arith in
             rw (a, b, onward, edges-are) (k .is pos ∙ ap (λ (j : ℕ). some (edgeAt es j)) q)
 
-        go : Dec (v < length only) → onward f v ≡ some (edgeAt es e)
+        go : Dec (v < length index) → onward f v ≡ some (edgeAt es e)
         go (yes l) = here (t .sole v l)
-        go (no l) = let y : getD only v 0 ≡ 0 = List·getD-eq-default only 0 (omega arith) in absurd (omega arith)
+        go (no l) = let y : getD index v 0 ≡ 0 = List·getD-eq-default index 0 (omega arith) in absurd (omega arith)
 
-    near : (v : ℕ) → getD only v 0 ≤ length to
-    near v = go (decLt v (length only))
+    near : (v : ℕ) → getD index v 0 ≤ length targets
+    near v = go (decLt v (length index))
       where
-        go : Dec (v < length only) → getD only v 0 ≤ length to
+        go : Dec (v < length index) → getD index v 0 ≤ length targets
         go (yes l) = let a = t .sole v l .known in let b = t .size in omega arith
-        go (no l) = let y : getD only v 0 ≡ 0 = List·getD-eq-default only 0 (omega arith) in omega arith
+        go (no l) = let y : getD index v 0 ≡ 0 = List·getD-eq-default index 0 (omega arith) in omega arith
 
-    far : (e : ℕ) → e < m + 1 → edgeTo es e < length only
+    far : (e : ℕ) → e < m + 1 → edgeTo es e < length index
     far e h = go (ℕ-discrete e m)
       where
-        go : Dec (e ≡ m) → edgeTo es e < length only
+        go : Dec (e ≡ m) → edgeTo es e < length index
         go (yes z) = let y : edgeTo es e ≡ n = rw z (at .to) in let w = lies .places in omega arith
         go (no z) = let y = at .good .to-in e (omega arith) in let w = lies .places in omega arith
 
-    target : (e : ℕ) → edgeTo es e ≡ getD to e 0
+    target : (e : ℕ) → edgeTo es e ≡ getD targets e 0
     target e = go (decLt e (m + 1))
       where
-        go : Dec (e < m + 1) → edgeTo es e ≡ getD to e 0
+        go : Dec (e < m + 1) → edgeTo es e ≡ getD targets e 0
         go (yes h) = sym (t .target e h)
         go (no h) =
             let a = lies .rows in
             let b = t .size in
             let p : edgeTo es e ≡ 0 = List·getD-eq-default es 0 (omega arith) in
-            let q : getD to e 0 ≡ 0 = List·getD-eq-default to 0 (omega arith) in
+            let q : getD targets e 0 ≡ 0 = List·getD-eq-default targets 0 (omega arith) in
             p ∙ sym q
 
-    apart : (e d : ℕ) → e < length to → d < length to → eqEnds (nameOf es e) (nameOf es d) ≡ eqb e d
+    apart : (e d : ℕ) → e < length targets → d < length targets → eqEnds (nameOf es e) (nameOf es d) ≡ eqb e d
     apart e d h l = go (ℕ-discrete e d)
       where
         go : Dec (e ≡ d) → eqEnds (nameOf es e) (nameOf es d) ≡ eqb e d
@@ -267,11 +267,11 @@ module _ (i : Input) {vs₂ es : List ℕ} {n m sink : ℕ} (rules : firstBroken
             let a = t .size in
             eqEnds-ne (nameOf es e) (nameOf es d) (λ y. z (ground-linked .distinct e d (omega arith) (omega arith) y)) ∙ sym (ne-eqb e d z)
 
-    sized : length (withSymbolic s (threaded s)) ≡ length to
+    sized : length (withSymbolic s (threaded s)) ≡ length targets
     unfolding edgesOf
     sized = ap length edges-are ∙ length-table (edgeAt es) (m + 1) (ground-linked .distinct) ∙ sym (t .size)
 
-    agrees : Agrees f only to (nameOf es)
+    agrees : Agrees f index targets (nameOf es)
     unfolding searchInput
     agrees =
         record {
@@ -283,7 +283,7 @@ module _ (i : Input) {vs₂ es : List ℕ} {n m sink : ℕ} (rules : firstBroken
           on = λ v e h. record { edge = edgeAt es e; is = goes v e h; name = refl };
         }
 
-    pub ground-of : (least : ℕ) → Least (i .threshold) least → cap ≤ 16384 → Ground (searchInput i (builtFor (i .sample))) (settingFor i n m sink c cap least) vs es x only to
+    pub ground-of : (least : ℕ) → Least (i .threshold) least → cap ≤ 16384 → Ground (searchInput i (builtFor (i .sample))) (settingFor i n m sink c cap least) vs es x index targets
     unfolding searchInput symbolicOf
     ground-of least l cap-low =
         let r = ruled s rules in

@@ -74,7 +74,7 @@ few-of f ds bs d r =
     let b = length-map ds (λ (e : Edge). e .ends) in
     omega arith
 
-module _ (f : SearchInput) (g : Setting) (vs es x only to : List ℕ) (k : Ground f g vs es x only to) (v : ℕ) (bs : List Branches) where
+module _ (f : SearchInput) (g : Setting) (vs es x index targets : List ℕ) (k : Ground f g vs es x index targets) (v : ℕ) (bs : List Branches) where
   -- of active trees whose branches are in order, as those of the definition are
   pub offers-few : All Rising bs → length (offers f (leaving (f .edges) v) [] bs) ≤ 6
   offers-few r =

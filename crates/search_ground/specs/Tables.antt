@@ -1,4 +1,4 @@
--- The tables of the chains: `only`, at a vertex the number plus 1 of the edge by which a path goes on from it without a decision, else 0; `to`, at an
+-- The tables of the chains: `index`, at a vertex the number plus 1 of the edge by which a path goes on from it without a decision, else 0; `targets`, at an
 -- edge its target. Assumes nothing.
 use mathlib.Core.Path.{_≡_, refl, sym, ap, _∙_}
 use mathlib.Core.Logic.{_≢_}
@@ -75,12 +75,12 @@ module _ (vs es : List ℕ) (m sink v : ℕ) where
 
 -- ---- the loops
 
-pub record Targets (es to to' : List ℕ) : Type 0 where
-  pub size : length to' ≡ length to
+pub record Targets (es targets to' : List ℕ) : Type 0 where
+  pub size : length to' ≡ length targets
   pub is : (e : ℕ) → e < length to' → getD to' e 0 ≡ edgeTo es e
 
-pub record Soles (vs es : List ℕ) (m sink : ℕ) (only only' : List ℕ) : Type 0 where
-  pub size : length only' ≡ length only
+pub record Soles (vs es : List ℕ) (m sink : ℕ) (index only' : List ℕ) : Type 0 where
+  pub size : length only' ≡ length index
   pub is : (v : ℕ) → v < length only' → Sole vs es m sink v (getD only' v 0)
 
 -- the first n places hold what P says
@@ -105,23 +105,23 @@ IsTarget es e x = x ≡ edgeTo es e
 abbrev pub IsSole : List ℕ → List ℕ → ℕ → ℕ → ℕ → ℕ → Type 0
 IsSole vs es m sink v x = Sole vs es m sink v x
 
-pub targets-end : {es to to' : List ℕ} {n : ℕ} → Filled (IsTarget es) to to' n → length to' ≤ n → Targets es to to'
+pub targets-end : {es targets to' : List ℕ} {n : ℕ} → Filled (IsTarget es) targets to' n → length to' ≤ n → Targets es targets to'
 targets-end f h = record { size = f .size; is = λ e k. f .is e (omega arith) }
 
-pub soles-end : {vs es : List ℕ} {m sink : ℕ} {only only' : List ℕ} {n : ℕ} → Filled (IsSole vs es m sink) only only' n → length only' ≤ n → Soles vs es m sink only only'
+pub soles-end : {vs es : List ℕ} {m sink : ℕ} {index only' : List ℕ} {n : ℕ} → Filled (IsSole vs es m sink) index only' n → length only' ≤ n → Soles vs es m sink index only'
 soles-end f h = record { size = f .size; is = λ v k. f .is v (omega arith) }
 
 -- ---- both tables
 
-pub record Tables (vs es : List ℕ) (m : ℕ) (only to : List ℕ) : Type 0 where
+pub record Tables (vs es : List ℕ) (m : ℕ) (index targets : List ℕ) : Type 0 where
   pub linked : Linked vs es m
-  pub size : length to ≡ m
-  pub room : HasVertices vs (length only)
+  pub size : length targets ≡ m
+  pub room : HasVertices vs (length index)
 
-pub record Tabled (vs es : List ℕ) (m sink : ℕ) (only to : List ℕ) : Type 0 where
-  pub size : length to ≡ m
-  pub target : (e : ℕ) → e < m → getD to e 0 ≡ edgeTo es e
-  pub sole : (v : ℕ) → v < length only → Sole vs es m sink v (getD only v 0)
+pub record Tabled (vs es : List ℕ) (m sink : ℕ) (index targets : List ℕ) : Type 0 where
+  pub size : length targets ≡ m
+  pub target : (e : ℕ) → e < m → getD targets e 0 ≡ edgeTo es e
+  pub sole : (v : ℕ) → v < length index → Sole vs es m sink v (getD index v 0)
 
-pub tabled-of : {vs es : List ℕ} {m sink : ℕ} {only only' to to' : List ℕ} → Tables vs es m only to → Targets es to to' → Soles vs es m sink only only' → Tabled vs es m sink only' to'
+pub tabled-of : {vs es : List ℕ} {m sink : ℕ} {index only' targets to' : List ℕ} → Tables vs es m index targets → Targets es targets to' → Soles vs es m sink index only' → Tabled vs es m sink only' to'
 tabled-of p t s = record { size = t .size ∙ p .size; target = λ e h. t .is e (let a = t .size in let b = p .size in omega arith); sole = s .is }

@@ -30,43 +30,43 @@ fn sole_out(vertices: &[u32], edges: &[u32], m: usize, sink: usize, v: usize) ->
     0
 }
 
-// `to` tells the target of each edge that it has a place for.
-fn fill_to(edges: &[u32], to: &mut [u32])
-    requires { ⌜ HasEdges (now edges) (length (now to)) ⌝ }
-    ensures { λ _. ⌜ Targets (now (edges .entry)) (now (to .entry)) (now (to .exit)) ⌝ }
+// `targets` tells the target of each edge that it has a place for.
+fn fill_to(edges: &[u32], targets: &mut [u32])
+    requires { ⌜ HasEdges (now edges) (length (now targets)) ⌝ }
+    ensures { λ _. ⌜ Targets (now (edges .entry)) (now (targets .entry)) (now (targets .exit)) ⌝ }
 {
     let mut e: usize = 0;
-    while e < to.len() {
-        to[e] = edge_to(edges, e) as u32;
+    while e < targets.len() {
+        targets[e] = edge_to(edges, e) as u32;
         e += 1;
     }
 }
 
-// `only` tells the sole edge of each vertex that it has a place for.
-fn fill_only(vertices: &[u32], edges: &[u32], m: usize, sink: usize, only: &mut [u32])
-    requires { ⌜ Linked (now vertices) (now edges) m × (HasVertices (now vertices) (length (now only))) ⌝ }
-    ensures { λ _. ⌜ Soles (now (vertices .entry)) (now (edges .entry)) m sink (now (only .entry)) (now (only .exit)) ⌝ }
+// `index` tells the sole edge of each vertex that it has a place for.
+fn fill_only(vertices: &[u32], edges: &[u32], m: usize, sink: usize, index: &mut [u32])
+    requires { ⌜ Linked (now vertices) (now edges) m × (HasVertices (now vertices) (length (now index))) ⌝ }
+    ensures { λ _. ⌜ Soles (now (vertices .entry)) (now (edges .entry)) m sink (now (index .entry)) (now (index .exit)) ⌝ }
 {
     let mut v: usize = 0;
-    while v < only.len() {
-        only[v] = sole_out(vertices, edges, m, sink, v) as u32;
+    while v < index.len() {
+        index[v] = sole_out(vertices, edges, m, sink, v) as u32;
         v += 1;
     }
 }
 
-// Both tables, over the graph whose m edges, the symbolic one too, are linked. A vertex without edges gets 0, so `only` may have more places than the
+// Both tables, over the graph whose m edges, the symbolic one too, are linked. A vertex without edges gets 0, so `index` may have more places than the
 // graph has vertices.
 pub fn chain_tables(
     vertices: &[u32],
     edges: &[u32],
     m: usize,
     sink: usize,
-    only: &mut [u32],
-    to: &mut [u32],
+    index: &mut [u32],
+    targets: &mut [u32],
 )
-    requires { ⌜ Tables (now vertices) (now edges) m (now only) (now to) ⌝ }
-    ensures { λ _. ⌜ Tabled (now (vertices .entry)) (now (edges .entry)) m sink (now (only .exit)) (now (to .exit)) ⌝ }
+    requires { ⌜ Tables (now vertices) (now edges) m (now index) (now targets) ⌝ }
+    ensures { λ _. ⌜ Tabled (now (vertices .entry)) (now (edges .entry)) m sink (now (index .exit)) (now (targets .exit)) ⌝ }
 {
-    fill_to(edges, to);
-    fill_only(vertices, edges, m, sink, only);
+    fill_to(edges, targets);
+    fill_only(vertices, edges, m, sink, index);
 }

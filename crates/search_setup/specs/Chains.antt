@@ -10,16 +10,16 @@ use Rattle.search_ground.specs.Tables.{Tables, Tabled}
 use Rattle.graph_work.specs.declared.Raise.{Raise}
 use Rattle.list_interface.specs.declared.Settings.{Settings}
 
-pub record Chains (vs es only to : List ℕ) (b : Raise) : Type 0 where
+pub record Chains (vs es index targets : List ℕ) (b : Raise) : Type 0 where
   pub sink-in : HasVertex vs (b .sink)
   pub few : b .edges < 8192
-  pub tables : Tables (linked vs (b .sink) (b .edges)) es (b .edges + 1) only to
+  pub tables : Tables (linked vs (b .sink) (b .edges)) es (b .edges + 1) index targets
 
-pub record Chained (vs es : List ℕ) (b : Raise) (vs′ only′ to′ : List ℕ) : Type 0 where
+pub record Chained (vs es : List ℕ) (b : Raise) (vs′ index′ targets′ : List ℕ) : Type 0 where
   pub vertices : vs′ ≡ linked vs (b .sink) (b .edges)
-  pub tabled : Tabled vs′ es (b .edges + 1) (b .sink) only′ to′
+  pub tabled : Tabled vs′ es (b .edges + 1) (b .sink) index′ targets′
 
-pub chain-tables : {vs es only to : List ℕ} {b : Raise} → Chains vs es only to b → {vs′ : List ℕ} → vs′ ≡ linked vs (b .sink) (b .edges) → Tables vs′ es (b .edges + 1) only to
+pub chain-tables : {vs es index targets : List ℕ} {b : Raise} → Chains vs es index targets b → {vs′ : List ℕ} → vs′ ≡ linked vs (b .sink) (b .edges) → Tables vs′ es (b .edges + 1) index targets
 chain-tables c e = rw e (c .tables)
 
 -- ---- the settings

@@ -32,12 +32,12 @@ pub fn search_setting(a: Settings, b: Raise) -> Setting
 }
 
 // The symbolic edge joins the out-edges, and the tables of the chains are filled.
-pub fn lay_chains(b: Raise, vertices: &mut [u32], edges: &[u32], only: &mut [u32], to: &mut [u32])
-    requires { ⌜ Chains (now vertices) (now edges) (now only) (now to) b ⌝ }
-    ensures { λ _. ⌜ Chained (now (vertices .entry)) (now (edges .entry)) b (now (vertices .exit)) (now (only .exit)) (now (to .exit)) ⌝ }
+pub fn lay_chains(b: Raise, vertices: &mut [u32], edges: &[u32], index: &mut [u32], targets: &mut [u32])
+    requires { ⌜ Chains (now vertices) (now edges) (now index) (now targets) b ⌝ }
+    ensures { λ _. ⌜ Chained (now (vertices .entry)) (now (edges .entry)) b (now (vertices .exit)) (now (index .exit)) (now (targets .exit)) ⌝ }
 {
     let sink = b.sink;
     let real = b.edges;
     link_symbolic_edge(vertices, sink, real);
-    chain_tables(vertices, edges, real + 1, sink, only, to);
+    chain_tables(vertices, edges, real + 1, sink, index, targets);
 }

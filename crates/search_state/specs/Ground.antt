@@ -31,23 +31,23 @@ pub record TreeIn (f : SearchInput) (x : List ℕ) (n root v : ℕ) : Type 0 whe
   pub live : root ≤ n
   pub leads : Leads n x (cols x .kid root) below
 
-pub record Ground (f : SearchInput) (g : Setting) (vs es x only to : List ℕ) : Type 0 where
+pub record Ground (f : SearchInput) (g : Setting) (vs es x index targets : List ℕ) : Type 0 where
   -- the graph
-  pub agrees : Agrees f only to (nameOf es)
+  pub agrees : Agrees f index targets (nameOf es)
   pub linked : Linked vs es (g .edges)
   pub settings : Settings f es (g .edges) (ends (g .sink) (g .symbolic)) (g .least)
-  pub size : length to ≡ g .edges
-  pub vertices : HasVertices vs (length only)
-  pub few : length only ≤ 4096
+  pub size : length targets ≡ g .edges
+  pub vertices : HasVertices vs (length index)
+  pub few : length index ≤ 4096
   pub source : f .source ≡ 0
   pub sink : f .sink ≡ g .sink
-  pub sink-in : g .sink < length only
+  pub sink-in : g .sink < length index
   -- the trees
   pub nodes : g .nodes ≤ g .cap
   pub cap-fits : g .cap ≤ 16384
   pub wide : Wide (g .cap) x
-  pub tree : (v : ℕ) → v < length only → (treeRoot vs v ≡ 0 → ⊥) → TreeIn f x (g .nodes) (treeRoot vs v) v
-  pub no-tree : (v : ℕ) → v < length only → treeRoot vs v ≡ 0 → treeAt (f .trees) v ≡ none
+  pub tree : (v : ℕ) → v < length index → (treeRoot vs v ≡ 0 → ⊥) → TreeIn f x (g .nodes) (treeRoot vs v) v
+  pub no-tree : (v : ℕ) → v < length index → treeRoot vs v ≡ 0 → treeAt (f .trees) v ≡ none
   -- what counts and supports come to, and how many edges leave a vertex
   pub small : (v : ℕ) (b : Branches) → treeAt (f .trees) v ≡ some b → Small 65535 b
   pub support : (v : ℕ) → total supportOf (leaving (f .edges) v) ≤ 65535

@@ -21,7 +21,7 @@ use Rattle.path_heap.specs.First.{leads-same}
 use Rattle.path_heap.specs.Heap.{ScoreHeap, waiting, waiting-scores, waiting-all, all-waiting}
 use Rattle.search_state.specs.declared.Setting.{Setting}
 use Rattle.search_state.specs.declared.Progress.{Progress}
-use Rattle.search_state.specs.State.{pathOf, shutOf, Records, Holds, Apart, Kept}
+use Rattle.search_state.specs.State.{pathOf, closedRecord, Records, Holds, Apart, Kept}
 
 -- the same progress with n records
 abbrev pub withRecords : Progress → ℕ → Progress
@@ -41,9 +41,9 @@ pub map-agree : {A B : Type 0} (f g : A → B) {xs : List A} → All (λ x. f x 
 map-agree f g nil = refl
 map-agree f g (cons h a) = rw (h, map-agree f g a)
 
-module _ (f : SearchInput) (g : Setting) (es x only to : List ℕ) (bs : ℕ → List Branches) (closing : ℕ → ℕ) (t : List ℕ) (sc : List Float) (ac queue shut order marks : List ℕ) (p : Progress) (s : State Float)
-    (H : Holds f g es x only to bs closing t sc ac queue shut order marks p s) (bs′ : ℕ → List Branches) (t′ : List ℕ) (sc′ : List Float) (ac′ : List ℕ) (n′ r : ℕ)
-    (R : Records f g es x only to bs′ t′ sc′ ac′ n′) (m : p .records ≤ n′) (K : Kept f es only to bs t sc bs′ t′ sc′ (p .records) r) (A : Apart sc queue (p .waiting) r)
+module _ (f : SearchInput) (g : Setting) (es x index targets : List ℕ) (bs : ℕ → List Branches) (closing : ℕ → ℕ) (t : List ℕ) (sc : List Float) (ac queue closed order marks : List ℕ) (p : Progress) (s : State Float)
+    (H : Holds f g es x index targets bs closing t sc ac queue closed order marks p s) (bs′ : ℕ → List Branches) (t′ : List ℕ) (sc′ : List Float) (ac′ : List ℕ) (n′ r : ℕ)
+    (R : Records f g es x index targets bs′ t′ sc′ ac′ n′) (m : p .records ≤ n′) (K : Kept f es index targets bs t sc bs′ t′ sc′ (p .records) r) (A : Apart sc queue (p .waiting) r)
     (P : (q : ℕ) → p .records ≤ q → q < n′ → parentOf t′ q ≡ suc r) where
   apart : (i : ℕ) → i < p .waiting → nth queue i ≢ r
   apart = all-waiting (λ q. q ≢ r) sc queue (p .waiting) A
@@ -71,21 +71,21 @@ module _ (f : SearchInput) (g : Setting) (es x only to : List ℕ) (bs : ℕ →
       }
 
   -- the waiting paths, as they are read from the new tables
-  pub paths-kept : map (pathOf f es only to bs′ t′ sc′) (waiting sc′ queue (p .waiting)) ≡ map (pathOf f es only to bs t sc) (waiting sc queue (p .waiting))
+  pub paths-kept : map (pathOf f es index targets bs′ t′ sc′) (waiting sc′ queue (p .waiting)) ≡ map (pathOf f es index targets bs t sc) (waiting sc queue (p .waiting))
   paths-kept =
-      ap (λ l. map (pathOf f es only to bs′ t′ sc′) l) order-same
-      ∙ map-agree (pathOf f es only to bs′ t′ sc′) (pathOf f es only to bs t sc)
-      (waiting-all (λ q. pathOf f es only to bs′ t′ sc′ q ≡ pathOf f es only to bs t sc q) sc queue (p .waiting) (λ i l. K .path (nth queue i) (H .idle i l .known) (apart i l)))
+      ap (λ l. map (pathOf f es index targets bs′ t′ sc′) l) order-same
+      ∙ map-agree (pathOf f es index targets bs′ t′ sc′) (pathOf f es index targets bs t sc)
+      (waiting-all (λ q. pathOf f es index targets bs′ t′ sc′ q ≡ pathOf f es index targets bs t sc q) sc queue (p .waiting) (λ i l. K .path (nth queue i) (H .idle i l .known) (apart i l)))
 
-  pub shut-kept : map (shutOf es only to closing t′ sc′) (take (p .closed) shut) ≡ map (shutOf es only to closing t sc) (take (p .closed) shut)
-  shut-kept =
-      map-agree (shutOf es only to closing t′ sc′) (shutOf es only to closing t sc)
-      (all-mono (λ q l. K .closed (closing q) q l) (H .shut-known))
+  pub closed-paths-kept : map (closedRecord es index targets closing t′ sc′) (take (p .closed) closed) ≡ map (closedRecord es index targets closing t sc) (take (p .closed) closed)
+  closed-paths-kept =
+      map-agree (closedRecord es index targets closing t′ sc′) (closedRecord es index targets closing t sc)
+      (all-mono (λ q l. K .closed (closing q) q l) (H .closed-known))
 
   pub apart-kept : Apart sc′ queue (p .waiting) r
   apart-kept = subst (λ l. All (λ q. q ≢ r) l) (sym order-same) A
 
-  pub holds-kept : Holds f g es x only to bs′ closing t′ sc′ ac′ queue shut order marks (withRecords p n′) s
+  pub holds-kept : Holds f g es x index targets bs′ closing t′ sc′ ac′ queue closed order marks (withRecords p n′) s
   holds-kept =
       record {
         records = R;
@@ -98,9 +98,9 @@ module _ (f : SearchInput) (g : Setting) (es x only to : List ℕ) (bs : ℕ →
             };
         once = subst (λ l. Distinct l) (sym order-same) (H .once);
         waiting = H .waiting ∙ sym paths-kept;
-        shut-known = all-mono (λ q l. omega arith) (H .shut-known);
-        closed = H .closed ∙ sym shut-kept;
-        shut-room = H .shut-room;
+        closed-known = all-mono (λ q l. omega arith) (H .closed-known);
+        closed = H .closed ∙ sym closed-paths-kept;
+        closed-room = H .closed-room;
         pivotal = H .pivotal;
         pivotal-once = H .pivotal-once;
         pivotal-known = H .pivotal-known;

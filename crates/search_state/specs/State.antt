@@ -25,15 +25,15 @@ use Rattle.search_state.specs.Ground.{nameOf}
 
 -- the record r as the definition's path; `bs r` are its active trees
 abbrev pub pathOf : SearchInput → List ℕ → List ℕ → List ℕ → (ℕ → List Branches) → List ℕ → List Float → ℕ → Path Float
-pathOf f es only to bs t sc r = viewOf f (nameOf es) only to (bs r) t sc r
+pathOf f es index targets bs t sc r = viewOf f (nameOf es) index targets (bs r) t sc r
 
 -- the record r as the definition's closed path; `closing r` is its closing number
-abbrev pub shutOf : List ℕ → List ℕ → List ℕ → (ℕ → ℕ) → List ℕ → List Float → ℕ → Closed Float
-shutOf es only to closing t sc r = closedOf (nameOf es) only to t sc (closing r) r
+abbrev pub closedRecord : List ℕ → List ℕ → List ℕ → (ℕ → ℕ) → List ℕ → List Float → ℕ → Closed Float
+closedRecord es index targets closing t sc r = closedOf (nameOf es) index targets t sc (closing r) r
 
 -- the first n path records are right, and so are their active trees: those of the record r stand from place r * active on
-pub record Records (f : SearchInput) (g : Setting) (es x only to : List ℕ) (bs : ℕ → List Branches) (t : List ℕ) (sc : List Float) (ac : List ℕ) (n : ℕ) : Type 0 where
-  pub held : Held only to (f .source) t sc n
+pub record Records (f : SearchInput) (g : Setting) (es x index targets : List ℕ) (bs : ℕ → List Branches) (t : List ℕ) (sc : List Float) (ac : List ℕ) (n : ℕ) : Type 0 where
+  pub held : Held index targets (f .source) t sc n
   pub actives : (r : ℕ) → r < n → Actives (g .cap) (g .nodes) x ac (r * g .active) (r * g .active + treesOf t r) (bs r)
   pub trees : (r : ℕ) → r < n → treesOf t r ≤ g .active
   pub small : (r : ℕ) → r < n → All (Small 65535) (bs r)
@@ -46,25 +46,25 @@ pub record Idle (t : List ℕ) (n r : ℕ) : Type 0 where
   pub unjoined : joinedOf t r ≡ 0
   pub childless : Childless t n r
 
-pub record Holds (f : SearchInput) (g : Setting) (es x only to : List ℕ) (bs : ℕ → List Branches) (closing : ℕ → ℕ) (t : List ℕ) (sc : List Float) (ac queue shut order marks : List ℕ)
+pub record Holds (f : SearchInput) (g : Setting) (es x index targets : List ℕ) (bs : ℕ → List Branches) (closing : ℕ → ℕ) (t : List ℕ) (sc : List Float) (ac queue closed order marks : List ℕ)
     (p : Progress) (s : State Float) : Type 0 where
-  pub records : Records f g es x only to bs t sc ac (p .records)
+  pub records : Records f g es x index targets bs t sc ac (p .records)
   -- the waiting paths
   pub heap : ScoreHeap sc queue (p .waiting)
   pub idle : (i : ℕ) → i < p .waiting → Idle t (p .records) (nth queue i)
   pub once : Distinct (waiting sc queue (p .waiting))
-  pub waiting : s .waiting ≡ map (pathOf f es only to bs t sc) (waiting sc queue (p .waiting))
+  pub waiting : s .waiting ≡ map (pathOf f es index targets bs t sc) (waiting sc queue (p .waiting))
   -- the closed paths
-  pub shut-known : All (λ r. r < p .records) (take (p .closed) shut)
-  pub closed : s .closed ≡ map (shutOf es only to closing t sc) (take (p .closed) shut)
-  pub shut-room : p .closed ≤ length shut
+  pub closed-known : All (λ r. r < p .records) (take (p .closed) closed)
+  pub closed-room : p .closed ≤ length closed
+  pub closed : s .closed ≡ map (closedRecord es index targets closing t sc) (take (p .closed) closed)
   -- the pivotal edges: those from place `next` on that are still marked
   pub pivotal : s .pivotal ≡ map (nameOf es) (unvisited (drop (p .next) (take (p .pivotal) order)) marks)
   pub pivotal-once : Distinct (take (p .pivotal) order)
-  pub pivotal-known : All (λ e. e < length to) (take (p .pivotal) order)
-  pub pivotal-forks : All (Fork only) (take (p .pivotal) order)
+  pub pivotal-known : All (λ e. e < length targets) (take (p .pivotal) order)
+  pub pivotal-forks : All (Fork index) (take (p .pivotal) order)
   pub order-room : p .pivotal ≤ length order
-  pub marks-room : length to ≤ length marks
+  pub marks-room : length targets ≤ length marks
   pub next-low : p .next ≤ p .pivotal
   -- the counts
   pub pushes : s .pushes ≡ p .pushes
@@ -83,17 +83,17 @@ Apart sc queue n r = All (λ q. q ≢ r) (waiting sc queue n)
 
 -- the lengths that the search asks of the slices: a record for each push, each closing, and each extension of a fork, all of which are made before any is
 -- pushed
-pub record Room (g : Setting) (t : List ℕ) (sc : List Float) (ac queue shut : List ℕ) : Type 0 where
+pub record Room (g : Setting) (t : List ℕ) (sc : List Float) (ac queue closed : List ℕ) : Type 0 where
   pub paths : (g .pushes + g .asked + 8) * 9 ≤ length t
   pub scores : g .pushes + g .asked + 8 ≤ length sc
   pub actives : (g .pushes + g .asked + 8) * g .active ≤ length ac
   pub waiting : g .pushes ≤ length queue
-  pub closed : g .asked ≤ length shut
+  pub closed : g .asked ≤ length closed
 
 -- The first n records but r are read from the new tables as from the old; where r is n, all of them.
-pub record Kept (f : SearchInput) (es only to : List ℕ) (bs : ℕ → List Branches) (t : List ℕ) (sc : List Float) (bs′ : ℕ → List Branches) (t′ : List ℕ) (sc′ : List Float) (n r : ℕ) : Type 0 where
-  pub path : (q : ℕ) → q < n → q ≢ r → pathOf f es only to bs′ t′ sc′ q ≡ pathOf f es only to bs t sc q
-  pub closed : (c q : ℕ) → q < n → closedOf (nameOf es) only to t′ sc′ c q ≡ closedOf (nameOf es) only to t sc c q
+pub record Kept (f : SearchInput) (es index targets : List ℕ) (bs : ℕ → List Branches) (t : List ℕ) (sc : List Float) (bs′ : ℕ → List Branches) (t′ : List ℕ) (sc′ : List Float) (n r : ℕ) : Type 0 where
+  pub path : (q : ℕ) → q < n → q ≢ r → pathOf f es index targets bs′ t′ sc′ q ≡ pathOf f es index targets bs t sc q
+  pub closed : (c q : ℕ) → q < n → closedOf (nameOf es) index targets t′ sc′ c q ≡ closedOf (nameOf es) index targets t sc c q
   pub joined : (q : ℕ) → q < n → q ≢ r → joinedOf t′ q ≡ joinedOf t q
   pub parent : (q : ℕ) → q < n → parentOf t′ q ≡ parentOf t q
   pub score : (q : ℕ) → q < n → scoreOf sc′ q ≡ scoreOf sc q

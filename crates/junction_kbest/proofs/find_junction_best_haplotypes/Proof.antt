@@ -9,11 +9,11 @@ use Rattle.junction_kbest.proofs.find_junction_best_haplotypes.Statemen
 use Rattle.junction_kbest.proofs.find_junction_best_haplotypes.Tie as tie
 
 abbrev Inv-loop : tie.InvT-loop
-Inv-loop vertices edges nodes only to column paths₀ scores₀ active₀ queue₀ shut₀ order marks₀ walk₀ g recovery p₀ paths scores active queue shut marks walk p =
-    Looping g vertices edges nodes only to column recovery paths₀ scores₀ active₀ queue₀ shut₀ marks₀ walk₀ order paths scores active queue shut marks walk p
+Inv-loop vertices edges nodes index targets column paths₀ scores₀ active₀ queue₀ closed₀ order marks₀ walks₀ g recovery p₀ paths scores active queue closed marks walks p =
+    Looping g vertices edges nodes index targets column recovery paths₀ scores₀ active₀ queue₀ closed₀ marks₀ walks₀ order paths scores active queue closed marks walks p
 
 abbrev μ-loop : tie.MeasureT-loop
-μ-loop vertices edges nodes only to column paths₀ scores₀ active₀ queue₀ shut₀ order marks₀ walk₀ g recovery p₀ paths scores active queue shut marks walk p =
+μ-loop vertices edges nodes index targets column paths₀ scores₀ active₀ queue₀ closed₀ order marks₀ walks₀ g recovery p₀ paths scores active queue closed marks walks p =
     turnsLeft g order marks p
 
 begin-requires : tie.Need-begin-requires Inv-loop μ-loop

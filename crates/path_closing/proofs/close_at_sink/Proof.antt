@@ -2,13 +2,13 @@
 use borrow.Author.Needs.{needs}
 use Rattle.path_closing.proofs.close_at_sink.Statement.{statement}
 use Rattle.path_closing.proofs.close_at_sink.Tie as tie
-use Rattle.path_closing.specs.Closes.{closed-away, closes-shuts, closes-marks, closed-refused, closed-table, closed-on}
+use Rattle.path_closing.specs.Closes.{closed-away, closes-taken, closes-marks, closed-refused, closed-table, closed-on}
 
 returns : tie.Need-returns
 returns c = closed-away _ _ _ _ _ _ _ _ _ _ _ (c .if1 .taken)
 
-shut-path-requires : tie.Need-shut-path-requires
-shut-path-requires c κs = closes-shuts _ _ _ _ _ _ _ _ _ _ _ (c .before .before .before .before .before .before .before .before .before .before .before .before .before .before .pre)
+close-taken-requires : tie.Need-close-taken-requires
+close-taken-requires c κs = closes-taken _ _ _ _ _ _ _ _ _ _ _ (c .before .before .before .before .before .before .before .before .before .before .before .before .before .before .pre)
 
 enum-known-r : tie.Need-enum-known-r
 enum-known-r c = search needs
@@ -26,10 +26,10 @@ same-length-3 : tie.Need-same-length-3
 same-length-3 c = search needs
 
 returns-2 : tie.Need-returns-2
-returns-2 c = closed-refused _ _ _ _ _ _ _ _ _ _ _ (c .before .before .before .before .before .before .before .before .before .before .before .before .if1 .left) _ _ _ _ (c .before .before .before .before .before .before .before .before .shut-path .ensures) _ (c .enum-told .given .1)
+returns-2 c = closed-refused _ _ _ _ _ _ _ _ _ _ _ (c .before .before .before .before .before .before .before .before .before .before .before .before .if1 .left) _ _ _ _ (c .before .before .before .before .before .before .before .before .close-taken .ensures) _ (c .enum-told .given .1)
 
 cross-off-requires : tie.Need-cross-off-requires
-cross-off-requires c κs = (closed-table _ _ _ _ _ _ _ _ _ _ _ (c .before .before .before .before .before .before .before .before .before .before .before .before .before .before .before .before .if1 .left) _ _ _ _ (c .before .before .before .before .before .before .before .before .before .before .before .before .shut-path .ensures) _ (c .before .before .before .before .r .given .1) (c .before .before .before .before .before .before .before .before .before .before .before .before .before .before .before .before .before .before .before .before .before .before .before .before .before .before .before .pre), closes-marks _ _ _ _ _ _ _ _ _ _ _ (c .before .before .before .before .before .before .before .before .before .before .before .before .before .before .before .before .before .before .before .before .before .before .before .before .before .before .before .pre))
+cross-off-requires c κs = (closed-table _ _ _ _ _ _ _ _ _ _ _ (c .before .before .before .before .before .before .before .before .before .before .before .before .before .before .before .before .if1 .left) _ _ _ _ (c .before .before .before .before .before .before .before .before .before .before .before .before .close-taken .ensures) _ (c .before .before .before .before .r .given .1) (c .before .before .before .before .before .before .before .before .before .before .before .before .before .before .before .before .before .before .before .before .before .before .before .before .before .before .before .pre), closes-marks _ _ _ _ _ _ _ _ _ _ _ (c .before .before .before .before .before .before .before .before .before .before .before .before .before .before .before .before .before .before .before .before .before .before .before .before .before .before .before .pre))
 
 same-length-4 : tie.Need-same-length-4
 same-length-4 c = search needs
@@ -44,14 +44,14 @@ same-length-7 : tie.Need-same-length-7
 same-length-7 c = search needs
 
 returns-3 : tie.Need-returns-3
-returns-3 c = closed-on _ _ _ _ _ _ _ _ _ _ _ (c .before .before .before .before .before .before .before .before .before .before .before .before .before .before .before .before .before .before .before .if1 .left) _ _ _ _ (c .before .before .before .before .before .before .before .before .before .before .before .before .before .before .before .shut-path .ensures) _ (c .before .before .before .before .before .before .before .r .given .1) _ (c .before .before .cross-off .ensures)
+returns-3 c = closed-on _ _ _ _ _ _ _ _ _ _ _ (c .before .before .before .before .before .before .before .before .before .before .before .before .before .before .before .before .before .before .before .if1 .left) _ _ _ _ (c .before .before .before .before .before .before .before .before .before .before .before .before .before .before .before .close-taken .ensures) _ (c .before .before .before .before .before .before .before .r .given .1) _ (c .before .before .cross-off .ensures)
 
 pub close-at-sink-spec : {M : Type 1} → statement M
 close-at-sink-spec =
     tie.close
     (tie.spec
     returns
-    shut-path-requires
+    close-taken-requires
     enum-known-r
     enum-told
     same-length

@@ -8,10 +8,10 @@ use native.Mathlib.Omega.{arith}
 use borrow.Author.Needs.{needs}
 
 abbrev Inv-loop : tie.InvT-loop
-Inv-loop edges nodes only to column paths₀ scores₀ active₀ offers g taken n rows next₀ row₀ paths scores active next row = Trying g edges nodes only to column paths₀ scores₀ active₀ offers n taken rows paths scores active next row
+Inv-loop edges nodes index targets column paths₀ scores₀ active₀ offers g taken n rows next₀ row₀ paths scores active next row = Trying g edges nodes index targets column paths₀ scores₀ active₀ offers n taken rows paths scores active next row
 
 abbrev μ-loop : tie.MeasureT-loop
-μ-loop edges nodes only to column paths₀ scores₀ active₀ offers g taken n rows next₀ row₀ paths scores active next row = rows - row
+μ-loop edges nodes index targets column paths₀ scores₀ active₀ offers g taken n rows next₀ row₀ paths scores active next row = rows - row
 
 loop-holds : tie.Need-loop-holds Inv-loop μ-loop
 loop-holds c = trying-start (c .before .before .before .before .before .before .before .before .before .pre)

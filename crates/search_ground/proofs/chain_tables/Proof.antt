@@ -1,4 +1,4 @@
--- `chain_tables` meets its contract: the one loop fills `to`, the other `only`. Assumes nothing.
+-- `chain_tables` meets its contract: the one loop fills `targets`, the other `index`. Assumes nothing.
 use Rattle.search_ground.specs.Tables.{tabled-of}
 use borrow.Author.Needs.{needs}
 use Rattle.search_ground.proofs.chain_tables.Statement.{statement}

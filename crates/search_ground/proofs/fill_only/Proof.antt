@@ -7,10 +7,10 @@ use Rattle.search_ground.proofs.fill_only.Statement.{statement}
 use Rattle.search_ground.proofs.fill_only.Tie as tie
 
 abbrev Inv-loop : tie.InvT-loop
-Inv-loop vertices edges m sink only₀ v₀ only v = Filled (IsSole vertices edges m sink) only₀ only v
+Inv-loop vertices edges m sink index₀ v₀ index v = Filled (IsSole vertices edges m sink) index₀ index v
 
 abbrev μ-loop : tie.MeasureT-loop
-μ-loop vertices edges m sink only₀ v₀ only v = length only - v
+μ-loop vertices edges m sink index₀ v₀ index v = length index - v
 
 loop-holds : tie.Need-loop-holds Inv-loop μ-loop
 loop-holds c = filled-start

@@ -7,10 +7,10 @@ use Rattle.search_ground.proofs.fill_to.Statement.{statement}
 use Rattle.search_ground.proofs.fill_to.Tie as tie
 
 abbrev Inv-loop : tie.InvT-loop
-Inv-loop edges to₀ e₀ to e = Filled (IsTarget edges) to₀ to e
+Inv-loop edges targets₀ e₀ targets e = Filled (IsTarget edges) targets₀ targets e
 
 abbrev μ-loop : tie.MeasureT-loop
-μ-loop edges to₀ e₀ to e = length to - e
+μ-loop edges targets₀ e₀ targets e = length targets - e
 
 loop-holds : tie.Need-loop-holds Inv-loop μ-loop
 loop-holds c = filled-start

@@ -11,10 +11,10 @@ use native.Mathlib.Omega.{arith}
 use Rattle.path_list.specs.Ranks.{lists, aboveAt, Inserting, inserting-start, inserting-room, inserting-low, inserting-end, inserting-here, inserting-next, next-known, resize, low-as, not-true, not-false}
 
 abbrev Inv-loop : tie.InvT-loop
-Inv-loop reference bases vertices edges paths scores shut walks k most count x rank₀ j₀ rank j = Inserting (aboveAt (lists (reference ++ bases) vertices edges paths scores shut walks k most)) count x rank₀ rank j
+Inv-loop reference bases vertices edges paths scores closed walks k most count x rank₀ j₀ rank j = Inserting (aboveAt (lists (reference ++ bases) vertices edges paths scores closed walks k most)) count x rank₀ rank j
 
 abbrev μ-loop : tie.MeasureT-loop
-μ-loop reference bases vertices edges paths scores shut walks k most count x rank₀ j₀ rank j = count - j
+μ-loop reference bases vertices edges paths scores closed walks k most count x rank₀ j₀ rank j = count - j
 
 add-j : tie.Need-add-j Inv-loop μ-loop
 add-j c = omega (arith, (c .before .before .before .before .before .before .before .before .before .pre) .1 .few, (c .before .before .before .before .before .before .before .before .before .pre) .1 .low)
@@ -50,7 +50,7 @@ same-length : tie.Need-same-length Inv-loop μ-loop
 same-length c = resize _ _ _ _ _ _ ((c .before .before .before .before .before .loop) .inv) _
 
 returns : tie.Need-returns Inv-loop μ-loop
-returns c = inserting-here _ _ _ _ _ _ ((c .before .before .before .before .before .loop) .inv) ((c .before .before .before .before .loop-test) .taken) _ refl (ap (λ u. aboveAt (lists ((c .before .before .before .before .before .before .before .before .before .before .before .before .before .before .before .args) .reference .now ++ (c .before .before .before .before .before .before .before .before .before .before .before .before .before .before .before .args) .bases .now) ((c .before .before .before .before .before .before .before .before .before .before .before .before .before .before .before .args) .vertices .now) ((c .before .before .before .before .before .before .before .before .before .before .before .before .before .before .before .args) .edges .now) ((c .before .before .before .before .before .before .before .before .before .before .before .before .before .before .before .args) .paths .now) ((c .before .before .before .before .before .before .before .before .before .before .before .before .before .before .before .args) .scores .now) ((c .before .before .before .before .before .before .before .before .before .before .before .before .before .before .before .args) .shut .now) ((c .before .before .before .before .before .before .before .before .before .before .before .before .before .before .before .args) .walks .now) ((c .before .before .before .before .before .before .before .before .before .before .before .before .before .before .before .args) .k) ((c .before .before .before .before .before .before .before .before .before .before .before .before .before .before .before .args) .most)) u ((c .before .before .before .before .before .before .before .before .before .before .before .before .before .before .before .args) .x)) (sym ((c .before .before .wide-number) .ensures)) ∙ sym ((c .before .stands-above) .ensures) ∙ not-true _ ((c .if1) .taken))
+returns c = inserting-here _ _ _ _ _ _ ((c .before .before .before .before .before .loop) .inv) ((c .before .before .before .before .loop-test) .taken) _ refl (ap (λ u. aboveAt (lists ((c .before .before .before .before .before .before .before .before .before .before .before .before .before .before .before .args) .reference .now ++ (c .before .before .before .before .before .before .before .before .before .before .before .before .before .before .before .args) .bases .now) ((c .before .before .before .before .before .before .before .before .before .before .before .before .before .before .before .args) .vertices .now) ((c .before .before .before .before .before .before .before .before .before .before .before .before .before .before .before .args) .edges .now) ((c .before .before .before .before .before .before .before .before .before .before .before .before .before .before .before .args) .paths .now) ((c .before .before .before .before .before .before .before .before .before .before .before .before .before .before .before .args) .scores .now) ((c .before .before .before .before .before .before .before .before .before .before .before .before .before .before .before .args) .closed .now) ((c .before .before .before .before .before .before .before .before .before .before .before .before .before .before .before .args) .walks .now) ((c .before .before .before .before .before .before .before .before .before .before .before .before .before .before .before .args) .k) ((c .before .before .before .before .before .before .before .before .before .before .before .before .before .before .before .args) .most)) u ((c .before .before .before .before .before .before .before .before .before .before .before .before .before .before .before .args) .x)) (sym ((c .before .before .wide-number) .ensures)) ∙ sym ((c .before .stands-above) .ensures) ∙ not-true _ ((c .if1) .taken))
 
 sub-rank-2 : tie.Need-sub-rank-2 Inv-loop μ-loop
 sub-rank-2 c = inserting-low _ _ _ _ _ _ ((c .before .before .before .before .before .loop) .inv) .0
@@ -68,7 +68,7 @@ loop-less : tie.Need-loop-less Inv-loop μ-loop
 loop-less c = omega (arith, (c .before .before .before .before .loop-test) .taken)
 
 loop-again : tie.Need-loop-again Inv-loop μ-loop
-loop-again c = inserting-next _ _ _ _ _ _ ((c .before .before .before .before .before .loop) .inv) ((c .before .before .before .before .loop-test) .taken) _ refl (ap (λ u. aboveAt (lists ((c .before .before .before .before .before .before .before .before .before .before .before .before .before .before .before .args) .reference .now ++ (c .before .before .before .before .before .before .before .before .before .before .before .before .before .before .before .args) .bases .now) ((c .before .before .before .before .before .before .before .before .before .before .before .before .before .before .before .args) .vertices .now) ((c .before .before .before .before .before .before .before .before .before .before .before .before .before .before .before .args) .edges .now) ((c .before .before .before .before .before .before .before .before .before .before .before .before .before .before .before .args) .paths .now) ((c .before .before .before .before .before .before .before .before .before .before .before .before .before .before .before .args) .scores .now) ((c .before .before .before .before .before .before .before .before .before .before .before .before .before .before .before .args) .shut .now) ((c .before .before .before .before .before .before .before .before .before .before .before .before .before .before .before .args) .walks .now) ((c .before .before .before .before .before .before .before .before .before .before .before .before .before .before .before .args) .k) ((c .before .before .before .before .before .before .before .before .before .before .before .before .before .before .before .args) .most)) u ((c .before .before .before .before .before .before .before .before .before .before .before .before .before .before .before .args) .x)) (sym ((c .before .before .wide-number) .ensures)) ∙ sym ((c .before .stands-above) .ensures) ∙ not-false _ ((c .if1) .left))
+loop-again c = inserting-next _ _ _ _ _ _ ((c .before .before .before .before .before .loop) .inv) ((c .before .before .before .before .loop-test) .taken) _ refl (ap (λ u. aboveAt (lists ((c .before .before .before .before .before .before .before .before .before .before .before .before .before .before .before .args) .reference .now ++ (c .before .before .before .before .before .before .before .before .before .before .before .before .before .before .before .args) .bases .now) ((c .before .before .before .before .before .before .before .before .before .before .before .before .before .before .before .args) .vertices .now) ((c .before .before .before .before .before .before .before .before .before .before .before .before .before .before .before .args) .edges .now) ((c .before .before .before .before .before .before .before .before .before .before .before .before .before .before .before .args) .paths .now) ((c .before .before .before .before .before .before .before .before .before .before .before .before .before .before .before .args) .scores .now) ((c .before .before .before .before .before .before .before .before .before .before .before .before .before .before .before .args) .closed .now) ((c .before .before .before .before .before .before .before .before .before .before .before .before .before .before .before .args) .walks .now) ((c .before .before .before .before .before .before .before .before .before .before .before .before .before .before .before .args) .k) ((c .before .before .before .before .before .before .before .before .before .before .before .before .before .before .before .args) .most)) u ((c .before .before .before .before .before .before .before .before .before .before .before .before .before .before .before .args) .x)) (sym ((c .before .before .wide-number) .ensures)) ∙ sym ((c .before .stands-above) .ensures) ∙ not-false _ ((c .if1) .left))
 
 cast-rank-2 : tie.Need-cast-rank-2 Inv-loop μ-loop
 cast-rank-2 c = omega (arith, (c .before .before .before .before .before .before .before .before .before .before .before .pre) .1 .few, (c .before .before .before .before .before .before .before .before .before .before .before .pre) .1 .low)

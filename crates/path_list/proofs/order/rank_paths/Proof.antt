@@ -11,10 +11,10 @@ use lib.ListN.{length}
 use Rattle.path_list.specs.Ranks.{lists, aboveAt, Ranked, ranked-start, ranked-asks, ranked-next, ranked-end}
 
 abbrev Inv-loop : tie.InvT-loop
-Inv-loop reference bases vertices edges paths scores shut walks k most count rank₀ x₀ rank x = (length rank ≡ length rank₀) × Ranked (aboveAt (lists (reference ++ bases) vertices edges paths scores shut walks k most)) count x rank
+Inv-loop reference bases vertices edges paths scores closed walks k most count rank₀ x₀ rank x = (length rank ≡ length rank₀) × Ranked (aboveAt (lists (reference ++ bases) vertices edges paths scores closed walks k most)) count x rank
 
 abbrev μ-loop : tie.MeasureT-loop
-μ-loop reference bases vertices edges paths scores shut walks k most count rank₀ x₀ rank x = x
+μ-loop reference bases vertices edges paths scores closed walks k most count rank₀ x₀ rank x = x
 
 loop-holds : tie.Need-loop-holds Inv-loop μ-loop
 loop-holds c = (refl, ranked-start _ _ _ ((c .before .before .before .before .before .before .before .before .before .pre) .1))

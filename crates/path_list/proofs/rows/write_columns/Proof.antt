@@ -12,10 +12,10 @@ use Rattle.path_store.specs.declared.records.PathRecord.{PathRecord}
 use Rattle.path_list.specs.Rows.{ColumnsTo, known-at, known-inside, columns-start, columns-next, columns-end}
 
 abbrev Inv-loop : tie.InvT-loop
-Inv-loop paths scores shut rank count scored₀ closings₀ lengths₀ r₀ scored closings lengths r = ColumnsTo paths scores shut rank count r scored₀ closings₀ lengths₀ scored closings lengths
+Inv-loop paths scores closed rank count scored₀ closings₀ lengths₀ r₀ scored closings lengths r = ColumnsTo paths scores closed rank count r scored₀ closings₀ lengths₀ scored closings lengths
 
 abbrev μ-loop : tie.MeasureT-loop
-μ-loop paths scores shut rank count scored₀ closings₀ lengths₀ r₀ scored closings lengths r = count - r
+μ-loop paths scores closed rank count scored₀ closings₀ lengths₀ r₀ scored closings lengths r = count - r
 
 loop-holds : tie.Need-loop-holds Inv-loop μ-loop
 loop-holds c = columns-start _ _ _ _ _ _ _ _

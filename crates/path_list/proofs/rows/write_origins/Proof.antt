@@ -15,10 +15,10 @@ use Rattle.path_list.specs.Laid.{Laid, laid-start, laid-end}
 use Rattle.path_list.specs.Rows.{fieldsAt, known-at, known-inside, filed-row, filed-room, filed-asks, filed-next}
 
 abbrev Inv-loop : tie.InvT-loop
-Inv-loop edges paths scores shut walks rank most count field out₀ r₀ out r = (r ≤ count) × Laid most (fieldsAt edges paths shut walks most field rank) out₀ r out
+Inv-loop edges paths scores closed walks rank most count field out₀ r₀ out r = (r ≤ count) × Laid most (fieldsAt edges paths closed walks most field rank) out₀ r out
 
 abbrev μ-loop : tie.MeasureT-loop
-μ-loop edges paths scores shut walks rank most count field out₀ r₀ out r = count - r
+μ-loop edges paths scores closed walks rank most count field out₀ r₀ out r = count - r
 
 loop-holds : tie.Need-loop-holds Inv-loop μ-loop
 loop-holds c = (omega arith, laid-start _ _ _)

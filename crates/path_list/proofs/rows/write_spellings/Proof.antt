@@ -17,10 +17,10 @@ use Rattle.path_list.specs.Ranks.{lists}
 use Rattle.path_list.specs.Rows.{basesAt, known-at, known-inside, ready-known, spell-row, bases-room, bases-asks, bases-next}
 
 abbrev Inv-loop : tie.InvT-loop
-Inv-loop reference bases vertices edges paths scores shut walks rank k most count out₀ r₀ out r = (r ≤ count) × Laid (k + most) (basesAt (lists (reference ++ bases) vertices edges paths scores shut walks k most) rank) out₀ r out
+Inv-loop reference bases vertices edges paths scores closed walks rank k most count out₀ r₀ out r = (r ≤ count) × Laid (k + most) (basesAt (lists (reference ++ bases) vertices edges paths scores closed walks k most) rank) out₀ r out
 
 abbrev μ-loop : tie.MeasureT-loop
-μ-loop reference bases vertices edges paths scores shut walks rank k most count out₀ r₀ out r = count - r
+μ-loop reference bases vertices edges paths scores closed walks rank k most count out₀ r₀ out r = count - r
 
 loop-holds : tie.Need-loop-holds Inv-loop μ-loop
 loop-holds c = (omega arith, laid-start _ _ _)

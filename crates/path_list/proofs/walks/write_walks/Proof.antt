@@ -10,10 +10,10 @@ use Rattle.path_list.specs.Laid.{laid-start, laid-end}
 use Rattle.path_list.specs.Walked.{Walked, row-in, walk-asks, walked-next}
 
 abbrev Inv-loop : tie.InvT-loop
-Inv-loop paths scores only to shut count most walks₀ i₀ walks i = (i ≤ count) × Walked only to paths shut most i walks₀ walks
+Inv-loop paths scores index targets closed count most walks₀ i₀ walks i = (i ≤ count) × Walked index targets paths closed most i walks₀ walks
 
 abbrev μ-loop : tie.MeasureT-loop
-μ-loop paths scores only to shut count most walks₀ i₀ walks i = count - i
+μ-loop paths scores index targets closed count most walks₀ i₀ walks i = count - i
 
 loop-holds : tie.Need-loop-holds Inv-loop μ-loop
 loop-holds c = (omega arith, laid-start _ _ _)
@@ -25,13 +25,13 @@ mul-write-path : tie.Need-mul-write-path Inv-loop μ-loop
 mul-write-path c = omega arith
 
 shared-slice-read-write-path : tie.Need-shared-slice-read-write-path Inv-loop μ-loop
-shared-slice-read-write-path c = omega (arith, (c .before .before .before .before .before .before .before .before .before .before .pre) .shut-room, (c .before .before .loop-test) .taken)
+shared-slice-read-write-path c = omega (arith, (c .before .before .before .before .before .before .before .before .before .before .pre) .closed-room, (c .before .before .loop-test) .taken)
 
 write-path-requires : tie.Need-write-path-requires Inv-loop μ-loop
 write-path-requires c κs = walk-asks _ _ _ _ _ _ _ _ (c .before .before .before .before .before .before .before .before .before .before .pre) _ ((c .before .before .loop-test) .taken) _ ((c .before .before .before .loop) .inv .1 .size) _ refl
 
 add-i : tie.Need-add-i Inv-loop μ-loop
-add-i c = omega (arith, (c .before .before .before .before .before .before .before .before .before .before .before .before .before .pre) .shut-room, (c .before .before .before .before .before .loop-test) .taken)
+add-i c = omega (arith, (c .before .before .before .before .before .before .before .before .before .before .before .before .before .pre) .closed-room, (c .before .before .before .before .before .loop-test) .taken)
 
 loop-less : tie.Need-loop-less Inv-loop μ-loop
 loop-less c = omega (arith, (c .before .before .before .before .before .loop-test) .taken)

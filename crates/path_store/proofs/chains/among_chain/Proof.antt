@@ -10,10 +10,10 @@ use Rattle.path_store.specs.Steps.{Among, among-start, among-hit, among-
 use native.Mathlib.Omega.{arith}
 
 abbrev Inv-loop : tie.InvT-loop
-Inv-loop only to v n e u₀ left₀ u left = Among only to v n e u left
+Inv-loop index targets v n e u₀ left₀ u left = Among index targets v n e u left
 
 abbrev μ-loop : tie.MeasureT-loop
-μ-loop only to v n e u₀ left₀ u left = left
+μ-loop index targets v n e u₀ left₀ u left = left
 
 loop-holds : tie.Need-loop-holds Inv-loop μ-loop
 loop-holds c = among-start _ _ _ _ _ (c .before .before .pre .1) (c .before .before .pre .2)

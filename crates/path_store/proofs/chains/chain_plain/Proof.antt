@@ -10,10 +10,10 @@ use Rattle.path_store.specs.Steps.{Plainly, plain-start, plain-stop, pla
 use native.Mathlib.Omega.{arith}
 
 abbrev Inv-loop : tie.InvT-loop
-Inv-loop only to v limit u₀ i₀ u i = Plainly only to v limit u i
+Inv-loop index targets v limit u₀ i₀ u i = Plainly index targets v limit u i
 
 abbrev μ-loop : tie.MeasureT-loop
-μ-loop only to v limit u₀ i₀ u i = limit - i
+μ-loop index targets v limit u₀ i₀ u i = limit - i
 
 loop-holds : tie.Need-loop-holds Inv-loop μ-loop
 loop-holds c = plain-start _ _ _ _ (c .before .before .pre .1)

@@ -13,10 +13,10 @@ use Rattle.path_store.specs.Steps.{Slowly, slow-start, slow-stop, slow-h
 use native.Mathlib.Omega.{arith}
 
 abbrev Inv-loop : tie.InvT-loop
-Inv-loop only to v u₀ i₀ u i = Slowly only to v u i
+Inv-loop index targets v u₀ i₀ u i = Slowly index targets v u i
 
 abbrev μ-loop : tie.MeasureT-loop
-μ-loop only to v u₀ i₀ u i = length to - i
+μ-loop index targets v u₀ i₀ u i = length targets - i
 
 loop-holds : tie.Need-loop-holds Inv-loop μ-loop
 loop-holds c = slow-start _ _ _ (c .before .before .pre .1)

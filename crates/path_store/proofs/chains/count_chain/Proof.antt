@@ -10,10 +10,10 @@ use native.Mathlib.Omega.{arith}
 use borrow.Author.Needs.{needs}
 
 abbrev Inv-loop : tie.InvT-loop
-Inv-loop only to start c v u₀ left₀ n₀ u left n = Counting only to start c v u left n
+Inv-loop index targets start c v u₀ left₀ n₀ u left n = Counting index targets start c v u left n
 
 abbrev μ-loop : tie.MeasureT-loop
-μ-loop only to start c v u₀ left₀ n₀ u left n = left
+μ-loop index targets start c v u₀ left₀ n₀ u left n = left
 
 loop-holds : tie.Need-loop-holds Inv-loop μ-loop
 loop-holds c = counting-start _ _ _ _ _ (c .before .before .pre .1) (c .before .before .pre .2)

@@ -8,10 +8,10 @@ use Rattle.path_store.specs.Steps.{Walking, walking-start, walking-next,
 use native.Mathlib.Omega.{arith}
 
 abbrev Inv-loop : tie.InvT-loop
-Inv-loop only to v c u₀ left₀ u left = Walking only to v c u left
+Inv-loop index targets v c u₀ left₀ u left = Walking index targets v c u left
 
 abbrev μ-loop : tie.MeasureT-loop
-μ-loop only to v c u₀ left₀ u left = left
+μ-loop index targets v c u₀ left₀ u left = left
 
 loop-holds : tie.Need-loop-holds Inv-loop μ-loop
 loop-holds c = walking-start _ _ _ _ (c .before .before .pre .1) (c .before .before .pre .2)

@@ -9,10 +9,10 @@ use Rattle.path_store.specs.Steps.{Writing, writing-start, writing-next,
 use native.Mathlib.Omega.{arith}
 
 abbrev Inv-loop : tie.InvT-loop
-Inv-loop only to out₀ at start c u₀ left₀ i₀ out u left i = Writing only to out₀ at start c out i u left
+Inv-loop index targets out₀ at start c u₀ left₀ i₀ out u left i = Writing index targets out₀ at start c out i u left
 
 abbrev μ-loop : tie.MeasureT-loop
-μ-loop only to out₀ at start c u₀ left₀ i₀ out u left i = left
+μ-loop index targets out₀ at start c u₀ left₀ i₀ out u left i = left
 
 loop-holds : tie.Need-loop-holds Inv-loop μ-loop
 loop-holds c = writing-start _ _ _ _ _ _ (c .before .before .before .pre .1) (c .before .before .before .pre .2) (c .before .before .before .pre .3)

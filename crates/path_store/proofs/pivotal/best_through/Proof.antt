@@ -9,10 +9,10 @@ use native.Mathlib.Omega.{arith}
 use borrow.Author.Needs.{needs}
 
 abbrev Inv-loop : tie.InvT-loop
-Inv-loop paths scores only to source closed count v best₀ i₀ best i = Searching only to source paths scores v closed count i best
+Inv-loop paths scores index targets source closed count v best₀ i₀ best i = Searching index targets source paths scores v closed count i best
 
 abbrev μ-loop : tie.MeasureT-loop
-μ-loop paths scores only to source closed count v best₀ i₀ best i = count - i
+μ-loop paths scores index targets source closed count v best₀ i₀ best i = count - i
 
 loop-holds : tie.Need-loop-holds Inv-loop μ-loop
 loop-holds c = searching-start _ _ _ _ _ _ _ _ (c .before .before .before .before .before .pre)

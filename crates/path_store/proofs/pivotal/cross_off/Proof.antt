@@ -12,10 +12,10 @@ use Rattle.path_store.specs.Cross.{Crossing, crossing-start, crossing-la
 use native.Mathlib.Omega.{arith}
 
 abbrev Inv-loop : tie.InvT-loop
-Inv-loop paths scores only to marks₀ path r₀ p₀ l₀ marks r p l = Crossing only to paths (path + 1) path marks₀ marks r p l
+Inv-loop paths scores index targets marks₀ path r₀ p₀ l₀ marks r p l = Crossing index targets paths (path + 1) path marks₀ marks r p l
 
 abbrev μ-loop : tie.MeasureT-loop
-μ-loop paths scores only to marks₀ path r₀ p₀ l₀ marks r p l = r
+μ-loop paths scores index targets marks₀ path r₀ p₀ l₀ marks r p l = r
 
 path-at-requires : tie.Need-path-at-requires Inv-loop μ-loop
 path-at-requires c κs = inside _ _ _ _ _ (c .before .before .before .before .before .pre .0) _ (omega arith)

@@ -8,10 +8,10 @@ use Rattle.path_store.specs.Split.{Latest, latest-start, latest-next, la
 use native.Mathlib.Omega.{arith}
 
 abbrev Inv-loop : tie.InvT-loop
-Inv-loop walk n to v last₀ i₀ last i = Latest to v walk n i last
+Inv-loop walk n targets v last₀ i₀ last i = Latest targets v walk n i last
 
 abbrev μ-loop : tie.MeasureT-loop
-μ-loop walk n to v last₀ i₀ last i = n - i
+μ-loop walk n targets v last₀ i₀ last i = n - i
 
 loop-holds : tie.Need-loop-holds Inv-loop μ-loop
 loop-holds c = latest-start _ _ _ _

@@ -14,10 +14,10 @@ use native.Mathlib.Omega.{arith}
 use borrow.Author.Needs.{needs}
 
 abbrev Inv-loop : tie.InvT-loop
-Inv-loop paths scores only to source path v stops k₀ r₀ p₀ k r p = Upward only to source paths (path + 1) path v r p k
+Inv-loop paths scores index targets source path v stops k₀ r₀ p₀ k r p = Upward index targets source paths (path + 1) path v r p k
 
 abbrev μ-loop : tie.MeasureT-loop
-μ-loop paths scores only to source path v stops k₀ r₀ p₀ k r p = r
+μ-loop paths scores index targets source path v stops k₀ r₀ p₀ k r p = r
 
 stops-at-requires : tie.Need-stops-at-requires Inv-loop μ-loop
 stops-at-requires c κs = search needs

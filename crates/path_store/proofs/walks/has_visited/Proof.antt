@@ -11,10 +11,10 @@ use Prim.Native.Nat.{_-_}
 use native.Mathlib.Omega.{arith}
 
 abbrev Inv-loop : tie.InvT-loop
-Inv-loop paths scores only to source path v up₀ up = Visiting only to source paths path v up
+Inv-loop paths scores index targets source path v up₀ up = Visiting index targets source paths path v up
 
 abbrev μ-loop : tie.MeasureT-loop
-μ-loop paths scores only to source path v up₀ up = up
+μ-loop paths scores index targets source path v up₀ up = up
 
 add-up : tie.Need-add-up Inv-loop μ-loop
 add-up c = omega arith

@@ -22,7 +22,7 @@ shared-slice-read-result : tie.Need-shared-slice-read-result
 shared-slice-read-result c = omega (arith, c .before .if1 .left)
 
 returns-2 : tie.Need-returns-2
-returns-2 c = λ h. stop-at (c .before .before .before .before .args .only .now) (c .before .before .before .before .args .v) _ (c .before .before .wide .ensures .0) h
+returns-2 c = λ h. stop-at (c .before .before .before .before .args .index .now) (c .before .before .before .before .args .v) _ (c .before .before .wide .ensures .0) h
 
 pub stops-at-spec : {M : Type 1} → statement M
 stops-at-spec = tie.close (tie.spec wide-requires returns mul-result shared-slice-read-result returns-2)

@@ -11,10 +11,10 @@ use Rattle.path_store.specs.Path.{Filling, inside, filling-start, fillin
 use native.Mathlib.Omega.{arith}
 
 abbrev Inv-loop : tie.InvT-loop
-Inv-loop paths scores only to out₀ at path r₀ p₀ out r p = Filling only to paths (path + 1) path out₀ at out r p
+Inv-loop paths scores index targets out₀ at path r₀ p₀ out r p = Filling index targets paths (path + 1) path out₀ at out r p
 
 abbrev μ-loop : tie.MeasureT-loop
-μ-loop paths scores only to out₀ at path r₀ p₀ out r p = r
+μ-loop paths scores index targets out₀ at path r₀ p₀ out r p = r
 
 path-at-requires : tie.Need-path-at-requires Inv-loop μ-loop
 path-at-requires c κs = inside _ _ _ _ _ (c .before .before .before .before .before .pre .0) _ (omega arith)

@@ -12,10 +12,10 @@ use native.Mathlib.Omega.{arith}
 use borrow.Author.Needs.{needs}
 
 abbrev Inv-loop : tie.InvT-loop
-Inv-loop walk n to last out₀ from i₀ out i = Copying (baseOf to last) walk n out₀ from out i
+Inv-loop walk n targets last out₀ from i₀ out i = Copying (baseOf targets last) walk n out₀ from out i
 
 abbrev μ-loop : tie.MeasureT-loop
-μ-loop walk n to last out₀ from i₀ out i = n - i
+μ-loop walk n targets last out₀ from i₀ out i = n - i
 
 loop-holds : tie.Need-loop-holds Inv-loop μ-loop
 loop-holds c = copying-start _ _ _ _ _
