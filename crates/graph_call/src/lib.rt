@@ -129,33 +129,39 @@ fn refused(number: u32) -> GraphAnswer
 // ---- the work; w_v, w_e and w_n are the workspace's tables of vertices, edges and nodes, w_i its index of kmers, and w_o its open trees
 
 // All of the workspace becomes 0.
-fn clear_all(w_v: &mut [u32], w_e: &mut [u32], w_i: &mut [u32], w_n: &mut [u32], w_o: &mut [u32])
-    ensures { λ _. ⌜ Zeroed (now («w_v» .entry)) (now («w_v» .exit)) (now («w_e» .entry)) (now («w_e» .exit)) (now («w_i» .entry)) (now («w_i» .exit)) (now («w_n» .entry)) (now («w_n» .exit)) (now («w_o» .entry)) (now («w_o» .exit)) ⌝ }
+fn clear_all(
+    w_vertices: &mut [u32],
+    w_edges: &mut [u32],
+    w_index: &mut [u32],
+    w_nodes: &mut [u32],
+    w_open: &mut [u32],
+)
+    ensures { λ _. ⌜ Zeroed (now («w_vertices» .entry)) (now («w_vertices» .exit)) (now («w_edges» .entry)) (now («w_edges» .exit)) (now («w_index» .entry)) (now («w_index» .exit)) (now («w_nodes» .entry)) (now («w_nodes» .exit)) (now («w_open» .entry)) (now («w_open» .exit)) ⌝ }
 {
-    clear(w_v, w_v.len());
-    clear(w_e, w_e.len());
-    clear(w_i, w_i.len());
-    clear(w_n, w_n.len());
-    clear(w_o, w_o.len());
+    clear(w_vertices, w_vertices.len());
+    clear(w_edges, w_edges.len());
+    clear(w_index, w_index.len());
+    clear(w_nodes, w_nodes.len());
+    clear(w_open, w_open.len());
 }
 
 // The rows of edges and nodes, and how many; nothing can be refused any more.
 fn write_rows(
-    w_v: &mut [u32],
-    w_e: &[u32],
-    w_n: &[u32],
-    w_o: &mut [u32],
+    w_vertices: &mut [u32],
+    w_edges: &[u32],
+    w_nodes: &[u32],
+    w_open: &mut [u32],
     edges: &mut [u32],
     nodes: &mut [u32],
     b: Raise,
     cap: usize,
 ) -> GraphAnswer
-    requires { ⌜ Writes (now «w_v») (now «w_e») (now «w_n») (now «w_o») (now edges) (now nodes) b cap ⌝ }
-    ensures { λ r. ⌜ Wrote (now («w_e» .entry)) (now («w_n» .entry)) (now («w_o» .entry)) (now («w_o» .exit)) (now (edges .entry)) (now (edges .exit)) (now (nodes .entry)) (now (nodes .exit)) b r ⌝ }
+    requires { ⌜ Writes (now «w_vertices») (now «w_edges») (now «w_nodes») (now «w_open») (now edges) (now nodes) b cap ⌝ }
+    ensures { λ r. ⌜ Wrote (now («w_edges» .entry)) (now («w_nodes» .entry)) (now («w_open» .entry)) (now («w_open» .exit)) (now (edges .entry)) (now (edges .exit)) (now (nodes .entry)) (now (nodes .exit)) b r ⌝ }
 {
-    link_symbolic_edge(w_v, b.sink, b.edges);
-    write_edges(w_v, w_e, b.edges + 1, edges);
-    write_nodes(w_n, w_o, nodes, b.nodes, cap);
+    link_symbolic_edge(w_vertices, b.sink, b.edges);
+    write_edges(w_vertices, w_edges, b.edges + 1, edges);
+    write_nodes(w_nodes, w_open, nodes, b.nodes, cap);
     GraphAnswer {
         refusal: 0,
         edges: (b.edges + 1) as u32,
@@ -174,13 +180,13 @@ fn fill(
     maxima: GraphMaxima,
     edges: &mut [u32],
     nodes: &mut [u32],
-    w_v: &mut [u32],
-    w_e: &mut [u32],
-    w_i: &mut [u32],
-    w_n: &mut [u32],
-    w_o: &mut [u32],
+    w_vertices: &mut [u32],
+    w_edges: &mut [u32],
+    w_index: &mut [u32],
+    w_nodes: &mut [u32],
+    w_open: &mut [u32],
 ) -> GraphAnswer
-    requires { ⌜ Lent (sampleOf k quality (now reference) (now ends) (now bases) (now qualities)) (graphMaximaOf maxima) (now edges) (now nodes) (now «w_v») (now «w_e») (now «w_i») (now «w_n») (now «w_o») ⌝ }
+    requires { ⌜ Lent (sampleOf k quality (now reference) (now ends) (now bases) (now qualities)) (graphMaximaOf maxima) (now edges) (now nodes) (now «w_vertices») (now «w_edges») (now «w_index») (now «w_nodes») (now «w_open») ⌝ }
     ensures { λ r. ⌜ outcome r (now (edges .exit)) (now (nodes .exit)) ≡ graphOf (built (sampleOf k quality (now (reference .entry)) (now (ends .entry)) (now (bases .entry)) (now (qualities .entry))) (graphMaximaOf maxima)) (now (edges .entry)) (now (nodes .entry)) ⌝ }
 {
     let cap = maxima.nodes as usize;
@@ -192,16 +198,16 @@ fn fill(
         bases,
         qualities,
         maxima,
-        w_v,
-        w_e,
-        w_i,
-        w_n,
-        w_o,
+        w_vertices,
+        w_edges,
+        w_index,
+        w_nodes,
+        w_open,
     );
     let Raised::Graph(b) = r else {
         return refused(raise_refusal(r));
     };
-    write_rows(w_v, w_e, w_n, w_o, edges, nodes, b, cap)
+    write_rows(w_vertices, w_edges, w_nodes, w_open, edges, nodes, b, cap)
 }
 
 // The whole work over a workspace of just the lengths told: it may hold anything before, and is zero after.
@@ -215,16 +221,16 @@ fn make_graph(
     maxima: GraphMaxima,
     edges: &mut [u32],
     nodes: &mut [u32],
-    w_v: &mut [u32],
-    w_e: &mut [u32],
-    w_i: &mut [u32],
-    w_n: &mut [u32],
-    w_o: &mut [u32],
+    w_vertices: &mut [u32],
+    w_edges: &mut [u32],
+    w_index: &mut [u32],
+    w_nodes: &mut [u32],
+    w_open: &mut [u32],
 ) -> GraphAnswer
-    requires { ⌜ Lent (sampleOf k quality (now reference) (now ends) (now bases) (now qualities)) (graphMaximaOf maxima) (now edges) (now nodes) (now «w_v») (now «w_e») (now «w_i») (now «w_n») (now «w_o») ⌝ }
+    requires { ⌜ Lent (sampleOf k quality (now reference) (now ends) (now bases) (now qualities)) (graphMaximaOf maxima) (now edges) (now nodes) (now «w_vertices») (now «w_edges») (now «w_index») (now «w_nodes») (now «w_open») ⌝ }
     ensures { λ r. ⌜ (
         let sample = sampleOf k quality (now (reference .entry)) (now (ends .entry)) (now (bases .entry)) (now (qualities .entry)) in
-        Made sample (graphMaximaOf maxima) r (now (edges .entry)) (now (edges .exit)) (now (nodes .entry)) (now (nodes .exit)) (now («w_v» .entry)) (now («w_v» .exit)) (now («w_e» .entry)) (now («w_e» .exit)) (now («w_i» .entry)) (now («w_i» .exit)) (now («w_n» .entry)) (now («w_n» .exit)) (now («w_o» .entry)) (now («w_o» .exit))) ⌝ }
+        Made sample (graphMaximaOf maxima) r (now (edges .entry)) (now (edges .exit)) (now (nodes .entry)) (now (nodes .exit)) (now («w_vertices» .entry)) (now («w_vertices» .exit)) (now («w_edges» .entry)) (now («w_edges» .exit)) (now («w_index» .entry)) (now («w_index» .exit)) (now («w_nodes» .entry)) (now («w_nodes» .exit)) (now («w_open» .entry)) (now («w_open» .exit))) ⌝ }
 {
     let r = fill(
         k,
@@ -236,13 +242,13 @@ fn make_graph(
         maxima,
         edges,
         nodes,
-        w_v,
-        w_e,
-        w_i,
-        w_n,
-        w_o,
+        w_vertices,
+        w_edges,
+        w_index,
+        w_nodes,
+        w_open,
     );
-    clear_all(w_v, w_e, w_i, w_n, w_o);
+    clear_all(w_vertices, w_edges, w_index, w_nodes, w_open);
     r
 }
 

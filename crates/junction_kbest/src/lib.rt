@@ -65,7 +65,17 @@ fn extend_taken(
     requires { ⌜ ExtendsTaken g (now vertices) (now edges) (now nodes) (now index) (now targets) (now column) (now paths) (now scores) (now active) (now closed) (now marks) (now walks) p taken ⌝ }
     ensures { λ r. ⌜ TakenExtended g (now (vertices .entry)) (now (edges .entry)) (now (nodes .entry)) (now (index .entry)) (now (targets .entry)) (now (column .entry)) (now (paths .entry)) (now (scores .entry)) (now (active .entry)) (now (closed .entry)) (now (marks .entry)) p taken r (now (paths .exit)) (now (scores .exit)) (now (active .exit)) (now (closed .exit)) (now (marks .exit)) ⌝ }
 {
-    let a = add_junction_tree(vertices, nodes, index, targets, paths, scores, active, g, taken);
+    let a = add_junction_tree(
+        vertices,
+        nodes,
+        index,
+        targets,
+        paths,
+        scores,
+        active,
+        g,
+        taken,
+    );
     let PathAnswer::Made(_) = a else {
         return Step::Refused(path_refusal(a));
     };

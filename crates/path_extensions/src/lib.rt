@@ -170,7 +170,18 @@ fn extend_by_offer(
         guided: offers[row * OFFER + OFFER_GUIDED] != 0,
         free: false,
     };
-    extend_with_edges(edges, nodes, targets, paths, scores, active, g, taken, n, way)
+    extend_with_edges(
+        edges,
+        nodes,
+        targets,
+        paths,
+        scores,
+        active,
+        g,
+        taken,
+        n,
+        way,
+    )
 }
 
 // The same, but an extension that the repeat rule does not keep is given up: the next one takes its number.
@@ -300,7 +311,18 @@ fn extend_by_only_edge(
         guided: false,
         free: true,
     };
-    extend_with_edges(edges, nodes, targets, paths, scores, active, g, taken, n, way)
+    extend_with_edges(
+        edges,
+        nodes,
+        targets,
+        paths,
+        scores,
+        active,
+        g,
+        taken,
+        n,
+        way,
+    )
 }
 
 // What the fork offers the taken path, as rows; the answer is how many.

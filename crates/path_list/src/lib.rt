@@ -32,15 +32,15 @@ pub fn write_list(
     most: usize,
     walks: &mut [u32],
     rank: &mut [u16],
-    scored: &mut [f64],
-    closings: &mut [u32],
-    lengths: &mut [u32],
-    spellings: &mut [u8],
+    row_scores: &mut [f64],
+    row_closings: &mut [u32],
+    row_edges: &mut [u32],
+    out_bases: &mut [u8],
     sequences: &mut [u32],
     places: &mut [u32],
 )
-    requires { ⌜ Listable (now reference ++ now bases) (now vertices) (now edges) (now index) (now targets) (now paths) (now scores) (now closed) k most count (length (now walks)) (length (now rank)) (length (now scored)) (length (now closings)) (length (now lengths)) (length (now spellings)) (length (now sequences)) (length (now places)) ⌝ }
-    ensures { λ _. ⌜ Listed (now (reference .entry) ++ now (bases .entry)) (now (vertices .entry)) (now (edges .entry)) (now (index .entry)) (now (targets .entry)) (now (paths .entry)) (now (scores .entry)) (now (closed .entry)) k most count (now (scored .entry)) (now (closings .entry)) (now (lengths .entry)) (now (scored .exit)) (now (closings .exit)) (now (lengths .exit)) (now (spellings .entry)) (now (sequences .entry)) (now (places .entry)) (now (spellings .exit)) (now (sequences .exit)) (now (places .exit)) ⌝ }
+    requires { ⌜ Listable (now reference ++ now bases) (now vertices) (now edges) (now index) (now targets) (now paths) (now scores) (now closed) k most count (length (now walks)) (length (now rank)) (length (now «row_scores»)) (length (now «row_closings»)) (length (now «row_edges»)) (length (now «out_bases»)) (length (now sequences)) (length (now places)) ⌝ }
+    ensures { λ _. ⌜ Listed (now (reference .entry) ++ now (bases .entry)) (now (vertices .entry)) (now (edges .entry)) (now (index .entry)) (now (targets .entry)) (now (paths .entry)) (now (scores .entry)) (now (closed .entry)) k most count (now («row_scores» .entry)) (now («row_closings» .entry)) (now («row_edges» .entry)) (now («row_scores» .exit)) (now («row_closings» .exit)) (now («row_edges» .exit)) (now («out_bases» .entry)) (now (sequences .entry)) (now (places .entry)) (now («out_bases» .exit)) (now (sequences .exit)) (now (places .exit)) ⌝ }
 {
     write_walks(paths, scores, index, targets, closed, count, most, walks);
     rank_paths(
@@ -57,7 +57,16 @@ pub fn write_list(
         count,
         rank,
     );
-    write_columns(paths, scores, closed, rank, count, scored, closings, lengths);
+    write_columns(
+        paths,
+        scores,
+        closed,
+        rank,
+        count,
+        row_scores,
+        row_closings,
+        row_edges,
+    );
     write_spellings(
         reference,
         bases,
@@ -71,7 +80,7 @@ pub fn write_list(
         k,
         most,
         count,
-        spellings,
+        out_bases,
     );
     write_origins(
         edges,

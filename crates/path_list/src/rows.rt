@@ -18,20 +18,20 @@ pub fn write_columns(
     closed: &[u32],
     rank: &[u16],
     count: usize,
-    scored: &mut [f64],
-    closings: &mut [u32],
-    lengths: &mut [u32],
+    row_scores: &mut [f64],
+    row_closings: &mut [u32],
+    row_edges: &mut [u32],
 )
-    requires { ⌜ Placed count (now rank) × Known (now paths) (now scores) (now closed) count × (count ≤ length (now scored)) × (count ≤ length (now closings)) × (count ≤ length (now lengths)) ⌝ }
-    ensures { λ _. ⌜ Columns (now (paths .entry)) (now (scores .entry)) (now (closed .entry)) (now (rank .entry)) count (now (scored .entry)) (now (closings .entry)) (now (lengths .entry)) (now (scored .exit)) (now (closings .exit)) (now (lengths .exit)) ⌝ }
+    requires { ⌜ Placed count (now rank) × Known (now paths) (now scores) (now closed) count × (count ≤ length (now «row_scores»)) × (count ≤ length (now «row_closings»)) × (count ≤ length (now «row_edges»)) ⌝ }
+    ensures { λ _. ⌜ Columns (now (paths .entry)) (now (scores .entry)) (now (closed .entry)) (now (rank .entry)) count (now («row_scores» .entry)) (now («row_closings» .entry)) (now («row_edges» .entry)) (now («row_scores» .exit)) (now («row_closings» .exit)) (now («row_edges» .exit)) ⌝ }
 {
     let mut r: usize = 0;
     while r < count {
         let i = rank[r] as u32;
         let row = path_at(paths, scores, at(closed, i));
-        scored[r] = row.score;
-        closings[r] = i + 1;
-        lengths[r] = row.edges;
+        row_scores[r] = row.score;
+        row_closings[r] = i + 1;
+        row_edges[r] = row.edges;
         r += 1;
     }
 }

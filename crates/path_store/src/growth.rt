@@ -78,7 +78,13 @@ pub fn start_path(paths: &mut [u32], scores: &mut [f64], source: u32)
 }
 
 // The chain after a path.
-pub fn follow_chain(paths: &[u32], scores: &[f64], index: &[u32], targets: &[u32], path: u32) -> Taken
+pub fn follow_chain(
+    paths: &[u32],
+    scores: &[f64],
+    index: &[u32],
+    targets: &[u32],
+    path: u32,
+) -> Taken
     requires { ⌜ Table (now index) (now targets) (now paths) (now scores) (path + 1) ⌝ }
     ensures { λ r. ⌜ Following (now (index .entry)) (now (targets .entry)) (now (paths .entry)) path r ⌝ }
 {

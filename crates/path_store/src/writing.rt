@@ -10,7 +10,14 @@ use crate::chains::at;
 use crate::chains::wide;
 
 // The last base of the target of each of the first n edges of a walk, from the place `from` on; `last` has each vertex's last base. (path_bases)
-pub fn write_bases(walk: &[u32], n: usize, targets: &[u32], last: &[u8], out: &mut [u8], from: usize)
+pub fn write_bases(
+    walk: &[u32],
+    n: usize,
+    targets: &[u32],
+    last: &[u8],
+    out: &mut [u8],
+    from: usize,
+)
     requires { ⌜ (n ≤ length (now walk)) × ((i : ℕ) → i < n → getD (now walk) i 0 < length (now targets)) × ((e : ℕ) → e < length (now targets) → getD (now targets) e 0 < length (now last)) × (from + n ≤ length (now out)) ⌝ }
     ensures { λ _. ⌜ now (out .exit) ≡ sets (now (out .entry)) from (map (baseOf (now (targets .entry)) (now (last .entry))) (take n (now (walk .entry)))) ⌝ }
 {

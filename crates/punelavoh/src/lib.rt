@@ -28,17 +28,17 @@ ghost use Rattle.punelavoh.specs.Records.{ColumnsFit, Cleared, ListCalle
 fn clear_columns(
     settings: Settings,
     r: ListAnswer,
-    scores: &mut [f64],
-    closings: &mut [u32],
-    edges: &mut [u32],
+    row_scores: &mut [f64],
+    row_closings: &mut [u32],
+    row_edges: &mut [u32],
 )
-    requires { ⌜ ColumnsFit (columnsTold (r .refusal) (settings .asked)) (now scores) (now closings) (now edges) ⌝ }
-    ensures { λ _. ⌜ Cleared (columnsTold (r .refusal) (settings .asked)) (now (scores .entry)) (now (scores .exit)) (now (closings .entry)) (now (closings .exit)) (now (edges .entry)) (now (edges .exit)) ⌝ }
+    requires { ⌜ ColumnsFit (columnsTold (r .refusal) (settings .asked)) (now «row_scores») (now «row_closings») (now «row_edges») ⌝ }
+    ensures { λ _. ⌜ Cleared (columnsTold (r .refusal) (settings .asked)) (now («row_scores» .entry)) (now («row_scores» .exit)) (now («row_closings» .entry)) (now («row_closings» .exit)) (now («row_edges» .entry)) (now («row_edges» .exit)) ⌝ }
 {
     let n = columns_told(settings, r);
-    clear_scores(scores, n);
-    clear(closings, n);
-    clear(edges, n);
+    clear_scores(row_scores, n);
+    clear(row_closings, n);
+    clear(row_edges, n);
 }
 
 // ---- for C and Rust

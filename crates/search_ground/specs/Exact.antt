@@ -44,6 +44,6 @@ module _ (es : List ℕ) (m : ℕ) where
           edges-fit = a .edges-fit;
           good = good-front (λ j h. exact-field j 0 (omega arith) (omega arith)) (λ j h. exact-field j 1 (omega arith) (omega arith)) (a .good);
           from = exact-field m 0 (omega arith) (omega arith) ∙ a .from;
-          targets = exact-field m 1 (omega arith) (omega arith) ∙ a .to;
+          to = exact-field m 1 (omega arith) (omega arith) ∙ a .to;
           supports = λ i h. rw (exact-field i 2 (omega arith) (omega arith)) (a .supports i h);
         }

@@ -32,7 +32,13 @@ pub fn search_setting(a: Settings, b: Raise) -> Setting
 }
 
 // The symbolic edge joins the out-edges, and the tables of the chains are filled.
-pub fn lay_chains(b: Raise, vertices: &mut [u32], edges: &[u32], index: &mut [u32], targets: &mut [u32])
+pub fn lay_chains(
+    b: Raise,
+    vertices: &mut [u32],
+    edges: &[u32],
+    index: &mut [u32],
+    targets: &mut [u32],
+)
     requires { ⌜ Chains (now vertices) (now edges) (now index) (now targets) b ⌝ }
     ensures { λ _. ⌜ Chained (now (vertices .entry)) (now (edges .entry)) b (now (vertices .exit)) (now (index .exit)) (now (targets .exit)) ⌝ }
 {

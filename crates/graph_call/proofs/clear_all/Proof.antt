@@ -35,7 +35,7 @@ same-length-5 : tie.Need-same-length-5
 same-length-5 c = search needs
 
 returns : tie.Need-returns
-returns c = record { w-vertices = cleared (c .before .before .before .before .before .before .before .before .before .before .before .before .before .before .before .before .before .before .before .before .before .before .before .before .before .args .w-v .now) _ (c .before .before .before .before .before .before .before .before .before .before .before .before .before .before .before .before .before .before .clear .ensures); w-edges = cleared (c .before .before .before .before .before .before .before .before .before .before .before .before .before .before .before .before .before .before .before .before .before .before .before .before .before .args .w-e .now) _ (c .before .before .before .before .before .before .before .before .before .before .before .before .before .before .clear2 .ensures); w-index = cleared (c .before .before .before .before .before .before .before .before .before .before .before .before .before .before .before .before .before .before .before .before .before .before .before .before .before .args .w-i .now) _ (c .before .before .before .before .before .before .before .before .before .before .clear3 .ensures); w-nodes = cleared (c .before .before .before .before .before .before .before .before .before .before .before .before .before .before .before .before .before .before .before .before .before .before .before .before .before .args .w-n .now) _ (c .before .before .before .before .before .before .clear4 .ensures); w-open = cleared (c .before .before .before .before .before .before .before .before .before .before .before .before .before .before .before .before .before .before .before .before .before .before .before .before .before .args .w-o .now) _ (c .before .before .clear5 .ensures) }
+returns c = record { w-vertices = cleared (c .before .before .before .before .before .before .before .before .before .before .before .before .before .before .before .before .before .before .before .before .before .before .before .before .before .args .w-vertices .now) _ (c .before .before .before .before .before .before .before .before .before .before .before .before .before .before .before .before .before .before .clear .ensures); w-edges = cleared (c .before .before .before .before .before .before .before .before .before .before .before .before .before .before .before .before .before .before .before .before .before .before .before .before .before .args .w-edges .now) _ (c .before .before .before .before .before .before .before .before .before .before .before .before .before .before .clear2 .ensures); w-index = cleared (c .before .before .before .before .before .before .before .before .before .before .before .before .before .before .before .before .before .before .before .before .before .before .before .before .before .args .w-index .now) _ (c .before .before .before .before .before .before .before .before .before .before .clear3 .ensures); w-nodes = cleared (c .before .before .before .before .before .before .before .before .before .before .before .before .before .before .before .before .before .before .before .before .before .before .before .before .before .args .w-nodes .now) _ (c .before .before .before .before .before .before .clear4 .ensures); w-open = cleared (c .before .before .before .before .before .before .before .before .before .before .before .before .before .before .before .before .before .before .before .before .before .before .before .before .before .args .w-open .now) _ (c .before .before .clear5 .ensures) }
 
 pub clear-all-spec : {M : Type 1} → statement M
 clear-all-spec =

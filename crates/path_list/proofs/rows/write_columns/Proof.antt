@@ -12,10 +12,10 @@ use Rattle.path_store.specs.declared.records.PathRecord.{PathRecord}
 use Rattle.path_list.specs.Rows.{ColumnsTo, known-at, known-inside, columns-start, columns-next, columns-end}
 
 abbrev Inv-loop : tie.InvT-loop
-Inv-loop paths scores closed rank count scored₀ closings₀ lengths₀ r₀ scored closings lengths r = ColumnsTo paths scores closed rank count r scored₀ closings₀ lengths₀ scored closings lengths
+Inv-loop paths scores closed rank count row_scores₀ row_closings₀ row_edges₀ r₀ row_scores row_closings row_edges r = ColumnsTo paths scores closed rank count r row_scores₀ row_closings₀ row_edges₀ row_scores row_closings row_edges
 
 abbrev μ-loop : tie.MeasureT-loop
-μ-loop paths scores closed rank count scored₀ closings₀ lengths₀ r₀ scored closings lengths r = count - r
+μ-loop paths scores closed rank count row_scores₀ row_closings₀ row_edges₀ r₀ row_scores row_closings row_edges r = count - r
 
 loop-holds : tie.Need-loop-holds Inv-loop μ-loop
 loop-holds c = columns-start _ _ _ _ _ _ _ _
@@ -48,7 +48,7 @@ mul-closings : tie.Need-mul-closings Inv-loop μ-loop
 mul-closings c = omega (arith, (c .before .before .before .before .before .before .before .before .before .before .before .before .pre) .0 .few, (c .before .before .before .loop-test) .taken)
 
 slice-write-closings : tie.Need-slice-write-closings Inv-loop μ-loop
-slice-write-closings c = omega (arith, (c .before .before .before .before .loop) .inv .closings .long, (c .before .before .before .before .before .before .before .before .before .before .before .before .pre) .3, (c .before .before .before .loop-test) .taken)
+slice-write-closings c = omega (arith, (c .before .before .before .before .loop) .inv .row_closings .long, (c .before .before .before .before .before .before .before .before .before .before .before .before .pre) .3, (c .before .before .before .loop-test) .taken)
 
 mul-lengths : tie.Need-mul-lengths Inv-loop μ-loop
 mul-lengths c = omega (arith, (c .before .before .before .before .before .before .before .before .before .before .before .before .pre) .0 .few, (c .before .before .before .loop-test) .taken)
@@ -69,7 +69,7 @@ same-length : tie.Need-same-length Inv-loop μ-loop
 same-length c = (c .before .loop) .inv .scores .long
 
 same-length-2 : tie.Need-same-length-2 Inv-loop μ-loop
-same-length-2 c = (c .before .loop) .inv .closings .long
+same-length-2 c = (c .before .loop) .inv .row_closings .long
 
 same-length-3 : tie.Need-same-length-3 Inv-loop μ-loop
 same-length-3 c = (c .before .loop) .inv .edges .long
