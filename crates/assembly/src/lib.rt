@@ -3,6 +3,8 @@
 // edge's number plus 1, or 0; 8 the kmer's place; 9 how many edges enter; 10 one of those, plus 1; 11 for the slot of its tree's root, written by the evidence walk. Slot 4, which no base has, is for the symbolic edge.
 // edges, in the order of birth, 6 numbers each: from, to, support, mark, the origin's sequence and place.
 // index, by which a kmer is found: its first half holds for each bucket the last vertex of it, its second half for each vertex the last before it of its bucket; each a vertex's number plus 1, or 0.
+use tables::EDGE;
+use tables::VERTEX;
 ghost use mathlib.Core.Path.{_≡_};
 ghost use mathlib.Core.List.{_++_};
 ghost use Prim.Native.Nat.{ℕ, _+_, _-_, _*_, _^_, _<_, _≤_};
@@ -22,9 +24,7 @@ ghost use Rattle.assembly.specs.Degrees.{one, filled};
 ghost use Rattle.assembly.specs.Paths.{basesOf, Spells};
 ghost use Rattle.assembly.specs.Sorted.{Orders, Ordered};
 
-// A vertex's record; the evidence walk writes the slot of its tree's root.
-pub const VERTEX: usize = 12;
-
+// Where the fields of a vertex stand; the evidence walk writes the slot of its tree's root.
 pub const ROOT: usize = 11;
 
 const SYMBOLIC: usize = 4;
@@ -35,16 +35,14 @@ const INS: usize = 9;
 
 const INTO: usize = 10;
 
-// An edge's record, and where its ends stand.
-pub const EDGE: usize = 6;
-
+// Where the fields of an edge stand: its ends, which others read too,
 pub const FROM: usize = 0;
 
 pub const TO: usize = 1;
 
-const SUPPORT: usize = 2;
+pub const SUPPORT: usize = 2;
 
-const MARK: usize = 3;
+pub const MARK: usize = 3;
 
 // Where an edge's origin stands.
 pub const SEQUENCE: usize = 4;

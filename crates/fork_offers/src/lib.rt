@@ -4,6 +4,7 @@ use assembly::edge_is_ref;
 use assembly::edge_support;
 use assembly::next_out;
 use assembly::wide;
+use tables::OFFER;
 use threading_tree::child_slot;
 use threading_tree::edge_from;
 use threading_tree::edge_to;
@@ -253,8 +254,6 @@ fn best_branch(
 // ---- the rows of the offers
 
 // A row has the edge's number, the count, the total, and 1 where a tree offers it.
-pub const OFFER: usize = 4;
-
 pub const OFFER_EDGE: usize = 0;
 
 pub const OFFER_COUNT: usize = 1;

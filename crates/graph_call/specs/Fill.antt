@@ -5,12 +5,13 @@ use Prim.Native.Nat.{ℕ, _+_, _*_, _≤_}
 use native.Mathlib.Omega.{arith}
 use lib.ListN.{length}
 use Rattle.definition.specs.Refusal.{Result, refused}
-use Rattle.definition.specs.Limits.{Sample, GraphMaxima}
+use Rattle.definition.specs.Limits.{Sample, GraphMaxima, edgeWidth}
 use Rattle.definition.specs.Threading.{threaded, withSymbolic}
 use Rattle.definition.specs.Evidence.{nodes, evidence}
 use Rattle.definition.specs.Building.{Built, built}
 use Rattle.definition.specs.Calls.{GraphOutcome, graphOf, writtenAt, flat, edgeRow, nodeRow}
-use Rattle.assembly.specs.Fields.{HasVertex}
+use Rattle.assembly.specs.Fields.{HasVertex, HasVertices}
+use Rattle.tables.specs.Widths.{edgeNumbers, openNumbers}
 use Rattle.assembly.specs.Table.{length-table}
 use Rattle.assembly.specs.Store.{edgeAt, edgesOf}
 use Rattle.assembly.specs.Sorted.{Orders}
@@ -33,7 +34,7 @@ pub record Writes (wv we wx wo es ns : List ℕ) (b : Raise) (cap : ℕ) : Type 
   pub few : b .edges + 1 ≤ 8192
   pub many : b .nodes ≤ 16384
   pub orders : Orders (linked wv (b .sink) (b .edges)) we es (b .edges + 1)
-  pub long : (b .edges + 1) * 6 ≤ length es
+  pub long : (b .edges + 1) * edgeWidth ≤ length es
   pub nodes : Writable cap (b .nodes) wx wo ns
 
 pub record Wrote (we wx wo wo' es es' ns ns' : List ℕ) (b : Raise) (r : GraphAnswer) : Type 0 where
@@ -42,7 +43,7 @@ pub record Wrote (we wx wo wo' es es' ns ns' : List ℕ) (b : Raise) (r : GraphA
   pub nodes : Written (b .nodes) wx wo wo' ns ns'
 
 pub edges-ask : {wv we wx wo es ns : List ℕ} {b : Raise} {cap : ℕ} (vs : List ℕ) → Writes wv we wx wo es ns b cap → vs ≡ linked wv (b .sink) (b .edges)
-    → Orders vs we es (b .edges + 1) × ((b .edges + 1) * 6 ≤ length es)
+    → Orders vs we es (b .edges + 1) × ((b .edges + 1) * edgeWidth ≤ length es)
 edges-ask vs w e = rw e (w .orders, w .long)
 
 -- ---- the whole
@@ -69,7 +70,7 @@ module _ {s : Sample} {m : GraphMaxima} {es ns wv we wi wx wo : List ℕ} (x : L
       raised : RaisedAt s m vs es₁ xs os b
       raised = rw d at h
 
-      room-v : b .vertices * 12 ≤ length vs
+      room-v : HasVertices vs (b .vertices)
       room-v = let l = x .w-vertices in let f = raised .at .vertices-fit in let q = lv in omega arith
 
       pub fill-writes : Writes vs es₁ xs os es ns b (m .nodes)
@@ -80,8 +81,8 @@ module _ {s : Sample} {m : GraphMaxima} {es ns wv we wi wx wo : List ℕ} (x : L
           let f = edges-few m (x .maxima) in
           let l = x .edges in
           let ln = x .nodes in
-          let le' : length es₁ ≡ m .edges * 6 = le ∙ x .w-edges in
-          let lo' : length os ≡ m .nodes * 2 = lo ∙ x .w-open in
+          let le' : length es₁ ≡ edgeNumbers (m .edges) = le ∙ x .w-edges in
+          let lo' : length os ≡ openNumbers (m .nodes) = lo ∙ x .w-open in
           let rv = room-v in
           let si = at .inside in
           let k = there .fits in

@@ -5,7 +5,7 @@ use mathlib.Core.List.{List, [], _∷_}
 use Prim.Native.Nat.{ℕ, _*_, _≤_}
 use lib.ListN.{length}
 use Rattle.definition.specs.Refusal.{firstBroken}
-use Rattle.definition.specs.Limits.{Sample, GraphMaxima, sampleRules, graphMaximaFit, searchMaximaFit, settingsFit, longEnough, graphTold, toldEdges, toldNodes}
+use Rattle.definition.specs.Limits.{Sample, GraphMaxima, sampleRules, graphMaximaFit, searchMaximaFit, settingsFit, longEnough, graphTold, toldEdges, toldNodes, edgeWidth, nodeWidth}
 use Rattle.limits.specs.Workspaces.{vertexTable, edgeTable, kmerIndex, nodeTable, openTrees}
 use Rattle.limits.specs.declared.Workspace.{Workspace}
 use Rattle.limits.specs.declared.LengthsTold.{LengthsTold}
@@ -37,8 +37,8 @@ told-within k m h =
 
 -- each slice is as long as told
 pub record Long (m : GraphMaxima) (es ns wv we wi wx wo : ℕ) : Type 0 where
-  pub edges : m .edges * 6 ≤ es
-  pub nodes : m .nodes * 4 ≤ ns
+  pub edges : m .edges * edgeWidth ≤ es
+  pub nodes : m .nodes * nodeWidth ≤ ns
   pub w-vertices : vertexTable m ≤ wv
   pub w-edges : edgeTable m ≤ we
   pub w-index : kmerIndex m ≤ wi
@@ -69,8 +69,8 @@ pub record Room (t : Workspace) (wv we wi wx wo : List ℕ) : Type 0 where
 pub record Lent (s : Sample) (m : GraphMaxima) (es ns wv we wi wx wo : List ℕ) : Type 0 where
   pub rules : firstBroken (sampleRules s) ≡ 0
   pub maxima : graphMaximaFit m ≡ true
-  pub edges : m .edges * 6 ≤ length es
-  pub nodes : m .nodes * 4 ≤ length ns
+  pub edges : m .edges * edgeWidth ≤ length es
+  pub nodes : m .nodes * nodeWidth ≤ length ns
   pub w-vertices : length wv ≡ vertexTable m
   pub w-edges : length we ≡ edgeTable m
   pub w-index : length wi ≡ kmerIndex m

@@ -10,7 +10,7 @@ use Rattle.laws.specs.Records.{putFrom, length-putFrom}
 use Rattle.laws.specs.ListLaws.{length-nil}
 use Rattle.definition.specs.Threading.{Edge}
 use Rattle.definition.specs.Calls.{writtenAt, flat, edgeRow}
-use Rattle.assembly.specs.Fields.{HasVertex, outEdge, HasEdges, HasEdge, edgeTo}
+use Rattle.assembly.specs.Fields.{HasVertex, vertexEnd, outEdge, HasEdges, HasEdge, edgeTo}
 use Rattle.assembly.specs.Table.{length-table}
 use Rattle.assembly.specs.Store.{edgeAt, edgesOf}
 use Rattle.assembly.specs.Outs.{Nexts, Slots, Names}
@@ -52,9 +52,9 @@ module _ {vs es out : List ℕ} {m : ℕ} (x : Orders vs es out m × (HasEdges o
     module _ (l : p < m) where
       -- while edges are left there is a vertex to look at
       pub list-v : HasVertex vs v
-      list-v = go (decLt (length vs) (v * 12 + 12))
+      list-v = go (decLt (length vs) (vertexEnd v))
         where
-          go : Dec (length vs < v * 12 + 12) → HasVertex vs v
+          go : Dec (length vs < vertexEnd v) → HasVertex vs v
           go (yes h) = absurd (let e = ap length (rest-end es m v t (λ i k. (let z = x .0 .from-in i k in omega arith))) in let w = fits in omega arith)
           go (no h) = omega arith
 

@@ -1,6 +1,13 @@
 // The rows of the edges, straight into the slice that the caller lent; and the clearing of workspace.
+use assembly::FROM;
+use assembly::MARK;
+use assembly::PLACE;
+use assembly::SEQUENCE;
+use assembly::SUPPORT;
+use assembly::TO;
 use assembly::edge_to;
 use assembly::next_out;
+use tables::EDGE;
 ghost use mathlib.Core.Path.{_≡_};
 ghost use mathlib.Core.Bool.{not, cond};
 ghost use Prim.Native.Nat.{_+_, _*_, _≤_};
@@ -11,20 +18,6 @@ ghost use Rattle.definition.specs.Calls.{writtenAt, flat, edgeRow};
 ghost use Rattle.assembly.specs.Fields.{HasEdges, HasEdge};
 ghost use Rattle.assembly.specs.Store.{edgeAt, edgesOf};
 ghost use Rattle.assembly.specs.Sorted.{Orders};
-
-const EDGE: usize = 6;
-
-const FROM: usize = 0;
-
-const TO: usize = 1;
-
-const SUPPORT: usize = 2;
-
-const MARK: usize = 3;
-
-const SEQUENCE: usize = 4;
-
-const PLACE: usize = 5;
 
 // The mark as a row has it: 1 for any that is set.
 fn flag(mark: u32) -> u32

@@ -18,7 +18,7 @@ use Rattle.definition.specs.Threading.{Ends, leaving}
 use Rattle.definition.specs.Evidence.{Branches, hasBranch, treeAt}
 use Rattle.definition.specs.Search.{SearchInput, Path, State, Made, broken, made, joinTree, closeAt, extensions, extendAt}
 use Rattle.path_store.specs.declared.growth.Taken.{Taken}
-use Rattle.path_store.specs.Cells.{sinceOf}
+use Rattle.path_store.specs.Cells.{HasPaths, sinceOf}
 use Rattle.path_store.specs.Grow.{Following}
 use Rattle.search_state.specs.declared.Setting.{Setting}
 use Rattle.search_state.specs.declared.Progress.{Progress}
@@ -40,7 +40,7 @@ use Rattle.junction_kbest.specs.Turn.{join-fails, close-fails, extend-fa
 
 -- there is room for a closed path and eight extensions
 pub record Roomy (g : Setting) (t : List ℕ) (sc : List Float) (ac closed : List ℕ) (p : Progress) : Type 0 where
-  pub paths : (p .records + 9) * 9 ≤ length t
+  pub paths : HasPaths t (p .records + 9)
   pub scores : p .records + 9 ≤ length sc
   pub actives : (p .records + 9) * g .active ≤ length ac
   pub number : p .records + 9 < 2147483648

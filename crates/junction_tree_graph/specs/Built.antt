@@ -18,7 +18,8 @@ use Rattle.definition.specs.Refusal.{Rule, firstBroken}
 use Rattle.definition.specs.Limits.{Sample, kFits, referenceFits, isBase, referenceBases, rising, endsFit, readsFit, sampleRules}
 use Rattle.definition.specs.Stretch.{kmers, stretches}
 use Rattle.definition.specs.Threading.{Graph, put, numberOf, thread, threadAll, threaded, lastPlace, sinkOf, symbolicOf, withSymbolic}
-use Rattle.assembly.specs.Fields.{HasVertices, vertexNumbers, kmerPlace, HasEdges, HasEdge, edgeNumbers, edgeFrom, edgeTo, edgeSupport}
+use Rattle.assembly.specs.Fields.{HasVertices, kmerPlace, HasEdges, HasEdge, edgeFrom, edgeTo, edgeSupport}
+use Rattle.tables.specs.Widths.{vertexNumbers, edgeNumbers}
 use Rattle.assembly.specs.Table.{table-0, length-table}
 use Rattle.assembly.specs.Store.{edgeAt, edgesOf, kmersOf, graphOf, Good, good-distinct}
 use Rattle.assembly.specs.Moves.{addedE, addedE-row}

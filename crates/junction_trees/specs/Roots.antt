@@ -6,7 +6,7 @@ use native.Mathlib.Omega.{arith}
 use native.Mathlib.Decide.{ℕ-discrete, decLt}
 use lib.ListN.{length, length-set}
 use Rattle.laws.specs.Records.{field-same, field-other, row-other}
-use Rattle.assembly.specs.Fields.{HasVertices, HasVertex, outEdge, treeRoot, putTreeRoot, edgeFrom, edgeTo}
+use Rattle.assembly.specs.Fields.{HasVertices, HasVertex, outEdge, treeRoot, rootCell, putTreeRoot, edgeFrom, edgeTo}
 use Rattle.assembly.specs.Index.{Finding}
 use Rattle.assembly.specs.Store.{graphOf, kmersOf, lastOf, code, code-lt, Good}
 use Rattle.assembly.specs.Moves.{kmers-same}
@@ -29,7 +29,7 @@ kept-on p q = record { size = q .size ∙ p .size; other = λ v c h. q .other v 
 pub kept-put : (n : ℕ) (vs : List ℕ) (v x : ℕ) → v < n → Kept n vs (putTreeRoot vs v x)
 kept-put n vs v x h =
     record {
-      size = length-set vs (v * 12 + 11) x;
+      size = length-set vs (rootCell v) x;
       other = λ u c l. field-other vs 12 v 11 x u c (omega arith) (omega arith) (omega arith);
       beyond = λ u l. row-other vs 12 v 11 x u 11 (omega arith) (omega arith) (omega arith);
     }

@@ -17,7 +17,8 @@ use Rattle.definition.specs.Limits.{Sample, sampleRules}
 use Rattle.definition.specs.Stretch.{stretches}
 use Rattle.definition.specs.Threading.{Graph, threaded, symbolicOf, withSymbolic}
 use Rattle.definition.specs.Evidence.{evidence, nodes}
-use Rattle.assembly.specs.Fields.{HasVertices, vertexNumbers, edgeNumbers}
+use Rattle.assembly.specs.Fields.{HasVertices}
+use Rattle.tables.specs.Widths.{vertexNumbers, edgeNumbers}
 use Rattle.assembly.specs.Store.{graphOf}
 use Rattle.assembly.specs.Kmers.{length-of}
 use Rattle.junction_tree_graph.specs.declared.Built.{Built}

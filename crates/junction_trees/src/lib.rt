@@ -2,7 +2,6 @@
 // has opened. The trees and the active trees of a walk are the tables of `threading_tree`; the slot of a vertex's root is field 11 of its record, which
 // the graph does not use.
 use assembly::ROOT;
-use assembly::VERTEX;
 use assembly::byte_at;
 use assembly::edge_to;
 use assembly::find_kmer;
@@ -12,6 +11,7 @@ use assembly::wide;
 use junction_tree_graph::Built;
 use junction_tree_graph::run_end;
 use junction_tree_graph::wide_byte;
+use tables::VERTEX;
 use threading_tree::Grown;
 use threading_tree::Joined;
 use threading_tree::ThreadingState;

@@ -1,26 +1,27 @@
 -- How many elements each workspace slice is told: one definition for each table.
 use Prim.Native.Nat.{ℕ, _+_, _*_, max}
+use Rattle.tables.specs.Widths.{vertexNumbers, edgeNumbers, kmerNumbers, nodeNumbers, openNumbers, pathNumbers, queuedNumbers, offerNumbers}
 use Rattle.definition.specs.Limits.{GraphMaxima, SearchMaxima}
 
--- a row of 12 numbers for each vertex
+-- a row for each vertex
 abbrev pub vertexTable : GraphMaxima → ℕ
-vertexTable g = g .vertices * 12
+vertexTable g = vertexNumbers (g .vertices)
 
--- a row of 6 numbers for each edge
+-- a row for each edge
 abbrev pub edgeTable : GraphMaxima → ℕ
-edgeTable g = g .edges * 6
+edgeTable g = edgeNumbers (g .edges)
 
--- two numbers for each vertex, by which a kmer is found; in the search, the sole out-edge of each vertex where a path goes on without a decision
+-- for each vertex, by which a kmer is found; in the search, the sole out-edge of each vertex where a path goes on without a decision
 abbrev pub kmerIndex : GraphMaxima → ℕ
-kmerIndex g = g .vertices * 2
+kmerIndex g = kmerNumbers (g .vertices)
 
--- a row of 5 numbers for each tree node, and one row more
+-- a row for each tree node, and one row more
 abbrev pub nodeTable : GraphMaxima → ℕ
-nodeTable g = (g .nodes + 1) * 5
+nodeTable g = nodeNumbers (g .nodes + 1)
 
--- two numbers for each tree that a walk has open
+-- a row for each tree that a walk has open
 abbrev pub openTrees : GraphMaxima → ℕ
-openTrees g = g .nodes * 2
+openTrees g = openNumbers (g .nodes)
 
 -- the target of each edge
 abbrev pub targetTable : GraphMaxima → ℕ
@@ -30,9 +31,9 @@ targetTable g = g .edges
 abbrev pub pathCount : ℕ → SearchMaxima → ℕ
 pathCount asked s = s .pushes + asked + 8
 
--- a row of 9 numbers for each path
+-- a row for each path
 abbrev pub pathTable : ℕ → SearchMaxima → ℕ
-pathTable asked s = pathCount asked s * 9
+pathTable asked s = pathNumbers (pathCount asked s)
 
 -- a score for each path
 abbrev pub pathScores : ℕ → SearchMaxima → ℕ
@@ -59,9 +60,9 @@ abbrev pub pivotalMarks : GraphMaxima → ℕ
 pivotalMarks g = g .edges
 
 -- One slice for what is needed one after the other: the open trees, the edges whose targets are still to be looked at for pivotal edges, the offers of a
--- fork (8 rows of 4 numbers), and the edges of all closed paths.
+-- fork, and the edges of all closed paths.
 abbrev pub pathWalks : ℕ → GraphMaxima → SearchMaxima → ℕ
-pathWalks asked g s = max (openTrees g) (max (g .edges * 2) (max 32 (asked * s .pathEdges)))
+pathWalks asked g s = max (openTrees g) (max (queuedNumbers (g .edges)) (max offerNumbers (asked * s .pathEdges)))
 
 -- the columns from which the rows of the list are copied: scores, closing numbers, edge counts
 abbrev pub rowColumns : ℕ → ℕ

@@ -1,4 +1,15 @@
 // Refusals 1 to 7 of document 01 in the table's order, after which numbers the workspace is unchanged, and the call that tells the slice lengths needed.
+use tables::EDGE;
+use tables::EDGE_ROW;
+use tables::KMER;
+use tables::NODE;
+use tables::NODE_ROW;
+use tables::OFFER;
+use tables::OFFERS;
+use tables::OPEN;
+use tables::PATH;
+use tables::QUEUED;
+use tables::VERTEX;
 ghost use mathlib.Core.Path.{_≡_};
 ghost use mathlib.Core.Bool.{Bool, _&&_};
 ghost use mathlib.Core.List.{List};
@@ -383,10 +394,10 @@ fn walks_told(asked: u32, g: GraphMaxima, s: SearchMaxima) -> usize
     requires { ⌜ InLimits asked (graphMaximaOf g) (searchMaximaOf s) ⌝ }
     ensures { λ r. ⌜ r ≡ pathWalks asked (graphMaximaOf g) (searchMaximaOf s) ⌝ }
 {
-    let open = g.nodes as usize * 2;
-    let queued = g.edges as usize * 2;
+    let open = g.nodes as usize * OPEN;
+    let queued = g.edges as usize * QUEUED;
     let walks = asked as usize * s.path_edges as usize;
-    larger(open, larger(queued, larger(32, walks)))
+    larger(open, larger(queued, larger(OFFERS * OFFER, walks)))
 }
 
 // The workspace of settings within limits; a path is made by a push, by closing, or as the extension of a fork.
@@ -397,13 +408,13 @@ pub fn workspace_told(asked: u32, g: GraphMaxima, s: SearchMaxima) -> Workspace
     let paths = s.pushes as usize + asked as usize + 8;
     let walks = walks_told(asked, g, s);
     Workspace {
-        vertices: g.vertices as usize * 12,
-        edges: g.edges as usize * 6,
-        index: g.vertices as usize * 2,
-        nodes: (g.nodes as usize + 1) * 5,
-        open: g.nodes as usize * 2,
+        vertices: g.vertices as usize * VERTEX,
+        edges: g.edges as usize * EDGE,
+        index: g.vertices as usize * KMER,
+        nodes: (g.nodes as usize + 1) * NODE,
+        open: g.nodes as usize * OPEN,
         targets: g.edges as usize,
-        paths: paths * 9,
+        paths: paths * PATH,
         scores: paths,
         active: paths * s.active as usize,
         queue: s.pushes as usize,
@@ -424,8 +435,8 @@ pub fn lengths_within(k: u32, asked: u32, g: GraphMaxima, s: SearchMaxima) -> Le
     let stride = k as usize + s.path_edges as usize;
     LengthsTold {
         refusal: 0,
-        edges: g.edges as usize * 6,
-        nodes: g.nodes as usize * 4,
+        edges: g.edges as usize * EDGE_ROW,
+        nodes: g.nodes as usize * NODE_ROW,
         paths: asked as usize,
         bases: asked as usize * stride,
         origins: asked as usize * s.path_edges as usize,

@@ -23,7 +23,8 @@ use Rattle.definition.proofs.Walks.{GoodState, Numbered}
 use Rattle.definition.proofs.Turns.{lastOf, search-reached}
 use Rattle.definition.proofs.Bounds.{Counted, search-counted}
 use Rattle.definition.proofs.Checks.{Checked, k-some, some-pushes}
-use Rattle.assembly.specs.Fields.{kmerPlace, edgeNumbers}
+use Rattle.assembly.specs.Fields.{kmerPlace}
+use Rattle.tables.specs.Widths.{edgeNumbers}
 use Rattle.limits.specs.Workspaces.{vertexTable, pathTable, pathScores, activeNodes, waitingQueue, closedPaths, pivotalOrder, pivotalMarks, pathWalks, openTrees}
 use Rattle.limits.specs.Bounds.{InLimits, settings-most}
 use Rattle.assembly.specs.Symbolic.{linked, length-linked}

@@ -11,7 +11,7 @@ use Rattle.definition.specs.Limits.{Input}
 use Rattle.definition.specs.Score.{columnScoring}
 use Rattle.definition.specs.Building.{Built, built}
 use Rattle.definition.specs.Listing.{afterBuild}
-use Rattle.assembly.specs.Fields.{edgeNumbers}
+use Rattle.tables.specs.Widths.{edgeNumbers}
 use Rattle.limits.specs.Workspaces.{openTrees}
 use Rattle.limits.specs.Bounds.{settings-most}
 use Rattle.search_ground.specs.Exact.{built-exact}

@@ -1,5 +1,4 @@
 // The work of the call for the list: the graph, its trees, the search and the list in columns, over tables of just the lengths told.
-use assembly::EDGE;
 use graph_work::Raise;
 use graph_work::Raised;
 use graph_work::raise_graph;
@@ -13,6 +12,7 @@ use list_interface::refused;
 use path_list::write_list;
 use search_setup::lay_chains;
 use search_setup::search_setting;
+use tables::EDGE;
 ghost use mathlib.Core.Path.{_≡_};
 ghost use Rattle.list_work.specs.Outcome.{found, Listed, outputsOf, tablesOf};
 ghost use Rattle.list_interface.specs.Handed.{inputFor};

@@ -22,7 +22,7 @@ use Rattle.definition.specs.Search as defs
 use Rattle.definition.proofs.Counts.{Small}
 use Rattle.path_store.specs.declared.records.PathRecord.{PathRecord}
 use Rattle.path_store.specs.declared.growth.Taken.{Taken}
-use Rattle.path_store.specs.Cells.{parentOf, countOf, treesOf, scoreOf, Inside, putCells, put-at, put-trees}
+use Rattle.path_store.specs.Cells.{HasPaths, parentOf, countOf, treesOf, scoreOf, Inside, putCells, put-at, put-trees}
 use Rattle.path_store.specs.Path.{Table, edges, table-front}
 use Rattle.path_store.specs.Push.{put-same, edges-kept}
 use Rattle.path_store.specs.Grow.{Following, closedRow}
@@ -54,7 +54,7 @@ pub record Closing (f : SearchInput) (g : Setting) (vs es x index targets : List
   pub following : Following index targets t (taken .path) taken
   pub apart : Apart sc queue (p .waiting) (taken .path)
   pub more : p .closed < length closed
-  pub paths : (p .records + 1) * 9 ≤ length t
+  pub paths : HasPaths t (p .records + 1)
   pub scores : p .records + 1 ≤ length sc
   pub actives : (p .records + 1) * g .active ≤ length ac
   pub few : p .records + 1 < 2147483648
@@ -520,7 +520,7 @@ module _ (f : SearchInput) (g : Setting) (vs es x index targets : List ℕ) (bs 
   joined-chain = ap (λ (c : Closed Float). defs.chain f (defs.endFrom (f .source) (c .edges))) (J .kept .closed 0 (taken .path) known)
 
   -- what this step asks
-  pub joined-closing : Ground f g vs es x index targets → p .closed < length closed → (p .records + 1) * 9 ≤ length t′ → p .records + 1 ≤ length sc′ → (p .records + 1) * g .active ≤ length ac′
+  pub joined-closing : Ground f g vs es x index targets → p .closed < length closed → HasPaths t′ (p .records + 1) → p .records + 1 ≤ length sc′ → (p .records + 1) * g .active ≤ length ac′
       → p .records + 1 < 2147483648 → Closing f g vs es x index targets (J .branches) cl t′ sc′ ac′ queue closed order marks p s taken
   joined-closing G more a b c few =
       record {

@@ -17,7 +17,7 @@ use Rattle.definition.specs.Evidence.{Branches}
 use Rattle.definition.specs.Search.{SearchInput, Path, Offer, extend, repeatRule}
 use Rattle.fork_offers.specs.Rows.{offerAt, offersOf, Few}
 use Rattle.path_store.specs.declared.growth.Taken.{Taken}
-use Rattle.path_store.specs.Cells.{sinceOf}
+use Rattle.path_store.specs.Cells.{HasPaths, sinceOf}
 use Rattle.search_state.specs.declared.Setting.{Setting}
 use Rattle.search_state.specs.State.{pathOf, upFrom}
 use Rattle.path_extensions.specs.declared.Extended.{Extended}
@@ -28,7 +28,7 @@ use Rattle.path_extensions.specs.Offer.{OfferStands, tried}
 
 -- there is room for eight records from n on
 pub record Rooms (g : Setting) (t : List ℕ) (sc : List Float) (ac : List ℕ) (n : ℕ) : Type 0 where
-  pub paths : (n + 8) * 9 ≤ length t
+  pub paths : HasPaths t (n + 8)
   pub scores : n + 8 ≤ length sc
   pub actives : (n + 8) * g .active ≤ length ac
   pub number : n + 8 < 2147483648

@@ -31,7 +31,7 @@ use Rattle.path_store.specs.declared.growth.PathAnswer.the-variants as answers
 use Rattle.path_store.specs.declared.growth.Taken.{Taken}
 use Rattle.path_store.specs.declared.growth.Extension.{Extension}
 use Rattle.path_store.specs.declared.records.PathRecord.{PathRecord}
-use Rattle.path_store.specs.Cells.{countOf, sinceOf, treesOf, scoreOf, Inside, pathAt, putCells, put-at, put-trees}
+use Rattle.path_store.specs.Cells.{HasPaths, countOf, sinceOf, treesOf, scoreOf, Inside, pathAt, putCells, put-at, put-trees}
 use Rattle.path_store.specs.Path.{Same}
 use Rattle.path_store.specs.Path as paths
 use Rattle.path_store.specs.Push.{put-same}
@@ -84,7 +84,7 @@ pub record Gives (g : Setting) (es x index targets t : List ℕ) (sc : List Floa
 
 -- there is room for the record n
 pub record Place (g : Setting) (t : List ℕ) (sc : List Float) (ac : List ℕ) (n : ℕ) : Type 0 where
-  pub paths : (n + 1) * 9 ≤ length t
+  pub paths : HasPaths t (n + 1)
   pub scores : n + 1 ≤ length sc
   pub actives : (n + 1) * g .active ≤ length ac
   pub number : n + 1 < 2147483648

@@ -1,10 +1,8 @@
 // The paths that a taken path is extended to, all made before any is pushed. (Rust: process_vertex, junction_kbest.rs)
-use assembly::EDGE;
 use assembly::FROM;
 use assembly::TO;
 use assembly::edge_to;
 use assembly::next_out;
-use fork_offers::OFFER;
 use fork_offers::OFFER_COUNT;
 use fork_offers::OFFER_EDGE;
 use fork_offers::OFFER_GUIDED;
@@ -24,6 +22,8 @@ use path_store::records::path_at;
 use path_store::walks::count_in_path;
 use path_store::walks::repeat_rule;
 use search_state::Setting;
+use tables::EDGE;
+use tables::OFFER;
 ghost use mathlib.Core.Path.{_≡_};
 ghost use mathlib.Core.List.{List};
 ghost use Prim.Native.Nat.{ℕ, _+_, _*_, _<_, _≤_};

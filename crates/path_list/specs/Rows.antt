@@ -12,7 +12,7 @@ use lib.Ieee.{Float, nan}
 use Rattle.laws.specs.Rows.{rows, length-rows, getD-rows}
 use Rattle.laws.specs.Sorting.{same-or}
 use Rattle.definition.specs.Calls.{writtenAt}
-use Rattle.assembly.specs.Fields.{HasEdge, edgeField}
+use Rattle.assembly.specs.Fields.{HasEdge, IsEdgeField, edgeCell, edgeField}
 use Rattle.assembly.specs.Paths.{Spells, basesOf, bases-length}
 use Rattle.path_store.specs.Cells.{countOf, scoreOf, Inside}
 use Rattle.path_list.specs.Laid.{Laid, row-low, laid-next, laid-sets}
@@ -230,8 +230,8 @@ module _ (es t : List ℕ) (sc : List Float) (closed walks : List ℕ) (most cou
     pub filed-room : (size : ℕ) → count * most ≤ size → r * most + most ≤ size
     filed-room size k = let a = row-low r count most h in omega arith
 
-    pub filed-asks : (j i n size : ℕ) → i ≡ getD rank r 0 → n ≡ countOf t (recordAt closed (getD rank r 0)) → j < 6 → count * most ≤ size
-        → (n ≤ length (part i)) × ((x : ℕ) → x < n → getD (part i) x 0 * 6 + j < length es) × (r * most + n ≤ size)
+    pub filed-asks : (j i n size : ℕ) → i ≡ getD rank r 0 → n ≡ countOf t (recordAt closed (getD rank r 0)) → IsEdgeField j → count * most ≤ size
+        → (n ≤ length (part i)) × ((x : ℕ) → x < n → edgeCell (getD (part i) x 0) j < length es) × (r * most + n ≤ size)
     filed-asks j i n size e f l k =
         let a = filed-room size k in
         let b = F .short (getD rank r 0) (P .known r h) in

@@ -2,6 +2,7 @@
 ghost use mathlib.Core.List.{_++_};
 ghost use Prim.Native.Nat.{_+_, _*_, _<_, _≤_};
 ghost use lib.ListN.{length};
+ghost use Rattle.assembly.specs.Fields.{IsEdgeField};
 ghost use Rattle.path_list.specs.Laid.{Laid};
 ghost use Rattle.path_list.specs.Ranks.{lists, Ready};
 ghost use Rattle.path_list.specs.Rows.{Placed, Known, Columns, Filed, basesAt, fieldsAt};
@@ -10,6 +11,7 @@ use assembly::wide;
 use path_store::chains::at;
 use path_store::records::path_at;
 use path_store::writing::write_field;
+use tables::EDGE;
 
 // Row r tells of the closed path whose number stands at rank r. Closings are numbered from 1.
 pub fn write_columns(
@@ -89,7 +91,7 @@ pub fn write_origins(
     field: usize,
     out: &mut [u32],
 )
-    requires { ⌜ Placed count (now rank) × Filed (now edges) (now paths) (now scores) (now closed) (now walks) most count × (field < 6) × (count * most ≤ length (now out)) ⌝ }
+    requires { ⌜ Placed count (now rank) × Filed (now edges) (now paths) (now scores) (now closed) (now walks) most count × (IsEdgeField field) × (count * most ≤ length (now out)) ⌝ }
     ensures { λ _. ⌜ Laid most (fieldsAt (now (edges .entry)) (now (paths .entry)) (now (closed .entry)) (now (walks .entry)) most field (now (rank .entry))) (now (out .entry)) count (now (out .exit)) ⌝ }
 {
     let mut r: usize = 0;
@@ -98,7 +100,7 @@ pub fn write_origins(
         let row = path_at(paths, scores, at(closed, i));
         let p = wide(i) * most;
         let from = r * most;
-        write_field(&walks[p..], wide(row.edges), edges, 6, field, out, from);
+        write_field(&walks[p..], wide(row.edges), edges, EDGE, field, out, from);
         r += 1;
     }
 }

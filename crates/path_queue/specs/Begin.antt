@@ -20,7 +20,7 @@ use Rattle.pivotal_edges.specs.Turns.{Pivots, Pivoted}
 use Rattle.definition.proofs.Tables.{Once}
 use Rattle.pivotal_edges.specs.Once.{edges-once}
 use Rattle.path_store.specs.Pivots.{pivotal-distinct, pivotal-forks}
-use Rattle.path_store.specs.Cells.{treesOf, scoreOf, Inside, putCells, Stored, put-at, put-trees}
+use Rattle.path_store.specs.Cells.{IsPathField, pathField, treesOf, scoreOf, Inside, putCells, Stored, put-at, put-trees}
 use Rattle.path_store.specs.Grow.{startRow}
 use Rattle.path_store.specs.View.{start-view}
 use Rattle.path_store.specs.Held.{held-start}
@@ -163,7 +163,7 @@ module _ {g : Setting} {vs es t : List ℕ} {sc : List Float} {queue walks order
           later = λ i h. absurd (omega arith);
         }
 
-    cell : (j : ℕ) → j < 9 → getD t′ (0 * 9 + j) 0 ≡ getD (0 ∷ 0 ∷ 0 ∷ 0 ∷ 0 ∷ 0 ∷ 0 ∷ 0 ∷ 0 ∷ []) j 0
+    cell : (j : ℕ) → IsPathField j → pathField t′ 0 j ≡ getD (0 ∷ 0 ∷ 0 ∷ 0 ∷ 0 ∷ 0 ∷ 0 ∷ 0 ∷ 0 ∷ []) j 0
     cell j h = rw (S .cells) (put-at t 0 (startRow 0) (omega (arith, A .paths)) j h)
 
     idle : Idle t′ 1 0

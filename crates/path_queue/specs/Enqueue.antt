@@ -19,7 +19,7 @@ use Rattle.definition.specs.Score.{columnScoring}
 use Rattle.definition.specs.Search.{SearchInput, Path, State, made, broken, recover, advance}
 use Rattle.definition.proofs.Counts.{Small}
 use Rattle.assembly.specs.Fields.{edgeFrom}
-use Rattle.path_store.specs.Cells.{countOf, joinedOf, treesOf, scoreOf, Inside, putCells, put-at, put-other, put-trees}
+use Rattle.path_store.specs.Cells.{HasPaths, IsPathField, pathField, countOf, joinedOf, treesOf, scoreOf, Inside, putCells, put-at, put-other, put-trees}
 use Rattle.path_store.specs.Grow.{recoveredRow}
 use Rattle.path_store.specs.Held.{Held, held-recovered, pushed-closed}
 use Rattle.path_store.specs.View.{viewOf}
@@ -59,7 +59,7 @@ pub record TriesNext (es index targets t : List ℕ) (sc : List Float) (closed o
   pub around : Around
   pub state : State Float
   pub resting : Resting around es index targets t sc closed order marks g p state
-  pub paths : (p .records + 1) * 9 ≤ length t
+  pub paths : HasPaths t (p .records + 1)
   pub scores : p .records + 1 ≤ length sc
   pub fits : p .records + 1 < 4294967296
   pub walk-room : g .most ≤ length walks
@@ -156,7 +156,7 @@ module _ {A : Around} {es index targets t : List ℕ} {sc : List Float} {closed 
     unfolding new-cells new-scores
     new-held = held-recovered index targets (A .f .source) t sc (p .records) (R .holds .records .held) I b k e l pos low h
 
-    old-cell : (r j : ℕ) → r < p .records → j < 9 → field new-cells 9 r j ≡ field t 9 r j
+    old-cell : (r j : ℕ) → r < p .records → IsPathField j → pathField new-cells r j ≡ pathField t r j
     unfolding new-cells
     old-cell r j a c = put-other t (p .records) (recoveredRow index t sc targets b k e) r j (omega arith) c
 

@@ -13,9 +13,20 @@ use lib.ListN.{length, getD, set}
 use lib.Seq.{getD-set-same}
 use lib.Ieee.{Float, nan}
 use Rattle.laws.specs.Records.{field, putFrom, length-putFrom, putFrom-row, putFrom-at}
+use Rattle.tables.specs.Widths.{pathNumbers}
 use Rattle.path_store.specs.declared.records.PathRecord.{PathRecord}
 
 -- ---- the cells
+
+-- the table has the first n paths
+abbrev pub HasPaths : List ℕ → ℕ → Type 0
+HasPaths t n = pathNumbers n ≤ length t
+
+abbrev pub IsPathField : ℕ → Type 0
+IsPathField j = j < 9
+
+abbrev pub pathField : List ℕ → ℕ → ℕ → ℕ
+pathField t r j = field t 9 r j
 
 abbrev pub parentOf : List ℕ → ℕ → ℕ
 parentOf t r = field t 9 r 0

@@ -1,8 +1,28 @@
 // The record of a path: a struct by value, read from the lent slices by `path_at` and written by `path_put`.
+use tables::PATH;
 ghost use mathlib.Core.Path.{_≡_};
 ghost use mathlib.Core.Bool.{cond};
 ghost use Prim.Native.Nat.{_<_, _≤_};
 ghost use Rattle.path_store.specs.Cells.{pathAt, Inside, Stored};
+
+// Where the fields of a path's record stand.
+const PARENT: usize = 0;
+
+const CHAIN: usize = 1;
+
+const LAST: usize = 2;
+
+const EDGES: usize = 3;
+
+const END: usize = 4;
+
+const FORK: usize = 5;
+
+const SINCE: usize = 6;
+
+const JOINED: usize = 7;
+
+const MARKS: usize = 8;
 
 // A path: its score, its parent's number + 1 (0: the start path, which has no edges), the piece that it adds to its parent's edges (the length of the
 // chain followed from the parent's last vertex, then the last edge + 1, or 0 where it ends with the chain), how many edges it has in all, its last
@@ -38,18 +58,18 @@ pub fn path_at(paths: &[u32], scores: &[f64], r: u32) -> PathRecord
     ensures { λ row. ⌜ row ≡ pathAt (now (paths .entry)) (now (scores .entry)) r ⌝ }
 {
     let i = r as usize;
-    let at = i * 9;
-    let marks = paths[at + 8];
+    let at = i * PATH;
+    let marks = paths[at + MARKS];
     PathRecord {
         score: scores[i],
-        parent: paths[at + 0],
-        chain: paths[at + 1],
-        edge: paths[at + 2],
-        edges: paths[at + 3],
-        end: paths[at + 4],
-        fork: paths[at + 5],
-        since: paths[at + 6],
-        joined: paths[at + 7],
+        parent: paths[at + PARENT],
+        chain: paths[at + CHAIN],
+        edge: paths[at + LAST],
+        edges: paths[at + EDGES],
+        end: paths[at + END],
+        fork: paths[at + FORK],
+        since: paths[at + SINCE],
+        joined: paths[at + JOINED],
         trees: marks / 2,
         recovered: marks % 2 == 1,
     }
@@ -61,16 +81,16 @@ pub fn path_put(paths: &mut [u32], scores: &mut [f64], r: u32, row: PathRecord)
     ensures { λ _. ⌜ Stored (now (paths .entry)) (now (scores .entry)) r row (now (paths .exit)) (now (scores .exit)) ⌝ }
 {
     let i = r as usize;
-    let at = i * 9;
+    let at = i * PATH;
     let marks = row.trees * 2 + bit(row.recovered);
     scores[i] = row.score;
-    paths[at + 0] = row.parent;
-    paths[at + 1] = row.chain;
-    paths[at + 2] = row.edge;
-    paths[at + 3] = row.edges;
-    paths[at + 4] = row.end;
-    paths[at + 5] = row.fork;
-    paths[at + 6] = row.since;
-    paths[at + 7] = row.joined;
-    paths[at + 8] = marks;
+    paths[at + PARENT] = row.parent;
+    paths[at + CHAIN] = row.chain;
+    paths[at + LAST] = row.edge;
+    paths[at + EDGES] = row.edges;
+    paths[at + END] = row.end;
+    paths[at + FORK] = row.fork;
+    paths[at + SINCE] = row.since;
+    paths[at + JOINED] = row.joined;
+    paths[at + MARKS] = marks;
 }

@@ -6,7 +6,8 @@ use native.Mathlib.Omega.{arith}
 use lib.ListN.{take}
 use lib.Seq.{getD-take}
 use Rattle.definition.specs.Limits.{Sample}
-use Rattle.assembly.specs.Fields.{edgeNumbers, edgeField}
+use Rattle.assembly.specs.Fields.{edgeField, IsEdgeField, edgeCell, fromField, toField, supportField, markField, sequenceField, placeField}
+use Rattle.tables.specs.Widths.{edgeNumbers}
 use Rattle.assembly.specs.Table.{table-same}
 use Rattle.assembly.specs.Store.{edgeAt, edgesOf, graphOf}
 use Rattle.assembly.specs.Moves.{good-front}
@@ -16,12 +17,12 @@ module _ (es : List ℕ) (m : ℕ) where
   abbrev exact : List ℕ
   exact = take (edgeNumbers (m + 1)) es
 
-  pub exact-field : (i c : ℕ) → i < m + 1 → c < 6 → edgeField (take (edgeNumbers (m + 1)) es) i c ≡ edgeField es i c
-  exact-field i c h l = getD-take (edgeNumbers (m + 1)) es (i * 6 + c) 0 (omega arith)
+  pub exact-field : (i c : ℕ) → i < m + 1 → IsEdgeField c → edgeField (take (edgeNumbers (m + 1)) es) i c ≡ edgeField es i c
+  exact-field i c h l = getD-take (edgeNumbers (m + 1)) es (edgeCell i c) 0 (omega arith)
 
   exact-edge : (i : ℕ) → i < m + 1 → edgeAt exact i ≡ edgeAt es i
   exact-edge i h =
-      rw (exact-field i 0 h (omega arith), exact-field i 1 h (omega arith), exact-field i 2 h (omega arith), exact-field i 3 h (omega arith), exact-field i 4 h (omega arith), exact-field i 5 h (omega arith))
+      rw (exact-field i fromField h (omega arith), exact-field i toField h (omega arith), exact-field i supportField h (omega arith), exact-field i markField h (omega arith), exact-field i sequenceField h (omega arith), exact-field i placeField h (omega arith))
 
   exact-edges : (n : ℕ) → n ≤ m + 1 → edgesOf exact n ≡ edgesOf es n
   unfolding edgesOf
@@ -42,8 +43,8 @@ module _ (es : List ℕ) (m : ℕ) where
           inside = a .inside;
           vertices-fit = a .vertices-fit;
           edges-fit = a .edges-fit;
-          good = good-front (λ j h. exact-field j 0 (omega arith) (omega arith)) (λ j h. exact-field j 1 (omega arith) (omega arith)) (a .good);
-          from = exact-field m 0 (omega arith) (omega arith) ∙ a .from;
-          to = exact-field m 1 (omega arith) (omega arith) ∙ a .to;
-          supports = λ i h. rw (exact-field i 2 (omega arith) (omega arith)) (a .supports i h);
+          good = good-front (λ j h. exact-field j fromField (omega arith) (omega arith)) (λ j h. exact-field j toField (omega arith) (omega arith)) (a .good);
+          from = exact-field m fromField (omega arith) (omega arith) ∙ a .from;
+          to = exact-field m toField (omega arith) (omega arith) ∙ a .to;
+          supports = λ i h. rw (exact-field i supportField (omega arith) (omega arith)) (a .supports i h);
         }

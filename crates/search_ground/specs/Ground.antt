@@ -25,7 +25,8 @@ use Rattle.definition.specs.Listing.{searchInput}
 use Rattle.definition.proofs.Counts.{Small, SmallTree, counts-small}
 use Rattle.definition.proofs.Supports.{leaving-small}
 use Rattle.definition.proofs.Degrees.{six-leave}
-use Rattle.assembly.specs.Fields.{HasVertices, HasVertex, treeRoot, edgeNumbers, edgeFrom, edgeTo}
+use Rattle.assembly.specs.Fields.{HasVertices, HasVertex, treeRoot, edgeFrom, edgeTo}
+use Rattle.tables.specs.Widths.{edgeNumbers}
 use Rattle.assembly.specs.Table.{length-table}
 use Rattle.assembly.specs.Store.{edgeAt, edgesOf, graphOf}
 use Rattle.assembly.specs.Kmers.{length-of}

@@ -31,7 +31,7 @@ fn sole_out(vertices: &[u32], edges: &[u32], m: usize, sink: usize, v: usize) ->
 }
 
 // `targets` tells the target of each edge that it has a place for.
-fn fill_to(edges: &[u32], targets: &mut [u32])
+fn fill_targets(edges: &[u32], targets: &mut [u32])
     requires { ⌜ HasEdges (now edges) (length (now targets)) ⌝ }
     ensures { λ _. ⌜ Targets (now (edges .entry)) (now (targets .entry)) (now (targets .exit)) ⌝ }
 {
@@ -43,7 +43,7 @@ fn fill_to(edges: &[u32], targets: &mut [u32])
 }
 
 // `index` tells the sole edge of each vertex that it has a place for.
-fn fill_only(vertices: &[u32], edges: &[u32], m: usize, sink: usize, index: &mut [u32])
+fn fill_index(vertices: &[u32], edges: &[u32], m: usize, sink: usize, index: &mut [u32])
     requires { ⌜ Linked (now vertices) (now edges) m × (HasVertices (now vertices) (length (now index))) ⌝ }
     ensures { λ _. ⌜ Soles (now (vertices .entry)) (now (edges .entry)) m sink (now (index .entry)) (now (index .exit)) ⌝ }
 {
@@ -67,6 +67,6 @@ pub fn chain_tables(
     requires { ⌜ Tables (now vertices) (now edges) m (now index) (now targets) ⌝ }
     ensures { λ _. ⌜ Tabled (now (vertices .entry)) (now (edges .entry)) m sink (now (index .exit)) (now (targets .exit)) ⌝ }
 {
-    fill_to(edges, targets);
-    fill_only(vertices, edges, m, sink, index);
+    fill_targets(edges, targets);
+    fill_index(vertices, edges, m, sink, index);
 }

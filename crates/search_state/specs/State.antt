@@ -12,7 +12,7 @@ use Rattle.laws.specs.Heaps.{nth}
 use Rattle.definition.specs.Evidence.{Branches}
 use Rattle.definition.specs.Search.{SearchInput, Path, Closed, State}
 use Rattle.definition.proofs.Counts.{Small}
-use Rattle.path_store.specs.Cells.{parentOf, countOf, joinedOf, treesOf, scoreOf}
+use Rattle.path_store.specs.Cells.{HasPaths, parentOf, countOf, joinedOf, treesOf, scoreOf}
 use Rattle.path_store.specs.Join.{Childless}
 use Rattle.path_store.specs.View.{viewOf, closedOf}
 use Rattle.path_store.specs.Held.{Held}
@@ -84,7 +84,7 @@ Apart sc queue n r = All (λ q. q ≢ r) (waiting sc queue n)
 -- the lengths that the search asks of the slices: a record for each push, each closing, and each extension of a fork, all of which are made before any is
 -- pushed
 pub record Room (g : Setting) (t : List ℕ) (sc : List Float) (ac queue closed : List ℕ) : Type 0 where
-  pub paths : (g .pushes + g .asked + 8) * 9 ≤ length t
+  pub paths : HasPaths t (g .pushes + g .asked + 8)
   pub scores : g .pushes + g .asked + 8 ≤ length sc
   pub actives : (g .pushes + g .asked + 8) * g .active ≤ length ac
   pub waiting : g .pushes ≤ length queue

@@ -1,13 +1,16 @@
 // The junction trees of a run in one lent table, and the active trees of one walk. (Rust: ThreadingNode, ThreadingTree, JunctionThreadingState)
 //
 // `nodes` has five numbers a slot: the two ends of a node's edge, its count, its first child, its next sibling; a link is a slot, 0 for none. Slots 1 to n
-// are the nodes in order of birth, at most `cap` of them, so the table has (cap + 1) * 5 numbers. Slot 0 is no node: its children are the roots, each
+// are the nodes in order of birth, at most `cap` of them, so the table has a row more than that. Slot 0 is no node: its children are the roots, each
 // with its vertex as both ends, so that they stand in vertex order. Siblings rise by their edges.
 // `active` has two numbers a pair: the slot where active trees of the walk stand, and how many stand there. Pairs differ in their slots, so there are
-// never more than nodes, and cap * 2 numbers are enough. The slot of a vertex's root is kept by the caller, with the vertex, and is 0 where it has none.
+// never more than nodes. The slot of a vertex's root is kept by the caller, with the vertex, and is 0 where it has none.
 //
 // Callers use the relation HeldWalk of specs/Held: the tables hold a walk of the definition.
 
+use tables::NODE;
+use tables::NODE_ROW;
+use tables::OPEN;
 ghost use mathlib.Core.Path.{_≡_};
 ghost use Prim.Native.Nat.{_+_, _*_, _-_, _^_, _<_, _≤_};
 ghost use lib.ListN.{length};
@@ -25,6 +28,24 @@ ghost use Rattle.threading_tree.specs.Pass.{openWhere, takeUnless, Stepp
 ghost use Rattle.threading_tree.specs.Write.{Writable, Written};
 ghost use Rattle.threading_tree.specs.Read.{Readable, ChildSlot, Summed};
 
+// Where the fields of a node stand: the ends of its edge, its count, its first child, its next sibling; in an output row its depth stands behind the count.
+const FROM: usize = 0;
+
+const TO: usize = 1;
+
+const COUNT: usize = 2;
+
+const CHILD: usize = 3;
+
+const SIBLING: usize = 4;
+
+const DEPTH: usize = 3;
+
+// Where the fields of a pair of `active` stand.
+const SLOT: usize = 0;
+
+const STANDING: usize = 1;
+
 // Where a child stands in the row of its siblings, or where it is to stand: after which slot (0: first) and before which (0: last).
 pub enum Place {
     Here(usize),
@@ -37,35 +58,35 @@ pub fn edge_from(nodes: &[u32], s: usize) -> u32
     requires { ⌜ Slot s (now nodes) ⌝ }
     ensures { λ r. ⌜ r ≡ cols (now (nodes .entry)) .from s ⌝ }
 {
-    nodes[s * 5 + 0]
+    nodes[s * NODE + FROM]
 }
 
 pub fn edge_to(nodes: &[u32], s: usize) -> u32
     requires { ⌜ Slot s (now nodes) ⌝ }
     ensures { λ r. ⌜ r ≡ cols (now (nodes .entry)) .to s ⌝ }
 {
-    nodes[s * 5 + 1]
+    nodes[s * NODE + TO]
 }
 
 pub fn evidence_count(nodes: &[u32], s: usize) -> u32
     requires { ⌜ Slot s (now nodes) ⌝ }
     ensures { λ r. ⌜ r ≡ cols (now (nodes .entry)) .count s ⌝ }
 {
-    nodes[s * 5 + 2]
+    nodes[s * NODE + COUNT]
 }
 
 pub fn first_child(nodes: &[u32], s: usize) -> usize
     requires { ⌜ Slot s (now nodes) ⌝ }
     ensures { λ r. ⌜ r ≡ cols (now (nodes .entry)) .kid s ⌝ }
 {
-    nodes[s * 5 + 3] as usize
+    nodes[s * NODE + CHILD] as usize
 }
 
 pub fn next_sibling(nodes: &[u32], s: usize) -> usize
     requires { ⌜ Slot s (now nodes) ⌝ }
     ensures { λ r. ⌜ r ≡ cols (now (nodes .entry)) .next s ⌝ }
 {
-    nodes[s * 5 + 4] as usize
+    nodes[s * NODE + SIBLING] as usize
 }
 
 // The count of slot s rises by m.
@@ -73,8 +94,8 @@ fn increment_count(nodes: &mut [u32], s: usize, m: u32)
     requires { ⌜ Slot s (now nodes) × (cols (now nodes) .count s + m < 2 ^ 32) ⌝ }
     ensures { λ r. ⌜ now (nodes .exit) ≡ raised (now (nodes .entry)) s m ⌝ }
 {
-    let c = nodes[s * 5 + 2];
-    nodes[s * 5 + 2] = c + m;
+    let c = nodes[s * NODE + COUNT];
+    nodes[s * NODE + COUNT] = c + m;
 }
 
 // A node without children in slot k. Ends are below 2 ^ 16, so that they can be packed.
@@ -82,11 +103,11 @@ fn put_node(nodes: &mut [u32], k: usize, a: u32, b: u32, m: u32, next: usize)
     requires { ⌜ Slot k (now nodes) × (a < 2 ^ 16) × (b < 2 ^ 16) × (next < 2 ^ 32) ⌝ }
     ensures { λ r. ⌜ now (nodes .exit) ≡ placed (now (nodes .entry)) k a b m next ⌝ }
 {
-    nodes[k * 5 + 0] = a;
-    nodes[k * 5 + 1] = b;
-    nodes[k * 5 + 2] = m;
-    nodes[k * 5 + 3] = 0;
-    nodes[k * 5 + 4] = next as u32;
+    nodes[k * NODE + FROM] = a;
+    nodes[k * NODE + TO] = b;
+    nodes[k * NODE + COUNT] = m;
+    nodes[k * NODE + CHILD] = 0;
+    nodes[k * NODE + SIBLING] = next as u32;
 }
 
 // The new child k of slot s stands after the slot u, or is the first where u is 0.
@@ -95,10 +116,10 @@ fn link_node(nodes: &mut [u32], s: usize, u: usize, k: usize)
     ensures { λ r. ⌜ now (nodes .exit) ≡ linked (now (nodes .entry)) s u k ⌝ }
 {
     if u == 0 {
-        nodes[s * 5 + 3] = k as u32;
+        nodes[s * NODE + CHILD] = k as u32;
         return;
     }
-    nodes[u * 5 + 4] = k as u32;
+    nodes[u * NODE + SIBLING] = k as u32;
 }
 
 // ---- the children of a node
@@ -209,14 +230,14 @@ fn active_slot(active: &[u32], i: usize) -> usize
     requires { ⌜ i * 2 + 2 ≤ length (now active) ⌝ }
     ensures { λ r. ⌜ r ≡ field (now (active .entry)) 2 i 0 ⌝ }
 {
-    active[i * 2 + 0] as usize
+    active[i * OPEN + SLOT] as usize
 }
 
 fn active_count(active: &[u32], i: usize) -> u32
     requires { ⌜ i * 2 + 2 ≤ length (now active) ⌝ }
     ensures { λ r. ⌜ r ≡ field (now (active .entry)) 2 i 1 ⌝ }
 {
-    active[i * 2 + 1]
+    active[i * OPEN + STANDING]
 }
 
 pub enum Grown {
@@ -255,7 +276,7 @@ pub fn add_edge_to_junction_tree_nodes(
         let Step::Next(st) = r else {
             return Grown::Refused(step_refusal(r));
         };
-        active[i * 2 + 0] = st.at as u32;
+        active[i * OPEN + SLOT] = st.at as u32;
         k = st.nodes;
         i += 1;
     }
@@ -319,15 +340,15 @@ pub fn add_tree_if_necessary(
     let i = find_active(active, w, at);
     if i < w {
         let more = active_count(active, i) + 1;
-        active[i * 2 + 1] = more;
+        active[i * OPEN + STANDING] = more;
         return Joined::Next(ThreadingState {
             nodes: st.nodes,
             groups: w,
             root: at,
         });
     }
-    active[w * 2 + 0] = at as u32;
-    active[w * 2 + 1] = 1;
+    active[w * OPEN + SLOT] = at as u32;
+    active[w * OPEN + STANDING] = 1;
     Joined::Next(ThreadingState {
         nodes: st.nodes,
         groups: w + 1,
@@ -409,10 +430,10 @@ fn put_row(out: &mut [u32], row: usize, a: u32, b: u32, c: u32, d: u32)
     requires { ⌜ row * 4 + 4 ≤ length (now out) ⌝ }
     ensures { λ r. ⌜ now (out .exit) ≡ putFrom (now (out .entry)) 4 row 0 (a ∷ b ∷ c ∷ d ∷ []) ⌝ }
 {
-    out[row * 4 + 0] = a;
-    out[row * 4 + 1] = b;
-    out[row * 4 + 2] = c;
-    out[row * 4 + 3] = d;
+    out[row * NODE_ROW + FROM] = a;
+    out[row * NODE_ROW + TO] = b;
+    out[row * NODE_ROW + COUNT] = c;
+    out[row * NODE_ROW + DEPTH] = d;
 }
 
 // All nodes, depth first in edge order, a row each: edge, count, depth. `stack` holds, for each depth above, the sibling to go on with.

@@ -8,13 +8,13 @@ path-at-requires : tie.Need-path-at-requires
 path-at-requires c κs = search needs
 
 returns : tie.Need-returns
-returns c = goes-by-trees (c .before .before .before .before .before .before .before .args .index .now) (c .before .before .before .before .before .before .before .args .to .now) (c .before .before .before .before .before .before .before .args .paths .now) (c .before .before .before .before .before .before .before .args .scores .now) (c .before .before .before .before .before .before .before .args .path) _ (c .before .before .path-at .ensures) (c .before .before .before .before .before .before .before .args .v) (c .if1 .taken)
+returns c = goes-by-trees (c .before .before .before .before .before .before .before .args .index .now) (c .before .before .before .before .before .before .before .args .targets .now) (c .before .before .before .before .before .before .before .args .paths .now) (c .before .before .before .before .before .before .before .args .scores .now) (c .before .before .before .before .before .before .before .args .path) _ (c .before .before .path-at .ensures) (c .before .before .before .before .before .before .before .args .v) (c .if1 .taken)
 
 count-in-path-requires : tie.Need-count-in-path-requires
 count-in-path-requires c κs = search needs
 
 returns-2 : tie.Need-returns-2
-returns-2 c = goes-by-count (c .before .before .before .before .before .before .before .before .args .index .now) (c .before .before .before .before .before .before .before .before .args .to .now) (c .before .before .before .before .before .before .before .before .args .paths .now) (c .before .before .before .before .before .before .before .before .args .scores .now) (c .before .before .before .before .before .before .before .before .args .path) _ (c .before .before .before .path-at .ensures) (c .before .before .before .before .before .before .before .before .args .v) _ (c .before .if1 .left) (c .count-in-path .ensures)
+returns-2 c = goes-by-count (c .before .before .before .before .before .before .before .before .args .index .now) (c .before .before .before .before .before .before .before .before .args .targets .now) (c .before .before .before .before .before .before .before .before .args .paths .now) (c .before .before .before .before .before .before .before .before .args .scores .now) (c .before .before .before .before .before .before .before .before .args .path) _ (c .before .before .before .path-at .ensures) (c .before .before .before .before .before .before .before .before .args .v) _ (c .before .if1 .left) (c .count-in-path .ensures)
 
 pub goes-on-spec : {M : Type 1} → statement M
 goes-on-spec = tie.close (tie.spec path-at-requires returns count-in-path-requires returns-2)

@@ -4,11 +4,11 @@ use borrow.Author.Needs.{needs}
 use Rattle.search_ground.proofs.chain_tables.Statement.{statement}
 use Rattle.search_ground.proofs.chain_tables.Tie as tie
 
-fill-to-requires : tie.Need-fill-to-requires
-fill-to-requires c κs = search needs
+fill-targets-requires : tie.Need-fill-targets-requires
+fill-targets-requires c κs = search needs
 
-fill-only-requires : tie.Need-fill-only-requires
-fill-only-requires c κs = search needs
+fill-index-requires : tie.Need-fill-index-requires
+fill-index-requires c κs = search needs
 
 same-length : tie.Need-same-length
 same-length c = search needs
@@ -17,8 +17,8 @@ same-length-2 : tie.Need-same-length-2
 same-length-2 c = search needs
 
 returns : tie.Need-returns
-returns c = tabled-of (c .before .before .before .before .before .before .before .before .before .before .before .before .pre) (c .before .before .before .before .before .before .fill-to .ensures) (c .before .before .fill-only .ensures)
+returns c = tabled-of (c .before .before .before .before .before .before .before .before .before .before .before .before .pre) (c .before .before .before .before .before .before .fill-targets .ensures) (c .before .before .fill-index .ensures)
 
 pub chain-tables-spec : {M : Type 1} → statement M
 chain-tables-spec =
-    tie.close (tie.spec fill-to-requires fill-only-requires same-length same-length-2 returns)
+    tie.close (tie.spec fill-targets-requires fill-index-requires same-length same-length-2 returns)

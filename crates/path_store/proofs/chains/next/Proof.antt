@@ -16,7 +16,7 @@ at-requires : tie.Need-at-requires
 at-requires c κs = omega (arith, c .before .before .before .pre .0 .near (c .before .before .before .args .v), c .sole .ensures)
 
 returns : tie.Need-returns
-returns c = c .at .ensures ∙ ap (λ x. getD (c .before .before .before .before .args .to .now) x 0) (c .before .sole .ensures)
+returns c = c .at .ensures ∙ ap (λ x. getD (c .before .before .before .before .args .targets .now) x 0) (c .before .sole .ensures)
 
 pub next-spec : {M : Type 1} → statement M
 next-spec = tie.close (tie.spec sole-requires at-requires returns)

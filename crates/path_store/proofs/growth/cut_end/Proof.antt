@@ -23,7 +23,7 @@ walk-requires : tie.Need-walk-requires
 walk-requires c κs = ends-read _ _ _ _ _ (c .before .before .before .before .before .before .before .pre) _ _ (ap (λ (x : PathRecord). x .end) (c .before .path-at .ensures)) (c .wide .ensures .0)
 
 returns : tie.Need-returns
-returns c = ends-is (c .before .before .before .before .before .before .before .before .args .index .now) (c .before .before .before .before .before .before .before .before .args .to .now) (c .before .before .before .before .before .before .before .before .args .paths .now) (c .before .before .before .before .before .before .before .before .args .cut) _ _ _ (ap (λ (x : PathRecord). x .end) (c .before .before .path-at .ensures)) (c .before .wide .ensures .0) (c .walk .ensures)
+returns c = ends-is (c .before .before .before .before .before .before .before .before .args .index .now) (c .before .before .before .before .before .before .before .before .args .targets .now) (c .before .before .before .before .before .before .before .before .args .paths .now) (c .before .before .before .before .before .before .before .before .args .cut) _ _ _ (ap (λ (x : PathRecord). x .end) (c .before .before .path-at .ensures)) (c .before .wide .ensures .0) (c .walk .ensures)
 
 pub cut-end-spec : {M : Type 1} → statement M
 cut-end-spec = tie.close (tie.spec sub-path-at path-at-requires wide-requires walk-requires returns)

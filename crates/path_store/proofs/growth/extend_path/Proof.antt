@@ -37,7 +37,7 @@ same-length-2 : tie.Need-same-length-2
 same-length-2 c = search needs
 
 returns : tie.Need-returns
-returns c = grow-full _ _ _ (extendedRow (c .before .before .before .before .before .before .before .before .before .before .args .paths .now) (c .before .before .before .before .before .before .before .before .before .before .args .to .now) (c .before .before .before .before .before .before .before .before .before .before .args .taken) (c .before .before .before .before .before .before .before .before .before .before .args .x)) _ (omega (arith, ap (λ (x : PathRecord). x .edges) (c .before .before .before .before .path-at .ensures), c .before .before .before .wide .ensures .0, c .before .before .wide2 .ensures .0, c .before .wide3 .ensures .0, c .if1 .taken))
+returns c = grow-full _ _ _ (extendedRow (c .before .before .before .before .before .before .before .before .before .before .args .paths .now) (c .before .before .before .before .before .before .before .before .before .before .args .targets .now) (c .before .before .before .before .before .before .before .before .before .before .args .taken) (c .before .before .before .before .before .before .before .before .before .before .args .x)) _ (omega (arith, ap (λ (x : PathRecord). x .edges) (c .before .before .before .before .path-at .ensures), c .before .before .before .wide .ensures .0, c .before .before .wide2 .ensures .0, c .before .wide3 .ensures .0, c .if1 .taken))
 
 add-t19 : tie.Need-add-t19
 add-t19 c = search needs
@@ -61,7 +61,7 @@ same-length-4 : tie.Need-same-length-4
 same-length-4 c = search needs
 
 returns-2 : tie.Need-returns-2
-returns-2 c = grow-stored _ _ _ (extendedRow (c .before .before .before .before .before .before .before .before .before .before .before .before .before .before .before .before .before .before .before .before .args .paths .now) (c .before .before .before .before .before .before .before .before .before .before .before .before .before .before .before .before .before .before .before .before .args .to .now) (c .before .before .before .before .before .before .before .before .before .before .before .before .before .before .before .before .before .before .before .before .args .taken) (c .before .before .before .before .before .before .before .before .before .before .before .before .before .before .before .before .before .before .before .before .args .x)) _ _ _ _ (extend-row (c .before .before .before .before .before .before .before .before .before .before .before .before .before .before .before .before .before .before .before .before .args .paths .now) (c .before .before .before .before .before .before .before .before .before .before .before .before .before .before .before .before .before .before .before .before .args .to .now) (c .before .before .before .before .before .before .before .before .before .before .before .before .before .before .before .before .before .before .before .before .args .taken) (c .before .before .before .before .before .before .before .before .before .before .before .before .before .before .before .before .before .before .before .before .args .x) _ _ (omega (arith, ap (λ (x : PathRecord). x .edges) (c .before .before .before .before .before .before .before .before .before .before .before .before .before .before .path-at .ensures), c .before .before .before .before .before .before .before .before .before .before .before .before .before .wide .ensures .0, c .before .before .before .before .before .before .before .before .before .before .before .before .wide2 .ensures .0)) (c .before .before .before .before .before .before .before .at .ensures)) (omega (arith, ap (λ (x : PathRecord). x .edges) (c .before .before .before .before .before .before .before .before .before .before .before .before .before .before .path-at .ensures), c .before .before .before .before .before .before .before .before .before .before .before .before .before .wide .ensures .0, c .before .before .before .before .before .before .before .before .before .before .before .before .wide2 .ensures .0, c .before .before .before .before .before .before .before .before .before .before .before .wide3 .ensures .0, c .before .before .before .before .before .before .before .before .before .before .if1 .left)) (c .before .before .before .before .path-put .ensures)
+returns-2 c = grow-stored _ _ _ (extendedRow (c .before .before .before .before .before .before .before .before .before .before .before .before .before .before .before .before .before .before .before .before .args .paths .now) (c .before .before .before .before .before .before .before .before .before .before .before .before .before .before .before .before .before .before .before .before .args .targets .now) (c .before .before .before .before .before .before .before .before .before .before .before .before .before .before .before .before .before .before .before .before .args .taken) (c .before .before .before .before .before .before .before .before .before .before .before .before .before .before .before .before .before .before .before .before .args .x)) _ _ _ _ (extend-row (c .before .before .before .before .before .before .before .before .before .before .before .before .before .before .before .before .before .before .before .before .args .paths .now) (c .before .before .before .before .before .before .before .before .before .before .before .before .before .before .before .before .before .before .before .before .args .targets .now) (c .before .before .before .before .before .before .before .before .before .before .before .before .before .before .before .before .before .before .before .before .args .taken) (c .before .before .before .before .before .before .before .before .before .before .before .before .before .before .before .before .before .before .before .before .args .x) _ _ (omega (arith, ap (λ (x : PathRecord). x .edges) (c .before .before .before .before .before .before .before .before .before .before .before .before .before .before .path-at .ensures), c .before .before .before .before .before .before .before .before .before .before .before .before .before .wide .ensures .0, c .before .before .before .before .before .before .before .before .before .before .before .before .wide2 .ensures .0)) (c .before .before .before .before .before .before .before .at .ensures)) (omega (arith, ap (λ (x : PathRecord). x .edges) (c .before .before .before .before .before .before .before .before .before .before .before .before .before .before .path-at .ensures), c .before .before .before .before .before .before .before .before .before .before .before .before .before .wide .ensures .0, c .before .before .before .before .before .before .before .before .before .before .before .before .wide2 .ensures .0, c .before .before .before .before .before .before .before .before .before .before .before .wide3 .ensures .0, c .before .before .before .before .before .before .before .before .before .before .if1 .left)) (c .before .before .before .before .path-put .ensures)
 
 pub extend-path-spec : {M : Type 1} → statement M
 extend-path-spec =

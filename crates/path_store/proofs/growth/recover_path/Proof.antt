@@ -16,7 +16,7 @@ use Rattle.path_store.specs.Grow.{recoveredRow, grow-full, grow-stored, 
 use native.Mathlib.Omega.{arith}
 
 returns : tie.Need-returns
-returns c = grow-full _ _ _ (recoveredRow (c .before .before .before .before .before .args .index .now) (c .before .before .before .before .before .args .paths .now) (c .before .before .before .before .before .args .scores .now) (c .before .before .before .before .before .args .to .now) (c .before .before .before .before .before .args .path) (c .before .before .before .before .before .args .k) (c .before .before .before .before .before .args .e)) _ (omega (arith, c .if1 .taken))
+returns c = grow-full _ _ _ (recoveredRow (c .before .before .before .before .before .args .index .now) (c .before .before .before .before .before .args .paths .now) (c .before .before .before .before .before .args .scores .now) (c .before .before .before .before .before .args .targets .now) (c .before .before .before .before .before .args .path) (c .before .before .before .before .before .args .k) (c .before .before .before .before .before .args .e)) _ (omega (arith, c .if1 .taken))
 
 path-at-requires : tie.Need-path-at-requires
 path-at-requires c κs = search needs
@@ -46,7 +46,7 @@ same-length-2 : tie.Need-same-length-2
 same-length-2 c = search needs
 
 returns-2 : tie.Need-returns-2
-returns-2 c = grow-stored _ _ _ (recoveredRow (c .before .before .before .before .before .before .before .before .before .before .before .before .before .before .before .before .before .before .before .before .before .before .args .index .now) (c .before .before .before .before .before .before .before .before .before .before .before .before .before .before .before .before .before .before .before .before .before .before .args .paths .now) (c .before .before .before .before .before .before .before .before .before .before .before .before .before .before .before .before .before .before .before .before .before .before .args .scores .now) (c .before .before .before .before .before .before .before .before .before .before .before .before .before .before .before .before .before .before .before .before .before .before .args .to .now) (c .before .before .before .before .before .before .before .before .before .before .before .before .before .before .before .before .before .before .before .before .before .before .args .path) (c .before .before .before .before .before .before .before .before .before .before .before .before .before .before .before .before .before .before .before .before .before .before .args .k) (c .before .before .before .before .before .before .before .before .before .before .before .before .before .before .before .before .before .before .before .before .before .before .args .e)) _ _ _ _ (recover-row (c .before .before .before .before .before .before .before .before .before .before .before .before .before .before .before .before .before .before .before .before .before .before .args .index .now) (c .before .before .before .before .before .before .before .before .before .before .before .before .before .before .before .before .before .before .before .before .before .before .args .paths .now) (c .before .before .before .before .before .before .before .before .before .before .before .before .before .before .before .before .before .before .before .before .before .before .args .scores .now) (c .before .before .before .before .before .before .before .before .before .before .before .before .before .before .before .before .before .before .before .before .before .before .args .to .now) (c .before .before .before .before .before .before .before .before .before .before .before .before .before .before .before .before .before .before .before .before .before .before .args .path) (c .before .before .before .before .before .before .before .before .before .before .before .before .before .before .before .before .before .before .before .before .before .before .args .k) (c .before .before .before .before .before .before .before .before .before .before .before .before .before .before .before .before .before .before .before .before .before .before .args .e) _ _ _ _ _ (ap (λ (x : PathRecord). x .score) (c .before .before .before .before .before .before .before .before .before .before .before .before .before .before .path-at .ensures)) (c .before .before .before .before .before .before .before .before .before .before .before .cut-path .ensures) (c .before .before .before .before .before .before .before .before .before .before .at .ensures) refl (c .before .before .before .before .before .before .before .cut-end .ensures)) (omega (arith, c .before .before .before .before .before .before .before .before .before .before .before .before .before .before .before .before .before .if1 .left)) (c .before .before .before .before .path-put .ensures)
+returns-2 c = grow-stored _ _ _ (recoveredRow (c .before .before .before .before .before .before .before .before .before .before .before .before .before .before .before .before .before .before .before .before .before .before .args .index .now) (c .before .before .before .before .before .before .before .before .before .before .before .before .before .before .before .before .before .before .before .before .before .before .args .paths .now) (c .before .before .before .before .before .before .before .before .before .before .before .before .before .before .before .before .before .before .before .before .before .before .args .scores .now) (c .before .before .before .before .before .before .before .before .before .before .before .before .before .before .before .before .before .before .before .before .before .before .args .targets .now) (c .before .before .before .before .before .before .before .before .before .before .before .before .before .before .before .before .before .before .before .before .before .before .args .path) (c .before .before .before .before .before .before .before .before .before .before .before .before .before .before .before .before .before .before .before .before .before .before .args .k) (c .before .before .before .before .before .before .before .before .before .before .before .before .before .before .before .before .before .before .before .before .before .before .args .e)) _ _ _ _ (recover-row (c .before .before .before .before .before .before .before .before .before .before .before .before .before .before .before .before .before .before .before .before .before .before .args .index .now) (c .before .before .before .before .before .before .before .before .before .before .before .before .before .before .before .before .before .before .before .before .before .before .args .paths .now) (c .before .before .before .before .before .before .before .before .before .before .before .before .before .before .before .before .before .before .before .before .before .before .args .scores .now) (c .before .before .before .before .before .before .before .before .before .before .before .before .before .before .before .before .before .before .before .before .before .before .args .targets .now) (c .before .before .before .before .before .before .before .before .before .before .before .before .before .before .before .before .before .before .before .before .before .before .args .path) (c .before .before .before .before .before .before .before .before .before .before .before .before .before .before .before .before .before .before .before .before .before .before .args .k) (c .before .before .before .before .before .before .before .before .before .before .before .before .before .before .before .before .before .before .before .before .before .before .args .e) _ _ _ _ _ (ap (λ (x : PathRecord). x .score) (c .before .before .before .before .before .before .before .before .before .before .before .before .before .before .path-at .ensures)) (c .before .before .before .before .before .before .before .before .before .before .before .cut-path .ensures) (c .before .before .before .before .before .before .before .before .before .before .at .ensures) refl (c .before .before .before .before .before .before .before .cut-end .ensures)) (omega (arith, c .before .before .before .before .before .before .before .before .before .before .before .before .before .before .before .before .before .if1 .left)) (c .before .before .before .before .path-put .ensures)
 
 pub recover-path-spec : {M : Type 1} → statement M
 recover-path-spec =

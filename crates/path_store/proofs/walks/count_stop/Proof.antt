@@ -21,7 +21,7 @@ count-last-requires : tie.Need-count-last-requires
 count-last-requires c κs = omega (arith, (ap (λ (x : PathRecord). x .edge) (c .before .path-at .ensures)), c .before .before .before .before .before .pre .1)
 
 add-result : tie.Need-add-result
-add-result c = omega (arith, stop-fits (c .before .before .before .before .before .before .args .to .now) (c .before .before .before .before .before .before .args .v) _ _ (c .before .before .path-at .result .edge) _ _ (c .before .count-fork .ensures) (c .count-last .ensures))
+add-result c = omega (arith, stop-fits (c .before .before .before .before .before .before .args .targets .now) (c .before .before .before .before .before .before .args .v) _ _ (c .before .before .path-at .result .edge) _ _ (c .before .count-fork .ensures) (c .count-last .ensures))
 
 returns : tie.Need-returns
 returns c = stop-is _ _ _ _ _ _ _ _ _ (ap (λ (x : PathRecord). x .chain) (c .before .before .path-at .ensures)) (ap (λ (x : PathRecord). x .fork) (c .before .before .path-at .ensures)) (ap (λ (x : PathRecord). x .edge) (c .before .before .path-at .ensures)) (c .before .count-fork .ensures) (c .count-last .ensures)

@@ -1,10 +1,10 @@
--- `fill_to` meets its contract: the places passed tell the targets of their edges. Assumes nothing.
+-- `fill_targets` meets its contract: the places passed tell the targets of their edges. Assumes nothing.
 use Prim.Native.Nat.{_+_, _-_, _*_}
 use native.Mathlib.Omega.{arith}
 use lib.ListN.{length, length-set}
 use Rattle.search_ground.specs.Tables.{Filled, IsTarget, filled-start, filled-next, targets-end}
-use Rattle.search_ground.proofs.fill_to.Statement.{statement}
-use Rattle.search_ground.proofs.fill_to.Tie as tie
+use Rattle.search_ground.proofs.fill_targets.Statement.{statement}
+use Rattle.search_ground.proofs.fill_targets.Tie as tie
 
 abbrev Inv-loop : tie.InvT-loop
 Inv-loop edges targets₀ e₀ targets e = Filled (IsTarget edges) targets₀ targets e
@@ -18,14 +18,14 @@ loop-holds c = filled-start
 edge-to-requires : tie.Need-edge-to-requires Inv-loop μ-loop
 edge-to-requires c κs = let h = c .loop-test .taken in let s = c .before .loop .inv .size in let p = c .before .before .before .before .pre in omega arith
 
-cast-to : tie.Need-cast-to Inv-loop μ-loop
-cast-to c = let h = c .before .before .before .before .shared-slice-known .given (c .before .before .loop .e * 6 + 1) in let q = c .edge-to .ensures in omega arith
+cast-targets : tie.Need-cast-targets Inv-loop μ-loop
+cast-targets c = let h = c .before .before .before .before .shared-slice-known .given (c .before .before .loop .e * 6 + 1) in let q = c .edge-to .ensures in omega arith
 
-mul-to : tie.Need-mul-to Inv-loop μ-loop
-mul-to c = let h = c .before .loop-test .taken in let s = c .before .before .loop .inv .size in let g = c .before .before .before .before .before .good in omega arith
+mul-targets : tie.Need-mul-targets Inv-loop μ-loop
+mul-targets c = let h = c .before .loop-test .taken in let s = c .before .before .loop .inv .size in let g = c .before .before .before .before .before .good in omega arith
 
-slice-write-to : tie.Need-slice-write-to Inv-loop μ-loop
-slice-write-to c = c .before .loop-test .taken
+slice-write-targets : tie.Need-slice-write-targets Inv-loop μ-loop
+slice-write-targets c = c .before .loop-test .taken
 
 add-e : tie.Need-add-e Inv-loop μ-loop
 add-e c = let h = c .before .loop-test .taken in let s = c .before .before .loop .inv .size in let g = c .before .before .before .before .before .good in omega arith
@@ -42,17 +42,17 @@ same-length c = c .before .loop .inv .size
 returns : tie.Need-returns Inv-loop μ-loop
 returns c = targets-end (c .before .loop .inv) (c .loop-test .left)
 
-pub fill-to-spec : {M : Type 1} → statement M
-fill-to-spec =
+pub fill-targets-spec : {M : Type 1} → statement M
+fill-targets-spec =
     tie.close
     (tie.spec
     Inv-loop
     μ-loop
     loop-holds
     edge-to-requires
-    cast-to
-    mul-to
-    slice-write-to
+    cast-targets
+    mul-targets
+    slice-write-targets
     add-e
     loop-less
     loop-again

@@ -1,10 +1,10 @@
--- `fill_only` meets its contract: the places passed tell the sole edges of their vertices. Assumes nothing.
+-- `fill_index` meets its contract: the places passed tell the sole edges of their vertices. Assumes nothing.
 use Prim.Native.Nat.{_-_}
 use native.Mathlib.Omega.{arith}
 use lib.ListN.{length, length-set}
 use Rattle.search_ground.specs.Tables.{Filled, IsSole, filled-start, filled-next, soles-end}
-use Rattle.search_ground.proofs.fill_only.Statement.{statement}
-use Rattle.search_ground.proofs.fill_only.Tie as tie
+use Rattle.search_ground.proofs.fill_index.Statement.{statement}
+use Rattle.search_ground.proofs.fill_index.Tie as tie
 
 abbrev Inv-loop : tie.InvT-loop
 Inv-loop vertices edges m sink index₀ v₀ index v = Filled (IsSole vertices edges m sink) index₀ index v
@@ -18,14 +18,14 @@ loop-holds c = filled-start
 sole-out-requires : tie.Need-sole-out-requires Inv-loop μ-loop
 sole-out-requires c κs = record { linked = c .before .before .before .before .before .pre .0; v-in = (let h = c .loop-test .taken in let s = c .before .loop .inv .size in let p = c .before .before .before .before .before .pre .1 in omega arith) }
 
-cast-only : tie.Need-cast-only Inv-loop μ-loop
-cast-only c = let h = c .sole-out .ensures .known in let p = c .before .before .before .before .before .before .pre .0 .few in omega arith
+cast-index : tie.Need-cast-index Inv-loop μ-loop
+cast-index c = let h = c .sole-out .ensures .known in let p = c .before .before .before .before .before .before .pre .0 .few in omega arith
 
-mul-only : tie.Need-mul-only Inv-loop μ-loop
-mul-only c = let h = c .before .loop-test .taken in let s = c .before .before .loop .inv .size in let g = c .before .before .before .before .before .before .good in omega arith
+mul-index : tie.Need-mul-index Inv-loop μ-loop
+mul-index c = let h = c .before .loop-test .taken in let s = c .before .before .loop .inv .size in let g = c .before .before .before .before .before .before .good in omega arith
 
-slice-write-only : tie.Need-slice-write-only Inv-loop μ-loop
-slice-write-only c = c .before .loop-test .taken
+slice-write-index : tie.Need-slice-write-index Inv-loop μ-loop
+slice-write-index c = c .before .loop-test .taken
 
 add-v : tie.Need-add-v Inv-loop μ-loop
 add-v c = let h = c .before .loop-test .taken in let s = c .before .before .loop .inv .size in let g = c .before .before .before .before .before .before .good in omega arith
@@ -42,17 +42,17 @@ same-length c = c .before .loop .inv .size
 returns : tie.Need-returns Inv-loop μ-loop
 returns c = soles-end (c .before .loop .inv) (c .loop-test .left)
 
-pub fill-only-spec : {M : Type 1} → statement M
-fill-only-spec =
+pub fill-index-spec : {M : Type 1} → statement M
+fill-index-spec =
     tie.close
     (tie.spec
     Inv-loop
     μ-loop
     loop-holds
     sole-out-requires
-    cast-only
-    mul-only
-    slice-write-only
+    cast-index
+    mul-index
+    slice-write-index
     add-v
     loop-less
     loop-again

@@ -1,0 +1,2 @@
+-- The widths of the workspace tables.
+pub mod Widths
