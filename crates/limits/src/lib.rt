@@ -1,11 +1,10 @@
 // Refusals 1 to 7 of document 01 in the table's order, after which numbers the workspace is unchanged, and the call that tells the slice lengths needed.
 use tables::EDGE;
 use tables::EDGE_ROW;
+use tables::FORK;
 use tables::KMER;
 use tables::NODE;
 use tables::NODE_ROW;
-use tables::OFFER;
-use tables::OFFERS;
 use tables::OPEN;
 use tables::PATH;
 use tables::QUEUED;
@@ -397,7 +396,7 @@ fn walks_told(asked: u32, g: GraphMaxima, s: SearchMaxima) -> usize
     let open = g.nodes as usize * OPEN;
     let queued = g.edges as usize * QUEUED;
     let walks = asked as usize * s.path_edges as usize;
-    larger(open, larger(queued, larger(OFFERS * OFFER, walks)))
+    larger(open, larger(queued, larger(FORK, walks)))
 }
 
 // The workspace of settings within limits; a path is made by a push, by closing, or as the extension of a fork.

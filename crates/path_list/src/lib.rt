@@ -39,8 +39,15 @@ pub fn write_list(
     sequences: &mut [u32],
     places: &mut [u32],
 )
-    requires { ⌜ Listable (now reference ++ now bases) (now vertices) (now edges) (now index) (now targets) (now paths) (now scores) (now closed) k most count (length (now walks)) (length (now rank)) (length (now «row_scores»)) (length (now «row_closings»)) (length (now «row_edges»)) (length (now «out_bases»)) (length (now sequences)) (length (now places)) ⌝ }
-    ensures { λ _. ⌜ Listed (now (reference .entry) ++ now (bases .entry)) (now (vertices .entry)) (now (edges .entry)) (now (index .entry)) (now (targets .entry)) (now (paths .entry)) (now (scores .entry)) (now (closed .entry)) k most count (now («row_scores» .entry)) (now («row_closings» .entry)) (now («row_edges» .entry)) (now («row_scores» .exit)) (now («row_closings» .exit)) (now («row_edges» .exit)) (now («out_bases» .entry)) (now (sequences .entry)) (now (places .entry)) (now («out_bases» .exit)) (now (sequences .exit)) (now (places .exit)) ⌝ }
+    requires { ⌜ (
+        let text = now reference ++ now bases in
+        let lengths = Listable text (now vertices) (now edges) (now index) (now targets) (now paths) (now scores) (now closed) k most count (length (now walks)) (length (now rank)) in
+        lengths (length (now «row_scores»)) (length (now «row_closings»)) (length (now «row_edges»)) (length (now «out_bases»)) (length (now sequences)) (length (now places))) ⌝ }
+    ensures { λ _. ⌜ (
+        let text = now (reference .entry) ++ now (bases .entry) in
+        let list = Listed text (now (vertices .entry)) (now (edges .entry)) (now (index .entry)) (now (targets .entry)) (now (paths .entry)) (now (scores .entry)) (now (closed .entry)) k most count in
+        let rows = list (now («row_scores» .entry)) (now («row_closings» .entry)) (now («row_edges» .entry)) (now («row_scores» .exit)) (now («row_closings» .exit)) (now («row_edges» .exit)) in
+        rows (now («out_bases» .entry)) (now (sequences .entry)) (now (places .entry)) (now («out_bases» .exit)) (now (sequences .exit)) (now (places .exit))) ⌝ }
 {
     write_walks(paths, scores, index, targets, closed, count, most, walks);
     rank_paths(

@@ -23,7 +23,7 @@ pub const PATH: usize = 9;
 // pivotal_edges: an edge whose target is still to be looked at
 pub const QUEUED: usize = 2;
 
-// fork_offers: an offer of a fork, and how many a fork makes at most
+// fork_offers: an offer, and all the offers of a fork, eight at most
 pub const OFFER: usize = 4;
 
-pub const OFFERS: usize = 8;
+pub const FORK: usize = 32;
