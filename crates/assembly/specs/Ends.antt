@@ -51,12 +51,3 @@ ends-flip a b e = above-is b a (is-below a b e)
 
 pub ends-flip' : (a b : Ends) → compareEnds a b ≡ Ordering·gt → compareEnds b a ≡ Ordering·lt
 ends-flip' a b e = below-is b a (is-above a b e)
-
-below-trans : (a b c : Ends) → Below a b → Below b c → Below a c
-below-trans a b c (inl h) (inl k) = inl (omega arith)
-below-trans a b c (inl h) (inr k) = inl (let p = k .0 in omega arith)
-below-trans a b c (inr h) (inl k) = inl (let p = h .0 in omega arith)
-below-trans a b c (inr h) (inr k) = inr (h .0 ∙ k .0, (let p = h .1 in let q = k .1 in omega arith))
-
-pub ends-trans : (a b c : Ends) → compareEnds a b ≡ Ordering·lt → compareEnds b c ≡ Ordering·lt → compareEnds a c ≡ Ordering·lt
-ends-trans a b c h k = below-is a c (below-trans a b c (is-below a b h) (is-below b c k))

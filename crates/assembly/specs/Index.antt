@@ -73,7 +73,8 @@ index-empty k idx z =
       apart = λ v w a b. absurd (omega arith);
     }
 
-position-first : {A : Type 0} (p : A → Bool) (d : A) (l : List A) (v : ℕ) → v < length l → p (getD l v d) ≡ true → position p l ≤ v
+-- the first place where p holds is no later than any
+pub position-first : {A : Type 0} (p : A → Bool) (d : A) (l : List A) (v : ℕ) → v < length l → p (getD l v d) ≡ true → position p l ≤ v
 position-first p d [] v h e = absurd (omega arith)
 position-first p d (y ∷ l) v h e = go (p y) refl v h e (λ u a b. position-first p d l u a b)
   where

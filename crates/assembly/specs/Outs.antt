@@ -10,8 +10,9 @@ use lib.Dec.{eqb, leb}
 use borrow.Author.Tests.{eqb-true, eq-eqb, le-leb, leb-true}
 use Rattle.laws.specs.Lists.{keep}
 use Rattle.definition.specs.Threading.{Ends, Edge, compareEnds, put, leaving}
+use Rattle.definition.proofs.Tables.{ends-lt}
 use Rattle.assembly.specs.Fields.{vertexField, outEdge, HasEdges, HasEdge, edgeFrom, edgeTo}
-use Rattle.assembly.specs.Ends.{ends-eq, ends-flip, ends-flip', ends-trans, Below, is-below, is-above}
+use Rattle.assembly.specs.Ends.{ends-eq, ends-flip, ends-flip', Below, is-below, is-above}
 use Rattle.assembly.specs.Puts.{put-nil, put-lt, put-eq, put-gt, merge-ends}
 use Rattle.assembly.specs.Table.{table, table-0, table-suc, Distinct}
 use Rattle.assembly.specs.Store.{edgeAt, edgesOf, code, code-lt, lastOf, Good}
@@ -27,7 +28,7 @@ Rising (e ∷ es) = Over (e .ends) es × Rising es
 
 over-trans : (a b : Ends) (es : List Edge) → compareEnds a b ≡ Ordering·lt → Over b es → Over a es
 over-trans a b [] h o = tt
-over-trans a b (x ∷ xs) h o = (ends-trans a b (x .ends) h (o .0), over-trans a b xs h (o .1))
+over-trans a b (x ∷ xs) h o = (ends-lt a b (x .ends) h (o .0), over-trans a b xs h (o .1))
 
 over-put : (d : Ends) (x : Edge) (es : List Edge) → compareEnds d (x .ends) ≡ Ordering·lt → Over d es → Over d (put x es)
 over-put d x [] h o = rw (put-nil x) (h, tt)

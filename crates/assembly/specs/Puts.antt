@@ -11,7 +11,8 @@ use native.Mathlib.Nat.{add-assoc}
 use lib.ListN.{length}
 use Rattle.laws.specs.Lists.{keep, find}
 use Rattle.definition.specs.Threading.{Ends, Edge, compareEnds, merge, put}
-use Rattle.assembly.specs.Ends.{ends-eq, ends-self, ends-flip, ends-flip', ends-trans}
+use Rattle.definition.proofs.Tables.{ends-lt}
+use Rattle.assembly.specs.Ends.{ends-eq, ends-self, ends-flip, ends-flip'}
 
 -- ---- its three clauses
 pub put-lt : (n e : Edge) (es : List Edge) → compareEnds (n .ends) (e .ends) ≡ Ordering·lt → put n (e ∷ es) ≡ n ∷ e ∷ es
@@ -94,7 +95,7 @@ put-comm x y (e ∷ es) h = go (compareEnds (x .ends) (e .ends)) (compareEnds (y
     apart a b p q l r = via _ _ _ _ _ (put-lt a e es p) (put-gt b a (e ∷ es) q ∙ ap (λ (m : List Edge). a ∷ m) r)
 
     after : (a b : Edge) → compareEnds (a .ends) (e .ends) ≡ Ordering·lt → compareEnds (b .ends) (e .ends) ≡ Ordering·gt → compareEnds (b .ends) (a .ends) ≡ Ordering·gt
-    after a b p q = ends-flip (a .ends) (b .ends) (ends-trans (a .ends) (e .ends) (b .ends) p (ends-flip' (b .ends) (e .ends) q))
+    after a b p q = ends-flip (a .ends) (b .ends) (ends-lt (a .ends) (e .ends) (b .ends) p (ends-flip' (b .ends) (e .ends) q))
 
     at : (a b : Edge) → compareEnds (a .ends) (e .ends) ≡ Ordering·lt → compareEnds (b .ends) (e .ends) ≡ Ordering·eq → compareEnds (b .ends) (a .ends) ≡ Ordering·gt
     at a b p q = ends-flip (a .ends) (b .ends) (rw (ends-eq (b .ends) (e .ends) q) p)

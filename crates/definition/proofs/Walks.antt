@@ -297,7 +297,7 @@ all-greatest {S} 𝓢 {P} b (cons {x = c} {xs = cs} p ps) t = go (greatest 𝓢 
         pick false u = let h : some d ≡ some b = rw (e, greatest, u) at t in let same : d ≡ b = cc in subst P same (ih d e)
 
 -- walking the trees makes none
-length-kept : {A : Type 0} (t : A → Bool) (xs : List A) → length (keep t xs) ≤ length xs
+pub length-kept : {A : Type 0} (t : A → Bool) (xs : List A) → length (keep t xs) ≤ length xs
 length-kept t [] = omega arith
 length-kept t (x ∷ xs) = go (t x) refl (length-kept t xs)
   where

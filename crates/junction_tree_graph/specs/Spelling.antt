@@ -16,6 +16,7 @@ use Rattle.laws.specs.ListLaws.{All, nil, cons, all-mono, all-zip, all-keep, al
 use Rattle.laws.specs.Numbers.{eqList, eqList-true, eqList-self}
 use Rattle.definition.specs.Stretch.{Stretch, kmers}
 use Rattle.definition.specs.Threading.{Ends, Origin, Edge, Graph, Threading, compareEnds, leaving, entering, lastBase, oneStep, merge, put, numberOf, withKmer, follow, stepTo, step, steps, backward, startAt, threadKmers, thread, threadAll}
+use Rattle.assembly.specs.Index.{position-first}
 use Rattle.assembly.specs.Puts.{put-nil, put-lt, put-eq, put-gt, merge-ends}
 use Rattle.assembly.specs.Kmers.{part, length-part, with-yes, with-no, position-true, position-le}
 use Rattle.junction_tree_graph.specs.Steps.{originOf}
@@ -268,20 +269,11 @@ pub threadAll-has : (k : ℕ) (rs : List Stretch) (g : Graph) (x : List ℕ) →
 threadAll-has k rs g x h = let w = threadAll-keeps k rs g (h .vertex) (h .inside) in record { vertex = h .vertex; inside = w .0; kmer = w .1 ∙ h .kmer }
 
 -- ---- such a kmer has a number below the count
-position-below : {A : Type 0} (p : A → Bool) (d : A) (l : List A) (v : ℕ) → v < length l → p (getD l v d) ≡ true → position p l ≤ v
-position-below p d [] v h e = absurd (omega arith)
-position-below p d (x ∷ l) v h e = go (p x) refl (λ u k f. position-below p d l u k f) v h e
-  where
-    go : (t : Bool) → p x ≡ t → ((u : ℕ) → u < length l → p (getD l u d) ≡ true → position p l ≤ u) → (u : ℕ) → u < suc (length l) → p (getD (x ∷ l) u d) ≡ true → position p (x ∷ l) ≤ u
-    go true c ih u k f = let z : position p (x ∷ l) ≡ 0 = rw (c, position) in omega arith
-    go false c ih zero k f = absurd (let z : true ≡ false = sym f ∙ c in let y : _≡_ {A = ℕ} 0 1 = cc in omega arith)
-    go false c ih (suc u) k f = let z : position p (x ∷ l) ≡ suc (position p l) = rw (c, position) in let y = ih u (omega arith) f in omega arith
-
 pub number-in : (g : Graph) (x : List ℕ) → Has g x → numberOf (g .kmers) x < length (g .kmers)
 unfolding numberOf
 number-in g x h =
     let e : eqList (getD (g .kmers) (h .vertex) []) x ≡ true = rw (h .kmer) (eqList-self x) in
-    let z = position-below (λ y. eqList y x) [] (g .kmers) (h .vertex) (h .inside) e in
+    let z = position-first (λ y. eqList y x) [] (g .kmers) (h .vertex) (h .inside) e in
     let y = h .inside in
     omega arith
 

@@ -13,6 +13,7 @@ use Rattle.laws.specs.Lists.{keep}
 use Rattle.laws.specs.ListLaws.{All, nil, cons, all-append}
 use Rattle.definition.specs.Threading.{Ends, Edge, leaving, supportOf}
 use Rattle.definition.specs.Search.{among, endsOf, pivotalOf}
+use Rattle.definition.proofs.Walks.{length-kept}
 use Rattle.assembly.specs.Fields.{edgeTo, edgeSupport}
 use Rattle.assembly.specs.Store.{edgeAt, edgesOf}
 use Rattle.assembly.specs.Outs.{Slots, Nexts, outFrom}
@@ -118,21 +119,13 @@ pub record Lister (es : List ℕ) (m v : ℕ) (marks out₀ out : List ℕ) (n�
 drop-more : {A : Type 0} (n : ℕ) (a b : List A) → drop n a ≡ drop n b → drop (n + 1) a ≡ drop (n + 1) b
 drop-more n a b e = sym (drop-drop 1 n a) ∙ ap (λ l. drop 1 l) e ∙ drop-drop 1 n b
 
-pub length-keep : {A : Type 0} (t : A → Bool) (xs : List A) → length (keep t xs) ≤ length xs
-length-keep t [] = omega arith
-length-keep t (x ∷ xs) = go (t x) refl (length-keep t xs)
-  where
-    go : (b : Bool) → t x ≡ b → length (keep t xs) ≤ length xs → length (keep t (x ∷ xs)) ≤ suc (length xs)
-    go true e h = rw e (omega arith)
-    go false e h = rw e (omega arith)
-
 pub length-ends : (es : List Edge) → length (endsOf es) ≡ length es
 unfolding endsOf
 length-ends [] = refl
 length-ends (e ∷ es) = ap suc (length-ends es)
 
 pub wanted-few : (vis : List Ends) (es : List Edge) → length (wanted vis es) ≤ length (fresh vis es)
-wanted-few vis es = let a = length-ends (keep counts (fresh vis es)) in let b = length-keep counts (fresh vis es) in omega arith
+wanted-few vis es = let a = length-ends (keep counts (fresh vis es)) in let b = length-kept counts (fresh vis es) in omega arith
 
 wanted-nil : (vis : List Ends) → wanted vis [] ≡ []
 unfolding endsOf

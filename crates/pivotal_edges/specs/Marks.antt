@@ -13,6 +13,7 @@ use borrow.Author.Tests.{lt-ltb, le-ltb, eq-eqb, eqb-true}
 use Rattle.laws.specs.Lists.{keep, any}
 use Rattle.definition.specs.Threading.{Ends, Edge, eqEnds, leaving}
 use Rattle.definition.specs.Search.{among, endsOf}
+use Rattle.definition.proofs.Fuel.{among-append}
 use Rattle.assembly.specs.Fields.{edgeFrom, edgeTo}
 use Rattle.assembly.specs.Table.{Distinct, table}
 use Rattle.assembly.specs.Store.{edgeAt, edgesOf}
@@ -67,16 +68,6 @@ pub among-all : (es : List ℕ) (m i : ℕ) → Distinct (edgeAt es) m → i < m
 unfolding edgesOf
 among-all es m i d h = among-has (edgeAt es i) (table (edgeAt es) m) (has-table (edgeAt es) m i d h)
 
-among-two : (d : Ends) (xs ys : List Ends) → among d (xs ++ ys) ≡ (among d xs || among d ys)
-unfolding among
-among-two d [] ys = refl
-among-two d (x ∷ xs) ys = go (eqEnds d x) refl (among-two d xs ys)
-  where
-    go : (b : Bool) → eqEnds d x ≡ b → any (eqEnds d) (xs ++ ys) ≡ (any (eqEnds d) xs || any (eqEnds d) ys)
-        → (eqEnds d x || any (eqEnds d) (xs ++ ys)) ≡ ((eqEnds d x || any (eqEnds d) xs) || any (eqEnds d) ys)
-    go true e ih = rw e
-    go false e ih = rw e ih
-
 -- ---- the walk
 pub record Marks (vs es : List ℕ) (m v : ℕ) (marks : List ℕ) : Type 0 where
   pub here : Here vs es m v
@@ -110,7 +101,7 @@ module _ {vs es : List ℕ} {m v : ℕ} {marks₀ : List ℕ} (p : Marks vs es m
         let a : among (endsAt es i) (endsOf (fresh vis (leaving (edgesOf es m) v))) ≡ (not (among (endsAt es i) vis) && (eqb (edgeFrom es i) v && among (endsAt es i) (endsOf (edgesOf es m)))) =
         among-keep (endsAt es i) (λ (d : Ends). not (among d vis)) (leaving (edgesOf es m) v)
         ∙ ap (λ (z : Bool). not (among (endsAt es i) vis) && z) (among-keep (endsAt es i) (λ (d : Ends). eqb (d .from) v) (edgesOf es m)) in
-        among-two (endsAt es i) vis (endsOf (fresh vis (leaving (edgesOf es m) v)))
+        among-append (endsAt es i) vis (endsOf (fresh vis (leaving (edgesOf es m) v)))
         ∙ ap (λ (z : Bool). among (endsAt es i) vis || z) (a ∙ ap (λ (z : Bool). not (among (endsAt es i) vis) && (eqb (edgeFrom es i) v && z)) (among-all es m i (p .here .linked .distinct) l))
         ∙ go (among (endsAt es i) vis) (eqb (edgeFrom es i) v) refl
         ∙ ap (λ (z : Bool). z || (eqb (edgeFrom es i) v && ltb (edgeTo es i) t)) (s i l)

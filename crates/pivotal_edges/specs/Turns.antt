@@ -15,12 +15,13 @@ use Rattle.laws.specs.ListLaws.{All, nil, all-head, all-tail, all-mono, all-fro
 use Rattle.definition.specs.Threading.{Ends, Edge, leaving}
 use Rattle.definition.specs.Search.{SearchInput, among, endsOf, Queued, enqueueAll, pivotalOf, pivotalFrom, pivotalEdges}
 use Rattle.definition.proofs.Fuel.{among-mem, among-append}
+use Rattle.definition.proofs.Walks.{length-kept}
 use Rattle.assembly.specs.Fields.{HasEdge, edgeTo}
 use Rattle.assembly.specs.Table.{length-table}
 use Rattle.assembly.specs.Store.{edgeAt, edgesOf}
 use Rattle.pivotal_edges.specs.Queue.{endsAt, queuedAt, part, part-none, part-cons}
 use Rattle.pivotal_edges.specs.Walk.{Linked, Here, Seen, fresh}
-use Rattle.pivotal_edges.specs.Lists.{Lists, Listed, counts, length-keep, length-ends}
+use Rattle.pivotal_edges.specs.Lists.{Lists, Listed, counts, length-ends}
 use Rattle.pivotal_edges.specs.Queues.{view, Entry, Queues, QueuedOut}
 use Rattle.pivotal_edges.specs.Marks.{Marks, Marked, among-keep}
 
@@ -78,7 +79,7 @@ unfolding pivotalOf
 pivotal-few out new = go (ltb 1 (length out))
   where
     go : (b : Bool) → length (cond b (endsOf (keep counts new)) []) ≤ length new
-    go true = let a = length-ends (keep counts new) in let c = length-keep counts new in omega arith
+    go true = let a = length-ends (keep counts new) in let c = length-kept counts new in omega arith
     go false = omega arith
 
 drop-on : {A : Type 0} (k n : ℕ) (a b : List A) → drop n a ≡ drop n b → drop (n + k) a ≡ drop (n + k) b
@@ -138,7 +139,7 @@ module _ {vs es : List ℕ} {m : ℕ} {q₀ marks₀ out₀ : List ℕ} (p : Piv
 
   first-few : length (leaving (edgesOf es m) 0) ≤ m
   unfolding leaving
-  first-few = let a = length-keep (λ (e : Edge). eqb (e .ends .from) 0) (edgesOf es m) in let b = length-all in omega arith
+  first-few = let a = length-kept (λ (e : Edge). eqb (e .ends .from) 0) (edgesOf es m) in let b = length-all in omega arith
 
   none : part q₀ 0 0 ≡ []
   none = part-none q₀ 0 0 (omega arith) (omega arith)
