@@ -1,4 +1,5 @@
 // The kmer size of `bio_ids.rs`, and document 01's limit on it.
+use refusals::KMER_SIZE;
 ghost use mathlib.Core.Path.{_≡_};
 ghost use Rattle.definition.specs.Refusal.{firstBroken};
 ghost use Rattle.bio_ids.specs.Sizes.{sizeOf, triedRefusal, atLeastTwo, kRules};
@@ -11,9 +12,6 @@ pub enum TriedKmerSize {
     Size(KmerSize),
     Refused(u32),
 }
-
-// k is outside the limits.
-const OUTSIDE_LIMITS: u32 = 1;
 
 // The number of a refusal, 0 for none.
 fn tried_refusal(r: TriedKmerSize) -> u32
@@ -31,7 +29,7 @@ impl KmerSize {
         ensures { λ r. ⌜ sizeOf r ≡ atLeastTwo k ⌝ }
     {
         if k < 2 {
-            return TriedKmerSize::Refused(OUTSIDE_LIMITS);
+            return TriedKmerSize::Refused(KMER_SIZE);
         }
         TriedKmerSize::Size(KmerSize(k))
     }
@@ -49,7 +47,7 @@ pub fn k_refusal(k: u32) -> u32
     ensures { λ r. ⌜ r ≡ firstBroken (kRules k) ⌝ }
 {
     if k > 128 {
-        return OUTSIDE_LIMITS;
+        return KMER_SIZE;
     }
     let tried = KmerSize::try_new(k as u16);
     let TriedKmerSize::Size(_) = tried else {

@@ -14,6 +14,7 @@ use assembly::incoming_edge;
 use assembly::kmer_bucket;
 use assembly::out_edge;
 use assembly::wide;
+use refusals::GRAPH_MAXIMUM;
 ghost use mathlib.Core.Path.{_≡_};
 ghost use mathlib.Core.Bool.{not};
 ghost use mathlib.Core.List.{_++_};
@@ -53,9 +54,6 @@ pub enum Step {
     Next(At),
     Refused(u32),
 }
-
-// A vertex or an edge above its maximum.
-const ABOVE_MAXIMUM: u32 = 8;
 
 // A graph in the tables: how many kmers and threaded edges it has. The symbolic vertex has the next number, and the symbolic edge is the next row.
 pub struct Built {
@@ -101,7 +99,7 @@ fn get_or_create_kmer_vertex(
         });
     }
     if n >= most.vertices {
-        return Step::Refused(ABOVE_MAXIMUM);
+        return Step::Refused(GRAPH_MAXIMUM);
     }
     create_vertex(vertices, n, q);
     enter_kmer(index, n, h);
@@ -148,7 +146,7 @@ fn extend_chain_by_one(
         });
     }
     if m >= most.edges {
-        return Step::Refused(ABOVE_MAXIMUM);
+        return Step::Refused(GRAPH_MAXIMUM);
     }
     let r = get_or_create_kmer_vertex(reference, bases, vertices, index, k, most, s, q);
     let Step::Next(t) = r else {

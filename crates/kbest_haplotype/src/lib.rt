@@ -1,4 +1,5 @@
 // The penalty of `kbest_haplotype.rs` over the lent logarithm column, whose place n holds log10 of n, and the limits on that column.
+use refusals::NO_PLACE;
 ghost use mathlib.Core.Path.{_≡_};
 ghost use mathlib.Core.Bool.{_&&_};
 ghost use Prim.Native.Nat.{max};
@@ -13,9 +14,6 @@ pub enum Penalty {
     Of(f64),
     Refused(u32),
 }
-
-// A count or a total has no place in the column.
-const NO_PLACE: u32 = 10;
 
 // The number of a refusal, 0 for none.
 pub fn penalty_refusal(p: Penalty) -> u32

@@ -1,4 +1,10 @@
 // Refusals 1 to 7 of document 01 in the table's order, after which numbers the workspace is unchanged, and the call that tells the slice lengths needed.
+use refusals::COLUMN;
+use refusals::LENT_SLICE;
+use refusals::READS;
+use refusals::REFERENCE_BASE;
+use refusals::REFERENCE_LENGTH;
+use refusals::SETTINGS;
 use tables::EDGE;
 use tables::EDGE_ROW;
 use tables::FORK;
@@ -194,10 +200,10 @@ pub fn check_reference(k: u32, reference: &[u8]) -> u32
         return refusal;
     }
     if !reference_fits(k, reference) {
-        return 2;
+        return REFERENCE_LENGTH;
     }
     if !reference_bases(reference) {
-        return 3;
+        return REFERENCE_BASE;
     }
     0
 }
@@ -212,7 +218,7 @@ pub fn check_origin(k: u32, reference: &[u8], ends: &[u32], bases: &[u8]) -> u32
     }
     let divided = ends_fit(ends, bases);
     if !divided {
-        return 4;
+        return READS;
     }
     0
 }
@@ -228,7 +234,7 @@ pub fn check_sample(k: u32, reference: &[u8], ends: &[u32], bases: &[u8], qualit
         return refusal;
     }
     if !reads_fit(ends, bases, qualities) {
-        return 4;
+        return READS;
     }
     0
 }
@@ -254,12 +260,12 @@ pub fn check_graph(
     }
     let maxima_good = graph_maxima_fit(g);
     if !maxima_good {
-        return 5;
+        return SETTINGS;
     }
     if long_enough {
         return 0;
     }
-    7
+    LENT_SLICE
 }
 
 // 1 to 7 of the call for the list; neither the threshold nor recovery has a limit.
@@ -288,14 +294,14 @@ pub fn check_list(
     }
     let settings_good = settings_fit(asked, g, s);
     if !settings_good {
-        return 5;
+        return SETTINGS;
     }
     let column_good = kbest_haplotype::column_fits(column);
     if !column_good {
-        return 6;
+        return COLUMN;
     }
     if !long_enough {
-        return 7;
+        return LENT_SLICE;
     }
     0
 }
@@ -342,7 +348,7 @@ fn check_lengths(k: u32, asked: u32, g: GraphMaxima, s: SearchMaxima) -> u32
         return refusal;
     }
     if !settings_fit(asked, g, s) {
-        return 5;
+        return SETTINGS;
     }
     0
 }

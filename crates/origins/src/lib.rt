@@ -1,4 +1,5 @@
 // The call for the bytes at an origin, and the call beside it that tells the refusal's number.
+use refusals::NO_ORIGIN;
 ghost use mathlib.Core.Path.{_≡_};
 ghost use Prim.Native.Nat.{_≤_};
 ghost use lib.ListN.{length};
@@ -16,9 +17,6 @@ pub enum Found {
     At(Part),
     Refused(u32),
 }
-
-// An origin that names no sequence, or whose k + 1 bytes do not fit it.
-const NO_PART: u32 = 13;
 
 // Where a read, counted from 0, starts in the read bases: where the one before it ends.
 fn read_start(ends: &[u32], read: usize) -> usize
@@ -43,7 +41,7 @@ fn fit(k: u32, in_reads: bool, start: usize, length: usize, place: u32) -> Found
             start: start + from,
         });
     }
-    Found::Refused(NO_PART)
+    Found::Refused(NO_ORIGIN)
 }
 
 // The part that an origin names, or its refusal.
@@ -66,7 +64,7 @@ pub fn find_origin(
     }
     let read = sequence as usize - 1;
     if read >= ends.len() {
-        return Found::Refused(NO_PART);
+        return Found::Refused(NO_ORIGIN);
     }
     let start = read_start(ends, read);
     let length = ends[read] as usize - start;

@@ -270,8 +270,8 @@ module _ (d : Decimal) where
       go zero h = absurd (omega arith)
       go (suc n) h = refl
 
-  pub asked-nought : d .negative ≡ true → d .size ≤ 0 → d .size ≡ askedOf (valueOf d)
-  asked-nought e h = rw e (go (d .size) h)
+  pub asked-zero : d .negative ≡ true → d .size ≤ 0 → d .size ≡ askedOf (valueOf d)
+  asked-zero e h = rw e (go (d .size) h)
     where
       go : (n : ℕ) → n ≤ 0 → n ≡ askedOf (negℤ (pos n))
       go zero h = refl
@@ -297,15 +297,15 @@ module _ (d : Decimal) where
       go true (suc n) h = refl
       go false n h = rw (lt-leb n most h)
 
-  pub below-nought : (most : ℕ) → d .negative ≡ true → 0 < d .size → none ≡ upTo most (valueOf d)
-  below-nought most e h = rw e (go (d .size) h)
+  pub below-zero : (most : ℕ) → d .negative ≡ true → 0 < d .size → none ≡ upTo most (valueOf d)
+  below-zero most e h = rw e (go (d .size) h)
     where
       go : (n : ℕ) → 0 < n → none ≡ upTo most (negℤ (pos n))
       go zero h = absurd (omega arith)
       go (suc n) h = refl
 
-  pub nought-within : (most : ℕ) → d .size ≤ most → d .negative ≡ true → d .size ≤ 0 → some (d .size) ≡ upTo most (valueOf d)
-  nought-within most k e h = rw e (go (d .size) h k)
+  pub zero-within : (most : ℕ) → d .size ≤ most → d .negative ≡ true → d .size ≤ 0 → some (d .size) ≡ upTo most (valueOf d)
+  zero-within most k e h = rw e (go (d .size) h k)
     where
       go : (n : ℕ) → n ≤ 0 → n ≤ most → some n ≡ upTo most (negℤ (pos n))
       go zero h k = rw (le-leb 0 most k)

@@ -1,5 +1,5 @@
 -- `asked_of` meets its contract, by the sign. Assumes nothing.
-use Rattle.paths_text.specs.Numbers.{asked-below, asked-nought}
+use Rattle.paths_text.specs.Numbers.{asked-below, asked-zero}
 use borrow.Author.Needs.{needs}
 use Rattle.paths_text.proofs.numbers.asked_of.Statement.{statement}
 use Rattle.paths_text.proofs.numbers.asked_of.Tie as tie
@@ -8,7 +8,7 @@ returns : tie.Need-returns
 returns c = asked-below (c .before .before .before .args .d) (c .before .before .if1 .taken) (c .if2 .taken)
 
 returns-2 : tie.Need-returns-2
-returns-2 c = asked-nought (c .before .before .before .args .d) (c .before .before .if1 .taken) (c .if2 .left)
+returns-2 c = asked-zero (c .before .before .before .args .d) (c .before .before .if1 .taken) (c .if2 .left)
 
 returns-3 : tie.Need-returns-3
 returns-3 c = search needs

@@ -1,5 +1,5 @@
 -- `up_to` meets its contract, by the sign. Assumes nothing.
-use Rattle.paths_text.specs.Numbers.{above-most, below-nought, nought-within, above-within}
+use Rattle.paths_text.specs.Numbers.{above-most, below-zero, zero-within, above-within}
 use Rattle.paths_text.proofs.numbers.up_to.Statement.{statement}
 use Rattle.paths_text.proofs.numbers.up_to.Tie as tie
 
@@ -9,12 +9,12 @@ returns c = above-most (c .before .before .args .d) (c .before .before .args .mo
 returns-2 : tie.Need-returns-2
 returns-2 c =
     let c5 = c .before .before .before .before .before in
-    below-nought (c5 .args .d) (c5 .args .most) (c .before .before .if2 .taken) (c .if3 .taken)
+    below-zero (c5 .args .d) (c5 .args .most) (c .before .before .if2 .taken) (c .if3 .taken)
 
 returns-3 : tie.Need-returns-3
 returns-3 c =
     let c5 = c .before .before .before .before .before in
-    nought-within (c5 .args .d) (c5 .args .most) (c .before .before .before .if1 .left) (c .before .before .if2 .taken) (c .if3 .left)
+    zero-within (c5 .args .d) (c5 .args .most) (c .before .before .before .if1 .left) (c .before .before .if2 .taken) (c .if3 .left)
 
 returns-4 : tie.Need-returns-4
 returns-4 c =
