@@ -54,7 +54,7 @@ pub record Rests (t : List ℕ) (sc : List Float) (ac queue closed marks t′ : 
   pub scores : sc′ ≡ sc
   pub actives : ac′ ≡ ac
   pub waiting : queue′ ≡ queue
-  pub closed : closed′ ≡ closed
+  pub closed-same : closed′ ≡ closed
   pub marked : marks′ ≡ marks
 
 -- by what came of the turn
@@ -101,11 +101,11 @@ module _ (f : SearchInput) (g : Setting) (vs es x index targets : List ℕ) (col
       let a = A .room .paths in
       let b = A .room .scores in
       let c = A .room .actives in
-      let d = A .room .closed in
+      let d = A .room .closed-room in
       let h = A .ground .pushes-fit in
       let k = A .ground .asked-fits in
       let m : (p .records + 9) * g .active ≤ (g .pushes + g .asked + 8) * g .active = mul-le-mul-right (g .active) (omega arith) in
-      record { paths = omega arith; scores = omega arith; actives = omega arith; number = omega arith; closed = omega arith }
+      record { paths = omega arith; scores = omega arith; actives = omega arith; number = omega arith; closed-room = omega arith }
 
   -- a turn that goes on leaves a good state
   pub good-on : (s′ : State Float) → turnOf column f g s ≡ more s′ → GoodState NotNan f s′
@@ -119,5 +119,5 @@ room-kept g t sc ac queue closed t′ sc′ ac′ queue′ closed′ a b c d e R
     let v = R .scores in
     let w = R .actives in
     let y = R .waiting in
-    let z = R .closed in
-    record { paths = omega arith; scores = omega arith; actives = omega arith; waiting = omega arith; closed = omega arith }
+    let z = R .closed-room in
+    record { paths = omega arith; scores = omega arith; actives = omega arith; waiting = omega arith; closed-room = omega arith }

@@ -28,7 +28,7 @@ module _ {f : SearchInput} {g : Setting} {es x index targets : List ℕ} {bs : �
 
   pub closed-many : length (s .closed) ≡ p .closed
   closed-many =
-      ap (λ (l : List (Closed Float)). length l) (H .closed)
+      ap (λ (l : List (Closed Float)). length l) (H .closed-is)
       ∙ length-map (take (p .closed) closed) (closedRecord es index targets closing t sc)
       ∙ length-take-le (p .closed) closed (H .closed-room)
 

@@ -44,7 +44,7 @@ pub record Roomy (g : Setting) (t : List ℕ) (sc : List Float) (ac closed : Lis
   pub scores : p .records + 9 ≤ length sc
   pub actives : (p .records + 9) * g .active ≤ length ac
   pub number : p .records + 9 < 2147483648
-  pub closed : p .closed < length closed
+  pub closed-room : p .closed < length closed
 
 -- the stores as a search f has them, once the path is taken and its chain is known
 pub record Extending (f : SearchInput) (g : Setting) (vs es x index targets : List ℕ) (column : List Float) (bs : ℕ → List Branches) (closing : ℕ → ℕ) (t : List ℕ) (sc : List Float) (ac queue closed order marks : List ℕ)
@@ -222,7 +222,7 @@ module _ (f : SearchInput) (g : Setting) (vs es x index targets : List ℕ) (col
         let c = E .roomy .actives in
         let d : (p .records + 1) * g .active ≤ (p .records + 9) * g .active = mul-le-mul-right (g .active) (omega arith) in
         let e = E .roomy .number in
-        joined-closing f g vs es x index targets bs cl t sc ac queue closed order marks p s taken (E .holds) (E .idle .known) (E .apart) t₁ sc₁ ac₁ J (E .ground) (E .roomy .closed) (omega arith)
+        joined-closing f g vs es x index targets bs cl t sc ac queue closed order marks p s taken (E .holds) (E .idle .known) (E .apart) t₁ sc₁ ac₁ J (E .ground) (E .roomy .closed-room) (omega arith)
         (omega arith) (omega arith) (omega arith)
 
     closed-want : {o : Result (State Float)} → closing f es index targets (J .branches) t₁ sc₁ taken s ≡ o → closeAt f v second (chainAfter f first) s ≡ o

@@ -29,7 +29,7 @@ pub record Finds (g : Setting) (vs es x index targets : List ℕ) (column : List
   pub allowed : 0 < g .pushes
   pub order-room : g .edges ≤ length order
   pub marks-room : g .edges ≤ length marks
-  pub walks : g .edges + g .edges ≤ length walks
+  pub queued : g .edges + g .edges ≤ length walks
   pub walks-room : g .most ≤ length walks
   pub rows : 32 ≤ length walks
 

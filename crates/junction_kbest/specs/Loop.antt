@@ -81,7 +81,7 @@ module _ (g : Setting) (vs es x index targets : List ℕ) (column : List Float) 
         lists =
             record {
               based = record { f = F .input; x = x; index = index; targets = targets; ground = F .ground };
-              queue-room = F .walks;
+              queue-room = F .queued;
               order-room = F .order-room;
               marks-room = F .marks-room;
             };
@@ -227,7 +227,7 @@ module _ (g : Setting) (vs es x index targets : List ℕ) (column : List Float) 
               closings = L .closings;
               state = L .state;
               is = L .is ∙ rest-ended (columnScoring column) f (g .asked) (g .pushes) (L .state) (B .0);
-              holds = rw (S .paths, S .scores, S .actives, S .waiting, S .closed, S .marked) (L .at .holds);
+              holds = rw (S .paths, S .scores, S .actives, S .waiting, S .closed-same, S .marked) (L .at .holds);
             });
       })
 
@@ -253,6 +253,6 @@ pub record Looping (g : Setting) (vs es x index targets : List ℕ) (column : Li
   pub scores : length sc ≡ length sc₀
   pub actives : length ac ≡ length ac₀
   pub waiting : length queue ≡ length queue₀
-  pub closed : length closed ≡ length closed₀
+  pub closed-length : length closed ≡ length closed₀
   pub marked : length marks ≡ length marks₀
   pub walked : length walks ≡ length walks₀

@@ -58,7 +58,7 @@ module _ (g : Setting) (vs es x index targets : List ℕ) (column : List Float) 
             let k = head-of (s .waiting) (omega arith) in (
               turn-over (columnScoring column) f (g .asked) (g .pushes) s (closed-unmet f g vs es x index targets column bs cl t sc ac queue closed order marks p s A unmet) (k .first) (k .rest) (k .is)
                   (omega arith),
-              record { paths = refl; scores = refl; actives = refl; waiting = refl; closed = refl; marked = refl },
+              record { paths = refl; scores = refl; actives = refl; waiting = refl; closed-same = refl; marked = refl },
             ));
       }
 
@@ -91,7 +91,7 @@ module _ (g : Setting) (vs es x index targets : List ℕ) (column : List Float) 
             apart = taken .apart;
             roomy =
                 (let R = roomy f g vs es x index targets column bs cl t sc ac queue closed order marks p s A unmet in
-                record { paths = R .paths; scores = R .scores; actives = R .actives; number = R .number; closed = R .closed });
+                record { paths = R .paths; scores = R .scores; actives = R .actives; number = R .number; closed-room = R .closed-room });
           })
 
       -- the turn is what is made of the taken path, pushed

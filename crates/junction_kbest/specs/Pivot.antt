@@ -219,7 +219,7 @@ module _ (g : Setting) (es index targets t : List ℕ) (sc : List Float) (queue 
               is = λ f bs cl s A unmet. (
                 turn-ended (columnScoring column) f (g .asked) (g .pushes) s (still-unmet vs x ac column f bs cl s A unmet) (still vs x ac column f bs cl s A unmet)
                     (X .2 (around vs x ac column f bs cl s A unmet) s (resting vs x ac column f bs cl s A unmet)),
-                record { paths = X .0; scores = X .1; actives = refl; waiting = Y .0; closed = refl; marked = refl },
+                record { paths = X .0; scores = X .1; actives = refl; waiting = Y .0; closed-same = refl; marked = refl },
               );
             };
           })

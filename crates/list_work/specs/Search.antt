@@ -198,13 +198,13 @@ module _ {i : Input} {o : Outputs} {w : Tables} {b : Raise} (q : Searches i o w 
             scores = (let z = q .scores in omega arith);
             actives = (let z = q .active in omega arith);
             waiting = (let z = q .queue in omega arith);
-            closed = (let z = q .closed in omega arith);
+            closed-room = (let z = q .closed in omega arith);
           });
           allowed = omega arith;
           order-room = omega arith;
           marks-room = omega arith;
-          pivots = (let y = v .0 in omega arith);
-          walks = (let y = v .2 in omega arith);
+          queued = (let y = v .0 in omega arith);
+          walks-room = (let y = v .2 in omega arith);
           rows = v .1;
         }
 
@@ -235,7 +235,7 @@ module _ {i : Input} {o : Outputs} {w : Tables} {b : Raise} (q : Searches i o w 
             search-counted (column-keeps (i .column) (q .checks .column-fits)) f (i .asked) (i .searchMaxima .pushes) (i .recovery) (there .state) (some-pushes i (q .checks)) reached
 
         closed-are : length (there .state .closed) ≡ p .closed
-        closed-are = ap length (there .holds .closed) ∙ length-map (take (p .closed) closed′) _ ∙ length-take-le (p .closed) closed′ (there .holds .closed-room)
+        closed-are = ap length (there .holds .closed-is) ∙ length-map (take (p .closed) closed′) _ ∙ length-take-le (p .closed) closed′ (there .holds .closed-room)
 
         closed-few : p .closed ≤ i .asked
         closed-few = let a = closed-are in let c = counted .closed in omega arith

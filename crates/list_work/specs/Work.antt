@@ -28,12 +28,12 @@ use Rattle.list_work.specs.Search.{Searches, none-asked}
 max-first : (a b n : ℕ) → n ≡ max a b → a ≤ n
 max-first a b n e = omega arith
 
--- the parts of the tables that the search is handed; es, idx and to are the lengths of those tables
-pub record Parts (i : Input) (es idx targets : ℕ) (b : Raise) : Type 0 where
+-- the parts of the tables that the search is handed; ne, ni and nt are the lengths of those tables
+pub record Parts (i : Input) (ne ni nt : ℕ) (b : Raise) : Type 0 where
   pub few : b .edges + 1 ≤ 8192
-  pub rows : edgeNumbers (b .edges + 1) ≤ es
-  pub index : i .graphMaxima .vertices ≤ idx
-  pub targets : b .edges + 1 ≤ targets
+  pub rows : edgeNumbers (b .edges + 1) ≤ ne
+  pub index : i .graphMaxima .vertices ≤ ni
+  pub targets : b .edges + 1 ≤ nt
 
 module _ {i : Input} {o : Outputs} {w : Tables} (q : Works i o w) where
   pub work-raises : Raises (i .sample) (i .graphMaxima) (w .vertices) (w .edges) (w .index) (w .nodes) (w .walks)

@@ -130,7 +130,7 @@ module _ (f : SearchInput) (g : Setting) (es x index targets : List ℕ) (bs : �
         once = H .once;
         waiting = H .waiting;
         closed-known = H .closed-known;
-        closed = H .closed;
+        closed-is = H .closed-is;
         closed-room = H .closed-room;
         pivotal =
             ap (λ (l : List Ends). crossOff (map (nameOf es) ds) l) (H .pivotal)
@@ -185,7 +185,7 @@ module _ (f : SearchInput) (g : Setting) (es x index targets : List ℕ) (bs : �
   both : s .closed ++ closedOf (nameOf es) index targets t sc c (p .records) ∷ []
       ≡ map (closedRecord es index targets (closingWith cl (p .records) c) t sc) (take (p .closed + 1) closed′)
   both =
-      ap (λ (l : List (Closed Float)). l ++ closedOf (nameOf es) index targets t sc c (p .records) ∷ []) (H .closed ∙ earlier)
+      ap (λ (l : List (Closed Float)). l ++ closedOf (nameOf es) index targets t sc c (p .records) ∷ []) (H .closed-is ∙ earlier)
       ∙ ap (λ (d : ℕ). map (closedRecord es index targets (closingWith cl (p .records) c) t sc) (take (p .closed) closed) ++ closedOf (nameOf es) index targets t sc d (p .records) ∷ []) (sym (closing-own cl (p .records) c))
       ∙ sym (map-append (closedRecord es index targets (closingWith cl (p .records) c) t sc) (take (p .closed) closed) (p .records ∷ []))
       ∙ ap (λ (l : List ℕ). map (closedRecord es index targets (closingWith cl (p .records) c) t sc) l) (sym numbers)
@@ -201,7 +201,7 @@ module _ (f : SearchInput) (g : Setting) (es x index targets : List ℕ) (bs : �
         once = H .once;
         waiting = H .waiting;
         closed-known = rw numbers (all-append (H .closed-known) (cons {x = p .records} (omega arith) nil));
-        closed = both;
+        closed-is = both;
         closed-room = let q = length-set closed (p .closed) (p .records) in omega arith;
         pivotal = H .pivotal;
         pivotal-once = H .pivotal-once;

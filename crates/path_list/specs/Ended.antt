@@ -140,13 +140,13 @@ module _ (s : Sample) (v e : ℕ) (vs₀ es : List ℕ) (n m sink : ℕ) (B : Bu
   pub ended-drawn : Drawn (s .reference ++ s .bases) vs es index targets t closed (s .k) (p .closed) n m
   ended-drawn =
       drawn-of s v e vs₀ es n m sink B vs kept f (G .sink ∙ gs) the-edges index targets t sc closing closed (p .closed) (p .records) (H .closed-room) (H .closed-known) (H .records .held .table)
-      the-size (st .closed) (H .closed) (good .closed)
+      the-size (st .closed) (H .closed-is) (good .closed)
 
   pub ended-shows : (b : Built) → b .graph ≡ threaded s → b .edges ≡ withSymbolic s (threaded s) → Numbered 0 (st .closed)
       → Shows (s .reference ++ s .bases) vs es index targets t sc closed (s .k) (p .closed) b (st .closed)
   ended-shows b bg be numbered =
       shows-of s v e vs₀ es n m sink B vs kept f (G .sink ∙ gs) the-edges index targets t sc closing closed (p .closed) (p .records) (H .closed-room) (H .closed-known) (H .records .held .table)
-      the-size (st .closed) (H .closed) (good .closed) b bg be (rw ge at (G .linked .distinct)) numbered
+      the-size (st .closed) (H .closed-is) (good .closed) b bg be (rw ge at (G .linked .distinct)) numbered
 
   pub ended-listable : 0 < s .k → length (s .reference ++ s .bases) < 2 ^ 32 → HasVertices vs n → p .closed ≤ 128
       → (walks rank scored closings lengths spellings sequences places : ℕ) → p .closed * g .most ≤ walks → p .closed ≤ rank → p .closed ≤ scored → p .closed ≤ closings → p .closed ≤ lengths

@@ -212,7 +212,7 @@ module _ {g : Setting} {vs es t : List ℕ} {sc : List Float} {queue walks order
                   once = rw one (nil, tt);
                   waiting = sym (ap (λ q. map (pathOf f es index targets (λ r. []) t′ sc′) q) one ∙ ap (λ (q : Path Float). q ∷ []) (first-path f x index targets ac B column));
                   closed-known = nil;
-                  closed = refl;
+                  closed-is = refl;
                   closed-room = omega arith;
                   pivotal = W .is;
                   pivotal-once = W .distinct;

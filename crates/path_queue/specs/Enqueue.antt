@@ -241,8 +241,8 @@ module _ {A : Around} {es index targets t : List ℕ} {sc : List Float} {closed 
           once = rw (none-waiting new-scores) tt;
           waiting = H .waiting ∙ ap (λ q. map (pathOf (A .f) es index targets (A .bs) t sc) q) (none-waiting sc) ∙ sym (ap (λ q. map (pathOf (A .f) es index targets (with-none (A .bs) (p .records)) new-cells new-scores) q) (none-waiting new-scores));
           closed-known = all-mono (λ r a. omega arith) (H .closed-known);
-          closed =
-              H .closed
+          closed-is =
+              H .closed-is
               ∙ map-same
               (all-mono (λ r a. sym (pushed-closed index targets (A .f .source) t sc (p .records) (H .records .held) I (A .f) (nameOf es) (recoveredRow index t sc targets b k e) (A .closing r) r a)) (H .closed-known));
           closed-room = H .closed-room;
@@ -345,7 +345,7 @@ module _ {A : Around} {es index targets t : List ℕ} {sc : List Float} {closed 
                   once = H .once;
                   waiting = sym (ap (λ q. map (pathOf (A .f) es index targets (A .bs) t sc) q) (none-waiting R sc));
                   closed-known = H .closed-known;
-                  closed = H .closed;
+                  closed-is = H .closed-is;
                   closed-room = H .closed-room;
                   pivotal = refl;
                   pivotal-once = H .pivotal-once;

@@ -111,7 +111,7 @@ module _ {sc : List Float} {queue : List ℕ} {g : Setting} {p : Progress} {path
                     (waiting-all (λ q. q ≢ path) sc queue (p .waiting) (λ i l. omega (arith, R .later i l))) (H .once));
                 waiting = list;
                 closed-known = H .closed-known;
-                closed = H .closed;
+                closed-is = H .closed-is;
                 closed-room = H .closed-room;
                 pivotal = H .pivotal;
                 pivotal-once = H .pivotal-once;

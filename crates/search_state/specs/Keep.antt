@@ -99,7 +99,7 @@ module _ (f : SearchInput) (g : Setting) (es x index targets : List ℕ) (bs : �
         once = subst (λ l. Distinct l) (sym order-same) (H .once);
         waiting = H .waiting ∙ sym paths-kept;
         closed-known = all-mono (λ q l. omega arith) (H .closed-known);
-        closed = H .closed ∙ sym closed-paths-kept;
+        closed-is = H .closed-is ∙ sym closed-paths-kept;
         closed-room = H .closed-room;
         pivotal = H .pivotal;
         pivotal-once = H .pivotal-once;

@@ -57,7 +57,7 @@ pub record Holds (f : SearchInput) (g : Setting) (es x index targets : List ℕ)
   -- the closed paths
   pub closed-known : All (λ r. r < p .records) (take (p .closed) closed)
   pub closed-room : p .closed ≤ length closed
-  pub closed : s .closed ≡ map (closedRecord es index targets closing t sc) (take (p .closed) closed)
+  pub closed-is : s .closed ≡ map (closedRecord es index targets closing t sc) (take (p .closed) closed)
   -- the pivotal edges: those from place `next` on that are still marked
   pub pivotal : s .pivotal ≡ map (nameOf es) (unvisited (drop (p .next) (take (p .pivotal) order)) marks)
   pub pivotal-once : Distinct (take (p .pivotal) order)
@@ -88,7 +88,7 @@ pub record Room (g : Setting) (t : List ℕ) (sc : List Float) (ac queue closed 
   pub scores : g .pushes + g .asked + 8 ≤ length sc
   pub actives : (g .pushes + g .asked + 8) * g .active ≤ length ac
   pub waiting : g .pushes ≤ length queue
-  pub closed : g .asked ≤ length closed
+  pub closed-room : g .asked ≤ length closed
 
 -- The first n records but r are read from the new tables as from the old; where r is n, all of them.
 pub record Kept (f : SearchInput) (es index targets : List ℕ) (bs : ℕ → List Branches) (t : List ℕ) (sc : List Float) (bs′ : ℕ → List Branches) (t′ : List ℕ) (sc′ : List Float) (n r : ℕ) : Type 0 where
