@@ -14,6 +14,7 @@ use Rattle.definition.specs.Search.{SearchInput, State, Turn, more, ended, turn
 use Rattle.definition.proofs.Column.{NotNan, column-keeps}
 use Rattle.definition.proofs.Walks.{GoodState}
 use Rattle.definition.proofs.Turns.{turn-more}
+use Rattle.tables.specs.Widths.{offerNumbers}
 use Rattle.path_heap.specs.Heap.{waiting}
 use Rattle.search_state.specs.declared.Setting.{Setting}
 use Rattle.search_state.specs.declared.Progress.{Progress}
@@ -72,7 +73,7 @@ pub record TurnAsks (g : Setting) (vs es x index targets : List ℕ) (column : L
   pub at : At input g vs es x index targets column branches closings t sc ac queue closed order marks p state
   pub unmet : p .closed < g .asked
   pub walks-room : g .most ≤ length walks
-  pub rows : 32 ≤ length walks
+  pub rows : offerNumbers ≤ length walks
 
 -- the same where paths wait, whatever the order of the pivotal edges
 pub record NextTurn (g : Setting) (vs es x index targets : List ℕ) (column : List Float) (t : List ℕ) (sc : List Float) (ac queue closed marks walks : List ℕ) (p : Progress) : Type 0 where

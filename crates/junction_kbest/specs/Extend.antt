@@ -17,6 +17,7 @@ use Rattle.definition.specs.Score.{columnScoring}
 use Rattle.definition.specs.Threading.{Ends, leaving}
 use Rattle.definition.specs.Evidence.{Branches, hasBranch, treeAt}
 use Rattle.definition.specs.Search.{SearchInput, Path, State, Made, broken, made, joinTree, closeAt, extensions, extendAt}
+use Rattle.tables.specs.Widths.{offerNumbers}
 use Rattle.path_store.specs.declared.growth.Taken.{Taken}
 use Rattle.path_store.specs.Cells.{HasPaths, sinceOf}
 use Rattle.path_store.specs.Grow.{Following}
@@ -93,7 +94,7 @@ pub record ExtendsTaken (g : Setting) (vs es x index targets : List ℕ) (column
   pub order : List ℕ
   pub state : State Float
   pub all : Extending input g vs es x index targets column branches closings t sc ac queue closed order marks p state taken
-  pub rows : 32 ≤ length out
+  pub rows : offerNumbers ≤ length out
 
 -- the definition's extendAt, of the path that was taken
 abbrev pub extendedAt : List Float → SearchInput → List ℕ → List ℕ → List ℕ → (ℕ → List Branches) → List ℕ → List Float → Taken → State Float → Made Float
@@ -245,7 +246,7 @@ module _ (f : SearchInput) (g : Setting) (vs es x index targets : List ℕ) (col
       closer : Closer p p₁
       closer = closer-of p p₁ (C .progress)
 
-      pub extends : (out : List ℕ) → 32 ≤ length out → Extends g vs es x index targets column t₂ sc₂ ac₁ out (p₁ .records) taken
+      pub extends : (out : List ℕ) → offerNumbers ≤ length out → Extends g vs es x index targets column t₂ sc₂ ac₁ out (p₁ .records) taken
       extends out rows =
           let a = E .roomy .paths in
           let b = E .roomy .scores in

@@ -9,6 +9,7 @@ use Rattle.definition.specs.Limits.{columnFits}
 use Rattle.definition.specs.Score.{columnScoring}
 use Rattle.definition.specs.Evidence.{Branches}
 use Rattle.definition.specs.Search.{SearchInput, State, Turn, ended, search}
+use Rattle.tables.specs.Widths.{offerNumbers}
 use Rattle.search_state.specs.declared.Setting.{Setting}
 use Rattle.search_state.specs.declared.Progress.{Progress}
 use Rattle.search_state.specs.Ground.{Ground}
@@ -31,7 +32,7 @@ pub record Finds (g : Setting) (vs es x index targets : List ℕ) (column : List
   pub marks-room : g .edges ≤ length marks
   pub queued : g .edges + g .edges ≤ length walks
   pub walks-room : g .most ≤ length walks
-  pub rows : 32 ≤ length walks
+  pub rows : offerNumbers ≤ length walks
 
 -- the search has ended: the stores hold its last state
 pub record Ended (f : SearchInput) (g : Setting) (es x index targets : List ℕ) (column : List Float) (recovery : Bool) (t′ : List ℕ) (sc′ : List Float) (ac′ queue′ closed′ order′ marks′ : List ℕ) (p : Progress) : Type 0 where

@@ -13,6 +13,7 @@ use Rattle.definition.specs.Evidence.{Branches}
 use Rattle.definition.specs.Search.{SearchInput, State, firstState}
 use Rattle.definition.proofs.Column.{column-keeps}
 use Rattle.definition.proofs.Turns.{measure, turn-more, first-good}
+use Rattle.tables.specs.Widths.{offerNumbers}
 use Rattle.path_store.specs.Cross.{unvisited}
 use Rattle.path_queue.specs.Begin.{Begins, Begun, begunWith}
 use Rattle.search_state.specs.declared.Setting.{Setting}
@@ -56,7 +57,7 @@ pub record Running (g : Setting) (vs es x index targets : List ℕ) (column : Li
   pub ground : Ground input g vs es x index targets
   pub run : (f : SearchInput) → Ground f g vs es x index targets → Left f g vs es x index targets column recovery t sc ac queue closed order marks p
   pub walks-room : g .most ≤ length walks
-  pub rows : 32 ≤ length walks
+  pub rows : offerNumbers ≤ length walks
 
 left-is : (f : SearchInput) (g : Setting) (vs es x index targets : List ℕ) (column : List Float) (bs : ℕ → List Branches) (cl : ℕ → ℕ) (t : List ℕ) (sc : List Float) (ac queue closed order marks : List ℕ) (p : Progress) (s : State Float)
     → At f g vs es x index targets column bs cl t sc ac queue closed order marks p s → measure (g .pushes) s ≡ turnsLeft g order marks p

@@ -11,6 +11,7 @@ use Rattle.definition.specs.Score.{columnScoring}
 use Rattle.definition.specs.Evidence.{Branches}
 use Rattle.definition.specs.Search.{SearchInput, Path, State, Made, made, extendAt, takePath}
 use Rattle.definition.specs.Search as defs
+use Rattle.tables.specs.Widths.{offerNumbers}
 use Rattle.path_store.specs.declared.records.PathRecord.{PathRecord}
 use Rattle.path_store.specs.declared.growth.Taken.{Taken}
 use Rattle.path_store.specs.Cells.{endOf, sinceOf, Inside, pathAt}
@@ -50,7 +51,7 @@ pub record TakesPath (g : Setting) (vs es x index targets : List ℕ) (column : 
   pub order : List ℕ
   pub state : State Float
   pub all : Going input g vs es x index targets column branches closings t sc ac queue closed order marks p state path
-  pub rows : 32 ≤ length out
+  pub rows : offerNumbers ≤ length out
 
 pub record PathTaken (g : Setting) (vs es x index targets : List ℕ) (column : List Float) (t : List ℕ) (sc : List Float) (ac closed marks : List ℕ) (p : Progress) (path : ℕ) (r : Step) (t′ : List ℕ) (sc′ : List Float)
     (ac′ closed′ marks′ : List ℕ) : Type 0 where

@@ -24,7 +24,7 @@ use Rattle.definition.proofs.Turns.{lastOf, search-reached}
 use Rattle.definition.proofs.Bounds.{Counted, search-counted}
 use Rattle.definition.proofs.Checks.{Checked, k-some, some-pushes}
 use Rattle.assembly.specs.Fields.{kmerPlace}
-use Rattle.tables.specs.Widths.{edgeNumbers}
+use Rattle.tables.specs.Widths.{edgeNumbers, queuedNumbers, offerNumbers}
 use Rattle.limits.specs.Workspaces.{vertexTable, pathTable, pathScores, activeNodes, waitingQueue, closedPaths, pivotalOrder, pivotalMarks, pathWalks, openTrees}
 use Rattle.limits.specs.Bounds.{InLimits, settings-most}
 use Rattle.assembly.specs.Symbolic.{linked, length-linked}
@@ -132,9 +132,9 @@ module _ {i : Input} {o : Outputs} {w : Tables} {b : Raise} (q : Searches i o w 
   at : BuiltAt (i .sample) (i .graphMaxima .vertices) (i .graphMaxima .edges) (w .vertices) (w .edges) (b .vertices) (b .edges) (b .sink)
   at = q .raised .at
 
-  walks-room : (i .graphMaxima .edges * 2 ≤ length (w .walks)) × (32 ≤ length (w .walks)) × (i .asked * i .searchMaxima .pathEdges ≤ length (w .walks))
+  walks-room : (queuedNumbers (i .graphMaxima .edges) ≤ length (w .walks)) × (offerNumbers ≤ length (w .walks)) × (i .asked * i .searchMaxima .pathEdges ≤ length (w .walks))
   walks-room =
-      let z = max-four (openTrees (i .graphMaxima)) (i .graphMaxima .edges * 2) 32 (i .asked * i .searchMaxima .pathEdges) (length (w .walks)) (q .walks) in
+      let z = max-four (openTrees (i .graphMaxima)) (queuedNumbers (i .graphMaxima .edges)) offerNumbers (i .asked * i .searchMaxima .pathEdges) (length (w .walks)) (q .walks) in
       (z .1, z .2, z .3)
 
   pub small : Small b

@@ -15,6 +15,7 @@ use Rattle.definition.specs.Score.{Scoring, columnScoring}
 use Rattle.definition.specs.Threading.{Ends, Edge, leaving, supportOf}
 use Rattle.definition.specs.Evidence.{Branches}
 use Rattle.definition.specs.Search.{SearchInput, Path, Offer, offers, extend, repeatRule, extensions}
+use Rattle.tables.specs.Widths.{offerNumbers}
 use Rattle.assembly.specs.Fields.{HasVertex, outEdge, HasEdge, edgeTo}
 use Rattle.assembly.specs.Store.{edgeAt, edgesOf}
 use Rattle.assembly.specs.Outs.{Slots, Names, Nexts, outFrom}
@@ -57,7 +58,7 @@ pub record Extends (g : Setting) (vs es x index targets : List ℕ) (column : Li
   pub guided : sinceOf t (taken .path) ≤ 5
   pub fits : columnFits column ≡ true
   pub rooms : Rooms g t sc ac n
-  pub rows : 32 ≤ length out
+  pub rows : offerNumbers ≤ length out
 
 -- what the definition wants: the extensions of the path beyond its chain to v
 abbrev pub extensionsAt : List Float → ℕ → Wanted
@@ -97,7 +98,7 @@ pub record Lists (g : Setting) (vs es x t : List ℕ) (sc : List Float) (ac out 
   pub input : SearchInput
   pub trees : ℕ → List Branches
   pub taking : Taking g vs es x index targets t sc ac records taken input trees
-  pub rows : 32 ≤ length out
+  pub rows : offerNumbers ≤ length out
 
 pub record Listed (g : Setting) (vs es x t : List ℕ) (sc : List Float) (ac : List ℕ) (taken : Taken) (out : List ℕ) (k : ℕ) : Type 0 where
   pub few : k ≤ 6
