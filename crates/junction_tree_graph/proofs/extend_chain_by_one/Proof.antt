@@ -1,5 +1,5 @@
 use Rattle.junction_tree_graph.specs.Indexes.{keeps-stop, index-edge}
-use mathlib.Core.Path.{_∙_}
+use mathlib.Core.Path.{refl, _∙_}
 use Prim.Native.Nat.{_-_}
 use native.Mathlib.Omega.{arith}
 use lib.ListN.{length-append}
@@ -48,17 +48,17 @@ add-t34 : tie.Need-add-t34
 add-t34 c = search needs
 
 same-length : tie.Need-same-length
-same-length c = search needs
+same-length c = refl
 
 same-length-2 : tie.Need-same-length-2
-same-length-2 c = search needs
+same-length-2 c = c .before .before .before .inc-edge .kept .0
 
 returns : tie.Need-returns
 unfolding code
 returns c = ((let a = (c .before .before .before .before .before .before .before .before .before .before .before .before .before .before .before .before .before .args) in ext-known (c .before .before .before .before .before .before .before .before .before .before .before .before .before .before .before .before .before .pre .0) (c .before .before .before .before .before .before .before .before .before .before .wide-byte .result) (c .before .before .before .before .before .before .before .before .before .before .wide-byte .ensures ∙ c .before .before .before .before .before .before .before .before .before .before .before .byte-at .ensures) (a .mark) (originOf (a .sequence) (a .place)) _ (c .before .before .before .before .before .before .before .before .out-edge .ensures) (c .before .before .before .before .before .before .before .if1 .taken) _ (c .before .before .before .before .before .edge-to .ensures) _ (c .before .before .before .inc-edge .ensures)), c .before .before .before .before .before .before .before .before .before .before .before .before .before .before .before .before .before .pre .1)
 
 same-length-3 : tie.Need-same-length-3
-same-length-3 c = search needs
+same-length-3 c = refl
 
 returns-2 : tie.Need-returns-2
 unfolding code
@@ -75,10 +75,10 @@ enum-told : tie.Need-enum-told
 enum-told c = search needs
 
 same-length-4 : tie.Need-same-length-4
-same-length-4 c = search needs
+same-length-4 c = c .before .before .before .before .before .before .get-or-create-kmer-vertex .kept .1 .1 .0
 
 same-length-5 : tie.Need-same-length-5
-same-length-5 c = search needs
+same-length-5 c = c .before .before .before .before .before .before .get-or-create-kmer-vertex .kept .1 .1 .1 .0
 
 returns-3 : tie.Need-returns-3
 unfolding code
@@ -95,13 +95,13 @@ add-t24 : tie.Need-add-t24
 add-t24 c = let p = c .before .before .before .before .before .before .before .before .before .before .before .before .before .before .before .before .before .before .before .before .before .before .before .before .before .before .before .before .before .before .pre .0 .steps in omega arith
 
 same-length-6 : tie.Need-same-length-6
-same-length-6 c = search needs
+same-length-6 c = c .before .before .before .before .before .add-edge .kept .0 ∙ c .before .before .before .before .before .before .before .before .before .before .before .before .before .before .before .get-or-create-kmer-vertex .kept .1 .1 .0
 
 same-length-7 : tie.Need-same-length-7
-same-length-7 c = search needs
+same-length-7 c = c .before .before .before .before .before .add-edge .kept .1 .0
 
 same-length-8 : tie.Need-same-length-8
-same-length-8 c = search needs
+same-length-8 c = c .before .before .before .before .before .before .before .before .before .before .before .before .before .before .before .get-or-create-kmer-vertex .kept .1 .1 .1 .0
 
 returns-4 : tie.Need-returns-4
 unfolding code

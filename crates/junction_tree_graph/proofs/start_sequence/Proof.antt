@@ -20,10 +20,10 @@ enum-told : tie.Need-enum-told
 enum-told c = search needs
 
 same-length : tie.Need-same-length
-same-length c = search needs
+same-length c = c .before .before .before .before .before .before .get-or-create-kmer-vertex .kept .1 .1 .0
 
 same-length-2 : tie.Need-same-length-2
-same-length-2 c = search needs
+same-length-2 c = c .before .before .before .before .before .before .get-or-create-kmer-vertex .kept .1 .1 .1 .0
 
 returns : tie.Need-returns
 returns c = ((start-full (c .before .before .before .before .before .before .before .before .before .before .before .before .before .before .pre .0) _ _ _ _ _ (c .before .before .before .before .before .before .get-or-create-kmer-vertex .ensures .0) (c .enum-told .given .1)), keeps-stop _ _ _ _ _ _ _ (c .enum-told .given .1))
@@ -38,13 +38,13 @@ add-t21 : tie.Need-add-t21
 add-t21 c = let p = c .before .before .before .before .before .before .before .before .before .before .before .before .before .before .before .before .before .before .before .before .before .pre .0 .steps in let h = start-steps (c .before .before .before .before .before .before .before .before .before .before .before .before .before .before .before .before .before .before .before .before .before .pre .0) _ _ _ (c .before .before .before .before .before .before .before .before .before .before .before .before .before .get-or-create-kmer-vertex .ensures .0) (c .before .before .before .before .before .before .before .r .given .1) in omega arith
 
 same-length-3 : tie.Need-same-length-3
-same-length-3 c = search needs
+same-length-3 c = c .before .before .before .before .before .before .before .before .before .before .before .before .before .get-or-create-kmer-vertex .kept .1 .1 .0
 
 same-length-4 : tie.Need-same-length-4
-same-length-4 c = search needs
+same-length-4 c = c .before .before .before .increase-counts-backwards .kept .1 .0
 
 same-length-5 : tie.Need-same-length-5
-same-length-5 c = search needs
+same-length-5 c = c .before .before .before .before .before .before .before .before .before .before .before .before .before .get-or-create-kmer-vertex .kept .1 .1 .1 .0
 
 returns-2 : tie.Need-returns-2
 returns-2 c = ((start-came (c .before .before .before .before .before .before .before .before .before .before .before .before .before .before .before .before .before .before .before .before .before .pre .0) _ _ _ (c .before .before .before .before .before .before .before .before .before .before .before .before .before .get-or-create-kmer-vertex .ensures .0) (c .before .before .before .before .before .before .before .r .given .1) _ (c .before .before .before .increase-counts-backwards .kept .1 .0) (c .before .before .before .increase-counts-backwards .ensures)), keeps-next _ _ _ _ _ _ _ (c .before .before .before .before .before .before .before .before .before .before .before .before .before .get-or-create-kmer-vertex .ensures .1) (c .before .before .before .before .before .before .before .r .given .1))

@@ -40,7 +40,7 @@ write-last-requires : tie.Need-write-last-requires
 write-last-requires c κs = omega (arith, c .before .before .before .before .before .before .before .before .before .before .before .before .before .before .before .pre .1, read-room _ _ _ _ _ (c .before .before .before .before .before .before .before .before .before .before .before .before .before .before .before .pre .0) _ _ _ _ (ap (λ (x : PathRecord). x .parent) (c .before .before .before .before .before .before .before .before .before .path-at .ensures)) (ap (λ (x : PathRecord). x .end) (c .before .before .before .before .before .before .before .path-at2 .ensures)) (ap (λ (x : PathRecord). x .chain) (c .before .before .before .before .before .before .before .before .before .path-at .ensures)) (ap (λ (x : PathRecord). x .edge) (c .before .before .before .before .before .before .before .before .before .path-at .ensures)), read-place _ _ _ _ _ (c .before .before .before .before .before .before .before .before .before .before .before .before .before .before .before .pre .0) _ _ _ _ (ap (λ (x : PathRecord). x .parent) (c .before .before .before .before .before .before .before .before .before .path-at .ensures)) (ap (λ (x : PathRecord). x .end) (c .before .before .before .before .before .before .before .path-at2 .ensures)) (ap (λ (x : PathRecord). x .chain) (c .before .before .before .before .before .before .before .before .before .path-at .ensures)) (ap (λ (x : PathRecord). x .edge) (c .before .before .before .before .before .before .before .before .before .path-at .ensures)) _ (c .before .before .before .before .before .before .wide .ensures .0 ∙ ap (λ (x : PathRecord). x .edges) (c .before .before .before .before .before .before .before .path-at2 .ensures)), c .before .before .before .before .before .wide2 .ensures .0, c .before .before .before .write-chain .kept .1 .1 .0)
 
 same-length : tie.Need-same-length
-same-length c = search needs
+same-length c = c .before .before .write-last .kept .0 ∙ c .before .before .before .before .before .before .write-chain .kept .1 .1 .0
 
 returns : tie.Need-returns
 returns c = read-write _ _ _ _ _ (c .before .before .before .before .before .before .before .before .before .before .before .before .before .before .before .before .before .before .pre .0) _ _ _ _ (ap (λ (x : PathRecord). x .parent) (c .before .before .before .before .before .before .before .before .before .before .before .before .path-at .ensures)) (ap (λ (x : PathRecord). x .end) (c .before .before .before .before .before .before .before .before .before .before .path-at2 .ensures)) (ap (λ (x : PathRecord). x .chain) (c .before .before .before .before .before .before .before .before .before .before .before .before .path-at .ensures)) (ap (λ (x : PathRecord). x .edge) (c .before .before .before .before .before .before .before .before .before .before .before .before .path-at .ensures)) _ _ _ _ _ _ (c .before .before .before .before .before .before .before .before .before .wide .ensures .0 ∙ ap (λ (x : PathRecord). x .edges) (c .before .before .before .before .before .before .before .before .before .before .path-at2 .ensures)) (c .before .before .before .before .before .before .before .before .wide2 .ensures .0) (c .before .before .before .before .before .before .write-chain .ensures) (c .before .before .write-last .ensures)
