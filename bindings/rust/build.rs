@@ -1,0 +1,19 @@
+//! Links the static library: target/staticlib of the repository, or the folder that PUNELAVOH_STATICLIB names.
+
+use std::env;
+use std::path::PathBuf;
+
+fn main() {
+    println!("cargo:rerun-if-changed=build.rs");
+    println!("cargo:rerun-if-env-changed=PUNELAVOH_STATICLIB");
+    let here = PathBuf::from(env::var_os("CARGO_MANIFEST_DIR").expect("set by cargo"));
+    let folder = env::var_os("PUNELAVOH_STATICLIB").map_or(here.join("../../target/staticlib"), PathBuf::from);
+    let library = folder.join("libpunelavoh.a");
+    if !library.is_file() {
+        let library = library.display();
+        println!("cargo:warning=there is no {library}: make it with `rt staticlib punelavoh`, or name its folder, from the root on, in PUNELAVOH_STATICLIB");
+    }
+    println!("cargo:rerun-if-changed={}", library.display());
+    println!("cargo:rustc-link-search=native={}", folder.display());
+    println!("cargo:rustc-link-lib=static=punelavoh");
+}
