@@ -12,9 +12,9 @@ use std::fmt;
 
 /// Makes the calls, in buffers of its own.
 ///
-/// A buffer grows to the length told when a call needs it, and is kept for the next: calls with the same settings allocate once. All of them together
-/// never pass 256 MiB. What a call answers lies in the buffers and borrows them, so it is read before the next call. A `Caller` may be sent to another
-/// thread, and several threads may each have one.
+/// A buffer grows to the length told when a call needs it, and is kept for the next: after the first call, calls with the same or lesser settings allocate
+/// nothing. At the greatest maxima all buffers together have 14 MB, and by 01 they never have more than 256 MiB. What a call answers lies in them and
+/// borrows them, so it is read before the next call. A `Caller` may be sent to another thread, and several threads may each have one.
 ///
 /// # Refusals
 ///

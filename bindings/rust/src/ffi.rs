@@ -300,7 +300,7 @@ exported! {
         w_vertices: &'a mut [u32],
         /// Workspace: edges.
         w_edges: &'a mut [u32],
-        /// Workspace: the index of kmers.
+        /// Workspace: the index by which a kmer's vertex is found.
         w_index: &'a mut [u32],
         /// Workspace: tree nodes.
         w_nodes: &'a mut [u32],
@@ -358,27 +358,27 @@ exported! {
         w_vertices: &'a mut [u32],
         /// Workspace: edges.
         w_edges: &'a mut [u32],
-        /// Workspace: the index of kmers.
+        /// Workspace: the index by which a kmer's vertex is found.
         w_index: &'a mut [u32],
         /// Workspace: tree nodes.
         w_nodes: &'a mut [u32],
-        /// Workspace: where each edge's chain ends.
+        /// Workspace: where each edge leads.
         w_targets: &'a mut [u32],
-        /// Workspace: paths.
+        /// Workspace: records of the paths.
         w_paths: &'a mut [u32],
         /// Workspace: scores of the paths.
         w_scores: &'a mut [f64],
         /// Workspace: active trees of the paths.
         w_active: &'a mut [u16],
-        /// Workspace: waiting paths.
+        /// Workspace: the waiting paths, as a heap.
         w_queue: &'a mut [u32],
-        /// Workspace: closed paths.
+        /// Workspace: the closed paths.
         w_closed: &'a mut [u32],
-        /// Workspace: pivotal edges in their order.
+        /// Workspace: the pivotal edges in their order.
         w_order: &'a mut [u32],
-        /// Workspace: marks of edges.
+        /// Workspace: marks of edges, for the pivotal ones.
         w_marks: &'a mut [u32],
-        /// Workspace: walks.
+        /// Workspace: open trees, edges to look at, a fork's offers, edges of the closed paths, one after the other.
         w_walks: &'a mut [u32],
         /// Workspace: scores of the rows.
         row_scores: &'a mut [f64],

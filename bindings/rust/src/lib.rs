@@ -45,3 +45,8 @@ pub use settings::lengths;
 
 /// The version of this crate, which is that of the library and of its C header.
 pub const VERSION: &str = env!("CARGO_PKG_VERSION");
+
+/// The example of the README, which is run like those of the items.
+#[cfg(doctest)]
+#[doc = include_str!("../README.md")]
+struct Readme;

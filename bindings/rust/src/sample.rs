@@ -27,9 +27,9 @@ pub struct Sample<'a> {
     pub qualities: &'a [u8],
 }
 
-/// Reads, owned: each is put behind the last.
+/// Reads, owned: each is put behind the last. Whether they are too many is for the call to say.
 ///
-/// It is also made of an iterator over pairs of bases and qualities:
+/// They are also made of an iterator over pairs of bases and qualities:
 ///
 /// ```
 /// use punelavoh::Reads;

@@ -32,10 +32,11 @@ impl Default for SearchMaxima {
 }
 
 impl Default for Settings {
-    /// The original's own k 11 and threshold 3; minimum quality 10 and no recovery, as in the worked cases of 01; 128 paths; the greatest maxima.
+    /// k 11 and threshold 3, which are the original's own; minimum quality 10 and no recovery, as in the worked cases of 01; 128 paths and the greatest
+    /// maxima, which are the most that the library takes.
     ///
-    /// With the greatest maxima nothing is refused that could be answered. Smaller ones save memory and, since each call clears its workspace, time: the
-    /// greatest come to 13 MB and, on a small sample, to three quarters of the call.
+    /// With the greatest maxima nothing is refused that could be answered. Smaller ones save memory and, since a call clears all of its workspace, time:
+    /// at the greatest it is lent 13 MB, and on a small sample three quarters of its time go to them.
     fn default() -> Self {
         let (graph, search) = (GraphMaxima::GREATEST, SearchMaxima::GREATEST);
         Self { k: 11, quality: 10, asked: 128, threshold: 3, recovery: false, graph, search }

@@ -84,13 +84,17 @@ fn five_maxima() {
     let search = |search: SearchMaxima| five(Settings { search, ..base });
     let graph = |graph: GraphMaxima| five(Settings { graph, ..base });
     let (g, s) = (base.graph, base.search);
+    let borders = |least: u32, greatest: u32| [least - 1, least, greatest, greatest + 1];
+    let (most, far) = (GraphMaxima::GREATEST, SearchMaxima::GREATEST);
     assert_eq!([0, 128, 129].map(|asked| five(Settings { asked, ..base })), [false, false, true]);
-    assert_eq!([1, 2, 4096, 4097].map(|vertices| graph(GraphMaxima { vertices, ..g })), [true, false, false, true]);
-    assert_eq!([0, 1, 8192, 8193].map(|edges| graph(GraphMaxima { edges, ..g })), [true, false, false, true]);
-    assert_eq!([0, 1, 16384, 16385].map(|nodes| graph(GraphMaxima { nodes, ..g })), [true, false, false, true]);
-    assert_eq!([0, 1, 4096, 4097].map(|path_edges| search(SearchMaxima { path_edges, ..s })), [true, false, false, true]);
-    assert_eq!([0, 1, 64, 65].map(|active| search(SearchMaxima { active, ..s })), [true, false, false, true]);
-    assert_eq!([0, 1, 32768, 32769].map(|pushes| search(SearchMaxima { pushes, ..s })), [true, false, false, true]);
+    let within = [true, false, false, true];
+    assert_eq!(borders(2, most.vertices).map(|vertices| graph(GraphMaxima { vertices, ..g })), within);
+    assert_eq!(borders(1, most.edges).map(|edges| graph(GraphMaxima { edges, ..g })), within);
+    assert_eq!(borders(1, most.nodes).map(|nodes| graph(GraphMaxima { nodes, ..g })), within);
+    assert_eq!(borders(1, far.path_edges).map(|path_edges| search(SearchMaxima { path_edges, ..s })), within);
+    assert_eq!(borders(1, far.active).map(|active| search(SearchMaxima { active, ..s })), within);
+    assert_eq!(borders(1, far.pushes).map(|pushes| search(SearchMaxima { pushes, ..s })), within);
+    assert!(!five(Settings::default()) && Settings::default().asked == 128);
     // The call for edges and trees is given the maxima of the graph, and no others.
     let none = SearchMaxima { path_edges: 0, active: 0, pushes: 0 };
     assert_eq!(refused_graph(Settings { asked: 999, search: none, ..settings() }, &reads().sample(REFERENCE)), None);

@@ -100,4 +100,22 @@ fn refusals_are_those_of_the_table() {
     let named: Vec<(u32, String)> = Refusal::NAMED.iter().map(|refusal| (refusal.number(), refusal.to_string())).collect();
     assert_eq!(named, rows);
     assert!(rows.len() >= 13);
+    // The names for C stand above the table, as 2 REFERENCE_LENGTH; here they are ReferenceLength.
+    if let Some((_, names)) = table.split_once("In C they are called") {
+        let words: Vec<&str> = names.split([' ', ',', '.', '\n']).filter(|word| !word.is_empty() && *word != "--").collect();
+        let pairs = words.chunks(2).take(Refusal::NAMED.len()).map(|pair| pair.join(" "));
+        assert_eq!(pairs.collect::<Vec<_>>(), Refusal::NAMED.iter().map(|r| format!("{} {}", r.number(), in_c(*r))).collect::<Vec<_>>());
+    }
+}
+
+/// The name of a refusal in capitals, its words joined by underscores.
+fn in_c(refusal: Refusal) -> String {
+    let mut name = String::new();
+    for letter in format!("{refusal:?}").chars() {
+        if letter.is_uppercase() && !name.is_empty() {
+            name.push('_');
+        }
+        name.push(letter.to_ascii_uppercase());
+    }
+    name
 }
