@@ -1,4 +1,4 @@
-//! Links the static library: target/staticlib of the repository, or the folder that PUNELAVOH_STATICLIB names.
+//! Links the static library: target/staticlib of the repository, or the folder whose absolute path PUNELAVOH_STATICLIB holds.
 
 use std::env;
 use std::path::PathBuf;
@@ -11,7 +11,7 @@ fn main() {
     let library = folder.join("libpunelavoh.a");
     if !library.is_file() {
         let library = library.display();
-        println!("cargo:warning=there is no {library}: make it with `rt staticlib punelavoh`, or name its folder, from the root on, in PUNELAVOH_STATICLIB");
+        println!("cargo:warning=there is no {library}: make it with `rt staticlib punelavoh`, or let PUNELAVOH_STATICLIB hold the absolute path of its folder");
     }
     println!("cargo:rerun-if-changed={}", library.display());
     println!("cargo:rustc-link-search=native={}", folder.display());

@@ -91,9 +91,25 @@ impl Caller {
     ///
     /// Any refusal but [`Refusal::Origin`].
     pub fn list(&mut self, settings: &Settings, sample: &Sample<'_>, column: &[f64]) -> Result<List<'_>, Refusal> {
+        let answer = self.list_call(settings, sample, column).call();
+        accepted(answer.refusal)?;
+        Ok(List {
+            k: settings.k as usize,
+            path_edges: settings.search.path_edges as usize,
+            rows: part(&self.rows, 0, answer.paths as usize),
+            bases: &self.out_bases,
+            sequences: &self.sequences,
+            places: &self.places,
+            pushes: answer.pushes,
+            mark: answer.mark,
+        })
+    }
+
+    /// The arguments of the call for the list, with slices of the lengths told.
+    fn list_call<'a>(&'a mut self, settings: &Settings, sample: &Sample<'a>, column: &'a [f64]) -> ListCall<'a> {
         let told = told(settings);
         let work = told.workspace;
-        let answer = ListCall {
+        ListCall {
             settings: *settings,
             reference: sample.reference,
             ends: sample.ends,
@@ -121,18 +137,6 @@ impl Caller {
             row_closings: lent(&mut self.row_closings, work.columns),
             row_edges: lent(&mut self.row_edges, work.columns),
         }
-        .call();
-        accepted(answer.refusal)?;
-        Ok(List {
-            k: settings.k as usize,
-            path_edges: settings.search.path_edges as usize,
-            rows: part(&self.rows, 0, answer.paths as usize),
-            bases: &self.out_bases,
-            sequences: &self.sequences,
-            places: &self.places,
-            pushes: answer.pushes,
-            mark: answer.mark,
-        })
     }
 
     /// The call for edges and trees. Of the settings it is given k, the minimum quality and the maxima for the graph; the others are not looked at.

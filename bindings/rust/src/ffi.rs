@@ -243,6 +243,7 @@ macro_rules! exported {
 
         impl $(<$life>)? $call $(<$life>)? {
             /// Makes the call.
+            #[must_use = "a refusal stands in the answer"]
             pub fn call(self) -> $answer {
                 extern "C" {
                     fn $symbol($($c)*) -> $answer;
@@ -330,8 +331,8 @@ exported! {
 exported! {
     /// The call for the list.
     ///
-    /// Row r is `rows[r]`; its bases stand in `out_bases` from r * (k + path_edges), and its edges' origins in `sequences` and `places` from
-    /// r * path_edges. The slices that begin with `w_`, and the three columns in which rows are first made, are workspace; each must have the length
+    /// Row r is `rows[r]`; its bases stand in `out_bases` from `r * (k + path_edges)`, and its edges' origins in `sequences` and `places` from
+    /// `r * path_edges`. The slices that begin with `w_`, and the three columns in which rows are first made, are workspace; each must have the length
     /// told, [`Workspace`].
     ListCall<'a> = punelavoh_list -> ListAnswer {
         /// What the run is asked for.

@@ -70,17 +70,20 @@ pub fn fresh_list(s: &Settings, sample: &Sample, column: &[f64]) -> Listed {
         row_edges: &mut numbers(w.columns),
     }
     .call();
-    if answer.refusal != 0 {
-        return Err(answer.refusal);
+    rows.truncate(answer.paths as usize);
+    let origins: Vec<Origin> = sequences.iter().zip(&places).map(|(&sequence, &place)| Origin { sequence, place }).collect();
+    let paths = rows.iter().enumerate().map(|(r, row)| path(s, r, row, &out_bases, &origins)).collect();
+    match answer.refusal {
+        0 => Ok((paths, answer.pushes, answer.mark)),
+        number => Err(number),
     }
-    let (k, stride) = (s.k as usize, s.search.path_edges as usize);
-    let path = |(r, row): (usize, &PathRow)| {
-        let edges = row.edges as usize;
-        let bases = out_bases[r * (k + stride)..][..k + edges].to_vec();
-        let origins = (r * stride..r * stride + edges).map(|i| Origin { sequence: sequences[i], place: places[i] }).collect();
-        (row.score.to_bits(), row.closing, row.is_ref.is_set(), bases, origins)
-    };
-    Ok((rows[..answer.paths as usize].iter().enumerate().map(path).collect(), answer.pushes, answer.mark))
+}
+
+/// Row r, with its bases from r * (k + path_edges) and its origins from r * path_edges.
+fn path(s: &Settings, r: usize, row: &PathRow, bases: &[u8], origins: &[Origin]) -> Path {
+    let (k, stride, edges) = (s.k as usize, s.search.path_edges as usize, row.edges as usize);
+    let (bases, origins) = (&bases[r * (k + stride)..][..k + edges], &origins[r * stride..][..edges]);
+    (row.score.to_bits(), row.closing, row.is_ref.is_set(), bases.to_vec(), origins.to_vec())
 }
 
 /// The call for edges and trees over slices of just the lengths told.
