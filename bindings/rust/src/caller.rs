@@ -12,15 +12,15 @@ use std::fmt;
 
 /// Makes the calls, in buffers of its own.
 ///
-/// A buffer grows to the length told when a call needs it, and is kept for the next: after the first call, calls with the same or lesser settings allocate
-/// nothing. At the greatest maxima all buffers together have 14 MB, and by 01 they never have more than 256 MiB. What a call answers lies in them and
-/// borrows them, so it is read before the next call. A `Caller` may be sent to another thread, and several threads may each have one.
+/// A buffer grows to the length told when a call needs it, and is kept for the next: after the first call, calls with the same or lesser settings
+/// allocate nothing. At the greatest maxima all buffers together have 14 MB, and by 01 they never have more than 256 MiB. What a call answers lies in
+/// them and borrows them, so it is read before the next call. A `Caller` may be sent to another thread, and several threads may each have one.
 ///
 /// # Refusals
 ///
-/// They come from the library, in the order of 01's table, and nothing is added to them. Where lengths are refused, slices of no elements are lent, and
-/// the call itself finds the first rule that is broken. Where there is no memory, the slices that could be had are lent, and the call is refused by
-/// [`Refusal::ShortSlice`] if no rule before it is broken; it is refused so for no other reason. Nothing panics, whatever is handed in.
+/// They come from the library, in the order of 01's table, and nothing is added to them. Where lengths are refused, slices of no elements are lent,
+/// and the call itself finds the first rule that is broken. Where there is no memory, the slices that could be had are lent, and the call is refused
+/// by [`Refusal::ShortSlice`] if no rule before it is broken; it is refused so for no other reason. Nothing panics, whatever is handed in.
 ///
 /// ```
 /// use punelavoh::{column, Caller, Reads, Refusal, Settings};

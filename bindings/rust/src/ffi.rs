@@ -1,8 +1,8 @@
 //! The exported functions as C sees them, and each as a safe call over borrowed slices.
 //!
-//! This is for those who place every slice themselves; [`Caller`](crate::Caller) owns slices of the lengths told and hands the answers back as types. All
-//! unsafe code of the crate stands here. Names, types and order are those of the Rattle sources (crates/punelavoh/src/lib.rt and the structs that it
-//! uses), and a test holds them to these.
+//! This is for those who place every slice themselves; [`Caller`](crate::Caller) owns slices of the lengths told and hands the answers back as types.
+//! All unsafe code of the crate stands here. Names, types and order are those of the Rattle sources (crates/punelavoh/src/lib.rt and the structs that
+//! it uses), and a test holds them to these.
 //!
 //! A call takes its arguments as a struct, so that each is named where it is given:
 //!
@@ -82,8 +82,8 @@ pub struct Settings {
 
 /// How many elements each workspace slice needs.
 ///
-/// These are numbers of 32 bits, but for `active`, of 16, and `scores`, of f64. The call for edges and trees is lent the first five; the call for the list
-/// is lent all but `open`, and three slices of `columns`, the first of them f64.
+/// These are numbers of 32 bits, but for `active`, of 16, and `scores`, of f64. The call for edges and trees is lent the first five; the call for the
+/// list is lent all but `open`, and three slices of `columns`, the first of them f64.
 #[allow(missing_docs)] // each is the length of the argument of that name
 #[repr(C)]
 #[derive(Clone, Copy, Debug, Default, PartialEq, Eq, Hash)]
@@ -212,6 +212,7 @@ macro_rules! exported {
     ($(#[$about:meta])* $call:ident $(<$life:lifetime>)? = $symbol:ident -> $answer:ident { $($arguments:tt)* }) => {
         exported! { [$(#[$about])* $call $(<$life>)? = $symbol -> $answer] [] [] [] [] $($arguments)* }
     };
+    // a slice that is read
     ($head:tt [$($name:ident)*] [$($field:tt)*] [$($c:tt)*] [$($given:tt)*]
         $(#[$about:meta])* $argument:ident: &$life:lifetime [$of:ty], $($rest:tt)*) => {
         exported! { $head [$($name)* $argument]
@@ -220,6 +221,7 @@ macro_rules! exported {
             [$($given)* $argument.as_ptr(), $argument.len(),]
             $($rest)* }
     };
+    // a slice that is written to
     ($head:tt [$($name:ident)*] [$($field:tt)*] [$($c:tt)*] [$($given:tt)*]
         $(#[$about:meta])* $argument:ident: &$life:lifetime mut [$of:ty], $($rest:tt)*) => {
         exported! { $head [$($name)* $argument]
@@ -228,6 +230,7 @@ macro_rules! exported {
             [$($given)* $argument.as_mut_ptr(), $argument.len(),]
             $($rest)* }
     };
+    // a number, or a struct of numbers
     ($head:tt [$($name:ident)*] [$($field:tt)*] [$($c:tt)*] [$($given:tt)*]
         $(#[$about:meta])* $argument:ident: $type:ident, $($rest:tt)*) => {
         exported! { $head [$($name)* $argument]
@@ -236,6 +239,7 @@ macro_rules! exported {
             [$($given)* $argument,]
             $($rest)* }
     };
+    // no argument is left
     ([$(#[$about:meta])* $call:ident $(<$life:lifetime>)? = $symbol:ident -> $answer:ident]
         [$($name:ident)*] [$($field:tt)*] [$($c:tt)*] [$($given:tt)*]) => {
         $(#[$about])*
@@ -249,10 +253,10 @@ macro_rules! exported {
                     fn $symbol($($c)*) -> $answer;
                 }
                 let Self { $($name),* } = self;
-                // SAFETY: a pointer and its length are those of a whole slice, so the pointer is not null and is aligned, also where the slice is empty.
-                // It is borrowed for the call, and alone where it is written to, so that it overlaps no other. All else is numbers, and bools that are 0
-                // or 1 by their types. The function asks nothing more of its caller: its contract has no `requires`, and slices that are too short are
-                // refused. It keeps no pointer. That it is declared here as it is exported is held by tests/sources.rs.
+                // SAFETY: a pointer and its length are those of a whole slice, so the pointer is not null and is aligned, also where the slice is
+                // empty. It is borrowed for the call, and alone where it is written to, so that it overlaps no other. All else is numbers, and bools
+                // that are 0 or 1 by their types. The function asks nothing more of its caller: its contract has no `requires`, and slices that are
+                // too short are refused. It keeps no pointer. That it is declared here as it is exported is held by tests/sources.rs.
                 unsafe { $symbol($($given)*) }
             }
         }
@@ -276,8 +280,8 @@ exported! {
 exported! {
     /// The call for edges and trees.
     ///
-    /// It writes edge rows of six numbers (from, to, support, reference mark, and the origin's sequence and place), rising by ends, and node rows of four
-    /// (from, to, count, depth). The slices that begin with `w_` are its workspace; each must have the length told, [`Workspace`].
+    /// It writes edge rows of six numbers (from, to, support, reference mark, and the origin's sequence and place), rising by ends, and node rows of
+    /// four (from, to, count, depth). The slices that begin with `w_` are its workspace; each must have the length told, [`Workspace`].
     GraphCall<'a> = punelavoh_graph -> GraphAnswer {
         /// Bases of a kmer.
         k: u32,

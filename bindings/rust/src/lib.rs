@@ -1,8 +1,8 @@
 //! Best haplotype paths in a kmer graph with junction trees, by a library every function of which is proved.
 //!
-//! A reference and reads are threaded into a graph of kmers, junction trees are gathered from the reads, and the graph is searched for its best paths,
-//! each with an origin for every base. The library does this over lent memory; this crate owns the memory ([`Caller`]), hands the answers back as types
-//! ([`List`], [`Graph`]), and has names for the refusals ([`Refusal`]). It needs the standard library only.
+//! A reference and reads are threaded into a graph of kmers, junction trees are gathered from the reads, and the graph is searched for its best
+//! paths, each with an origin for every base. The library does this over lent memory; this crate owns the memory ([`Caller`]), hands the answers back
+//! as types ([`List`], [`Graph`]), and has names for the refusals ([`Refusal`]). It needs the standard library only.
 //!
 //! ```
 //! use punelavoh::{column, Caller, Reads, Refusal, Settings};

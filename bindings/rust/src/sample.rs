@@ -3,8 +3,8 @@
 
 /// A reference and reads, borrowed as the calls take them.
 ///
-/// Reads lie one behind the other in `bases`, with one quality for each base; read i ends, exclusive, at `ends[i]`, counted from the first base of the
-/// first read. Whoever has reads in this form lends them without copying; [`Reads`] brings others into it.
+/// Reads lie one behind the other in `bases`, with one quality for each base; read i ends, exclusive, at `ends[i]`, counted from the first base of
+/// the first read. Whoever has reads in this form lends them without copying; [`Reads`] brings others into it.
 ///
 /// ```
 /// use punelavoh::{Reads, Sample};

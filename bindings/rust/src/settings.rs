@@ -32,11 +32,11 @@ impl Default for SearchMaxima {
 }
 
 impl Default for Settings {
-    /// k 11 and threshold 3, which are the original's own; minimum quality 10 and no recovery, as in the worked cases of 01; 128 paths and the greatest
-    /// maxima, which are the most that the library takes.
+    /// k 11 and threshold 3, which are the original's own; minimum quality 10 and no recovery, as in the worked cases of 01; 128 paths and the
+    /// greatest maxima, which are the most that the library takes.
     ///
-    /// With the greatest maxima nothing is refused that could be answered. Smaller ones save memory and, since a call clears all of its workspace, time:
-    /// at the greatest it is lent 13 MB, and on a small sample three quarters of its time go to them.
+    /// With the greatest maxima nothing is refused that could be answered. Smaller ones save memory and, since a call clears all of its workspace,
+    /// time: at the greatest it is lent 13 MB, and a small sample takes up to four times as long.
     fn default() -> Self {
         let (graph, search) = (GraphMaxima::GREATEST, SearchMaxima::GREATEST);
         Self { k: 11, quality: 10, asked: 128, threshold: 3, recovery: false, graph, search }

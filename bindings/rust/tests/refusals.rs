@@ -1,5 +1,5 @@
-//! Every refusal that the calls can return, each at its border: accepted just within, refused just beyond. 7 is had from `ffi`, since a `Caller` lends
-//! what is told; tests/memory.rs has the one way to have it from a `Caller`.
+//! Every refusal that the calls can return, each at its border: accepted just within, refused just beyond. 7 is had from `ffi`, since a `Caller`
+//! lends what is told; tests/memory.rs has the one way to have it from a `Caller`.
 
 mod common;
 

@@ -1,5 +1,5 @@
-//! Holds the crate to the Rattle sources that the library is made of: the structs that are lent and handed back, the exported functions, and the table of
-//! refusals. Where the crate has been taken out of the repository, there is nothing to hold it to.
+//! Holds the crate to the Rattle sources that the library is made of: the structs that are lent and handed back, the exported functions, and the
+//! table of refusals. Where the crate has been taken out of the repository, there is nothing to hold it to.
 
 use punelavoh::Refusal;
 use std::collections::BTreeMap;
