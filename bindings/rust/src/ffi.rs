@@ -336,8 +336,8 @@ exported! {
     /// The call for the list.
     ///
     /// Row r is `rows[r]`; its bases stand in `out_bases` from `r * (k + path_edges)`, and its edges' origins in `sequences` and `places` from
-    /// `r * path_edges`. The slices that begin with `w_`, and the three columns in which rows are first made, are workspace; each must have the length
-    /// told, [`Workspace`].
+    /// `r * path_edges`. The slices that begin with `w_`, and the three columns in which rows are first made, are workspace; each must have the
+    /// length told, [`Workspace`].
     ListCall<'a> = punelavoh_list -> ListAnswer {
         /// What the run is asked for.
         settings: Settings,
