@@ -57,7 +57,7 @@ fn command(args: &[String]) -> Result<bool, String> {
 
 #[cfg(feature = "library")]
 fn library() -> Result<Box<dyn subject::Subject>, String> {
-    Ok(Box::new(library::Library))
+    Ok(Box::<library::Library>::default())
 }
 
 #[cfg(not(feature = "library"))]

@@ -1,7 +1,7 @@
 //! `bench`: times of the library and of the original, on the same input, one after the other in turn.
 //!
-//! `build` is the call for edges and trees at the greatest maxima against `finish`. With the call for the list, `whole` is that call against `finish`
-//! and the search, `search` is what is left of each without its `build`, and `fitted` is `whole` with maxima and a column just large enough.
+//! `build` is the call for edges and trees at the greatest maxima against `finish`; `whole` is the call for the list against `finish` and the search;
+//! `search` is what is left of each without its `build`; and `fitted` is `whole` with maxima and a column just large enough.
 
 mod clock;
 mod inputs;
@@ -132,11 +132,9 @@ pub use library::both;
 #[cfg(feature = "library")]
 mod library {
     use super::*;
-    use punelavoh::buffers::GraphBuffers;
-    use punelavoh::{GraphMaxima, SearchMaxima};
-
-    const GRAPH: GraphMaxima = GraphMaxima { vertices: 4096, edges: 8192, nodes: 16384 };
-    const SEARCH: SearchMaxima = SearchMaxima { path_edges: 4096, active: 64, pushes: 32768 };
+    use guarded::buffers::{GraphBuffers, ListBuffers};
+    use punelavoh::ffi::{LengthsCall, ListAnswer};
+    use punelavoh::{GraphMaxima, SearchMaxima, Settings};
 
     pub fn both(files: &[String]) -> Result<bool, String> {
         println!("nanoseconds that the thread ran: the least, then the median of all rounds; ratio: rust over ours");
@@ -171,39 +169,46 @@ mod library {
     }
 
     fn borrowed(s: &model::Sample) -> punelavoh::Sample<'_> {
-        punelavoh::Sample { k: s.k, quality: s.quality, reference: &s.reference, ends: &s.ends, bases: &s.bases, qualities: &s.qualities }
+        punelavoh::Sample { reference: &s.reference, ends: &s.ends, bases: &s.bases, qualities: &s.qualities }
+    }
+
+    /// What the library is asked for, at maxima that a caller sets.
+    fn settings(input: &Input, graph: GraphMaxima, search: SearchMaxima) -> Settings {
+        let Input { paths: asked, threshold, recover: recovery, .. } = *input;
+        Settings { k: input.sample.k, quality: input.sample.quality, asked, threshold, recovery, graph, search }
+    }
+
+    fn told(s: &Settings) -> punelavoh::LengthsTold {
+        LengthsCall { k: s.k, paths: s.asked, graph: s.graph, search: s.search }.call()
     }
 
     /// The library's side.
     struct Ours<'a> {
         input: &'a Input,
+        greatest: Settings,
         graph: GraphBuffers,
         build: Times,
-        #[cfg(feature = "list")]
         list: List,
-        #[cfg(feature = "list")]
         fitted: List,
     }
 
     impl<'a> Ours<'a> {
         fn new(input: &'a Input) -> Result<Self, String> {
-            let told = punelavoh::lengths(input.sample.k, input.paths, GRAPH, SEARCH);
+            let greatest = settings(input, GraphMaxima::GREATEST, SearchMaxima::GREATEST);
             let mut ours = Self {
                 input,
-                graph: GraphBuffers::told(&told),
+                greatest,
+                graph: GraphBuffers::told(&told(&greatest)),
                 build: Times::default(),
-                #[cfg(feature = "list")]
                 list: List::new(input, Maxima::GREATEST),
-                #[cfg(feature = "list")]
                 fitted: List::fitted(input)?,
             };
             // Both sides do the same work, and buffers are in memory before the first round.
-            let answer = ours.graph.call(borrowed(&input.sample), GRAPH);
+            let answer = ours.graph.call(&greatest, borrowed(&input.sample));
             let rows = Rust::new(input).rows();
             if (answer.refusal, answer.edges as usize, answer.nodes as usize) != (0, rows.edges.len(), rows.nodes.len()) {
                 return Err(format!("{}: the library answers {answer:?}", input.name));
             }
-            #[cfg(feature = "list")]
             ours.list.accepted(input)?;
             Ok(ours)
         }
@@ -211,18 +216,12 @@ mod library {
         fn round(&mut self) {
             let sample = borrowed(&self.input.sample);
             let start = now();
-            black_box(self.graph.call(black_box(sample), GRAPH));
+            black_box(self.graph.call(&self.greatest, black_box(sample)));
             self.build.add(start);
-            #[cfg(feature = "list")]
             self.list.round(self.input);
-            #[cfg(feature = "list")]
             self.fitted.round(self.input);
         }
 
-        #[cfg(not(feature = "list"))]
-        fn print_list(&self, _: &str, _: &Rust) {}
-
-        #[cfg(feature = "list")]
         fn print_list(&self, name: &str, rust: &Rust) {
             let whole = Times(rust.build.0.iter().zip(&rust.search.0).map(|(b, s)| b + s).collect());
             line(name, "whole", [self.list.whole.minimum(), self.list.whole.median()], [whole.minimum(), whole.median()]);
@@ -241,7 +240,6 @@ mod library {
     }
 
     /// What a caller sets for the call for the list: maxima, and how long a column is lent.
-    #[cfg(feature = "list")]
     #[derive(Clone, Copy)]
     struct Maxima {
         graph: GraphMaxima,
@@ -249,25 +247,21 @@ mod library {
         column: usize,
     }
 
-    #[cfg(feature = "list")]
     impl Maxima {
-        const GREATEST: Self = Self { graph: GRAPH, search: SEARCH, column: 65536 };
+        const GREATEST: Self = Self { graph: GraphMaxima::GREATEST, search: SearchMaxima::GREATEST, column: 65536 };
     }
 
     /// The call for the list.
-    #[cfg(feature = "list")]
     struct List {
-        buffers: punelavoh::buffers::ListBuffers,
+        buffers: ListBuffers,
         maxima: Maxima,
         column: Vec<f64>,
         whole: Times,
     }
 
-    #[cfg(feature = "list")]
     impl List {
         fn new(input: &Input, maxima: Maxima) -> Self {
-            let told = punelavoh::lengths(input.sample.k, input.paths, maxima.graph, maxima.search);
-            let buffers = punelavoh::buffers::ListBuffers::told(&told);
+            let buffers = ListBuffers::told(&told(&settings(input, maxima.graph, maxima.search)));
             Self { buffers, maxima, column: model::input::log10_column(maxima.column), whole: Times::default() }
         }
 
@@ -295,14 +289,12 @@ mod library {
             Self::new(input, Maxima { search, ..self.maxima }).call(input).refusal
         }
 
-        fn call(&mut self, input: &Input) -> punelavoh::ListAnswer {
-            let (paths, threshold, recover) = (input.paths, input.threshold, input.recover);
-            let Maxima { graph, search, .. } = self.maxima;
-            let settings = punelavoh::ListSettings { paths, threshold, recover, graph, search, column: &self.column };
-            black_box(self.buffers.call(black_box(borrowed(&input.sample)), settings))
+        fn call(&mut self, input: &Input) -> ListAnswer {
+            let settings = settings(input, self.maxima.graph, self.maxima.search);
+            black_box(self.buffers.call(&settings, black_box(borrowed(&input.sample)), &self.column))
         }
 
-        fn accepted(&mut self, input: &Input) -> Result<punelavoh::ListAnswer, String> {
+        fn accepted(&mut self, input: &Input) -> Result<ListAnswer, String> {
             let answer = self.call(input);
             if answer.refusal != 0 {
                 return Err(format!("{}: the library answers {answer:?}", input.name));

@@ -1,11 +1,16 @@
-//! The library as a subject: each call over watched buffers, its answer, its rows and every other byte that it was lent.
+//! The library as a subject: each call over watched buffers, its answer, its rows and every other byte that it was lent; and once more through the
+//! safe calls of bindings/rust, all of them in the buffers of one caller (`kept`).
+
+mod kept;
+mod list;
 
 use crate::answers::{cut, GraphWritten, Lend, ListWritten, Outcome, Slice, Verdict};
 use crate::subject::Subject;
+use guarded::buffers::{graph_workspace, GraphBuffers, SampleBuffers, GRAPH_WORKSPACE};
+use guarded::lent::{Element, Lent};
 use model::{GraphMaxima, ListInput, Sample, SearchMaxima, Told};
-use punelavoh::buffers::{graph_workspace, GraphBuffers, SampleBuffers, GRAPH_WORKSPACE};
-use punelavoh::lent::{Element, Lent};
-use punelavoh::{GraphAnswer, Lengths, Workspace};
+use punelavoh::ffi::{GraphAnswer, LengthsCall, LengthsTold, PathRow, Workspace};
+use punelavoh::{Caller, Settings};
 
 /// All slices together are never above this.
 const MOST_BYTES: usize = 256 << 20;
@@ -15,7 +20,10 @@ const UNTOLD: usize = 3;
 
 type Checked<T> = Result<T, String>;
 
-pub struct Library;
+#[derive(Default)]
+pub struct Library {
+    caller: Caller,
+}
 
 fn graph_maxima(m: &GraphMaxima) -> punelavoh::GraphMaxima {
     punelavoh::GraphMaxima { vertices: m.vertices, edges: m.edges, nodes: m.nodes }
@@ -26,7 +34,12 @@ fn search_maxima(m: &SearchMaxima) -> punelavoh::SearchMaxima {
 }
 
 fn borrowed(s: &Sample) -> punelavoh::Sample<'_> {
-    punelavoh::Sample { k: s.k, quality: s.quality, reference: &s.reference, ends: &s.ends, bases: &s.bases, qualities: &s.qualities }
+    punelavoh::Sample { reference: &s.reference, ends: &s.ends, bases: &s.bases, qualities: &s.qualities }
+}
+
+/// The settings of the call for edges and trees; it is given no others.
+fn graph_settings(s: &Sample, maxima: &GraphMaxima) -> Settings {
+    Settings { k: s.k, quality: s.quality, graph: graph_maxima(maxima), ..Settings::default() }
 }
 
 fn require(holds: bool, why: impl FnOnce() -> String) -> Checked<()> {
@@ -75,31 +88,27 @@ fn verdict(checked: Checked<()>) -> Verdict {
 }
 
 /// Lengths told for a graph alone: those for no paths and the least search.
-fn graph_told(k: u32, maxima: &GraphMaxima) -> Lengths {
-    punelavoh::lengths(k, 0, graph_maxima(maxima), punelavoh::SearchMaxima { path_edges: 1, active: 1, pushes: 1 })
+fn graph_told(k: u32, maxima: &GraphMaxima) -> LengthsTold {
+    LengthsCall { k, paths: 0, graph: graph_maxima(maxima), search: punelavoh::SearchMaxima { path_edges: 1, active: 1, pushes: 1 } }.call()
 }
 
 /// Bytes of all slices told.
-fn bytes_told(l: &Lengths) -> usize {
+fn bytes_told(l: &LengthsTold) -> usize {
     let w = &l.workspace;
     let graph = w.vertices + w.edges + w.index + w.nodes + w.open;
     let search = w.targets + w.paths + w.queue + w.closed + w.order + w.marks + w.walks + 2 * w.columns;
-    4 * (l.edges + l.nodes + 2 * l.origins + graph + search)
-        + 2 * w.active
-        + 8 * (w.scores + w.columns)
-        + l.bases
-        + l.paths * size_of::<punelavoh::PathRow>()
+    4 * (l.edges + l.nodes + 2 * l.origins + graph + search) + 2 * w.active + 8 * (w.scores + w.columns) + l.bases + l.paths * size_of::<PathRow>()
 }
 
 fn check_lengths(k: u32, paths: u32, graph: &GraphMaxima, search: &SearchMaxima, expected: &Outcome<Told>) -> Checked<()> {
-    let found = punelavoh::lengths(k, paths, graph_maxima(graph), search_maxima(search));
+    let found = LengthsCall { k, paths, graph: graph_maxima(graph), search: search_maxima(search) }.call();
     match expected {
         Err(number) => {
-            let refused = Lengths { refusal: *number, ..Lengths::default() };
+            let refused = LengthsTold { refusal: *number, ..LengthsTold::default() };
             require(found == refused, || format!("found {found:?}, expected refusal {number} and 0 in every other field"))
         }
         Ok(t) => {
-            let told = Lengths {
+            let told = LengthsTold {
                 refusal: 0,
                 edges: t.edges,
                 nodes: t.nodes,
@@ -122,7 +131,7 @@ fn check_graph(sample: &Sample, maxima: &GraphMaxima, lend: Lend, expected: &Out
     let mut told = graph_told(sample.k, maxima);
     if told.refusal != 0 {
         let w = UNTOLD;
-        told = Lengths {
+        told = LengthsTold {
             edges: w,
             nodes: w,
             workspace: Workspace { vertices: w, edges: w, index: w, nodes: w, open: w, ..Workspace::default() },
@@ -141,7 +150,7 @@ fn check_graph(sample: &Sample, maxima: &GraphMaxima, lend: Lend, expected: &Out
     };
     let wanted = GraphAnswer { refusal, edges: written.edges.len() as u32, nodes: written.nodes.len() as u32 };
     let mut call_and_check = || {
-        let answer = buffers.call(handed.sample(), graph_maxima(maxima));
+        let answer = buffers.call(&graph_settings(sample, maxima), handed.sample());
         require(answer == wanted, || format!("found {answer:?}, expected {wanted:?}"))?;
         check_rows(&buffers.edges, &written.edges, "edges")?;
         check_rows(&buffers.nodes, &written.nodes, "nodes")?;
@@ -160,26 +169,30 @@ impl Subject for Library {
     }
 
     fn graph(&mut self, sample: &Sample, maxima: &GraphMaxima, lend: Lend, expected: &Outcome<GraphWritten>) -> Verdict {
-        check_graph(sample, maxima, lend, expected).map_or(Verdict::Skipped, verdict)
+        let Some(mut checked) = check_graph(sample, maxima, lend, expected) else { return Verdict::Skipped };
+        // A caller lends what is told: none of its slices can be short.
+        if lend.short.is_none() {
+            checked = checked.and_then(|()| kept::check_graph(&mut self.caller, sample, maxima, expected));
+        }
+        verdict(checked)
     }
 
-    #[cfg(not(feature = "list"))]
-    fn list(&mut self, _: &Sample, _: &ListInput, _: Lend, _: &Outcome<ListWritten>) -> Verdict {
-        Verdict::Skipped
-    }
-
-    #[cfg(feature = "list")]
     fn list(&mut self, sample: &Sample, input: &ListInput, lend: Lend, expected: &Outcome<ListWritten>) -> Verdict {
-        listing::check_list(sample, input, lend, expected).map_or(Verdict::Skipped, verdict)
+        let Some(mut checked) = list::check_list(sample, input, lend, expected) else { return Verdict::Skipped };
+        if lend.short.is_none() {
+            checked = checked.and_then(|()| kept::check_list(&mut self.caller, sample, input, expected));
+        }
+        verdict(checked)
     }
 
     fn origin(&mut self, sample: &Sample, origin: (u32, u32)) -> Result<Outcome<(bool, usize)>, String> {
         let handed = SampleBuffers::new(&borrowed(sample), origin.1);
-        let answer = handed.origin(origin.0, origin.1);
+        let answer = handed.origin(sample.k, origin.0, origin.1);
         require(handed.still_holds(&borrowed(sample)), || "what was handed in has changed".into())?;
         if answer.refusal != 0 {
             let others = (answer.in_reads, answer.start, answer.length);
             require(others == (0, 0, 0), || format!("refused, but not 0 in every other field: {answer:?}"))?;
+            kept::check_origin(sample, origin, Err(answer.refusal))?;
             return Ok(Err(answer.refusal));
         }
         let whole = if answer.in_reads == 0 { &sample.reference } else { &sample.bases };
@@ -187,104 +200,7 @@ impl Subject for Library {
             && answer.length == sample.k as usize + 1
             && answer.start.checked_add(answer.length).is_some_and(|end| end <= whole.len());
         require(fits, || format!("not k+1 bytes of what it lies in: {}", cut(&answer)))?;
+        kept::check_origin(sample, origin, Ok(&whole[answer.start..answer.start + answer.length]))?;
         Ok(Ok((answer.in_reads == 1, answer.start)))
-    }
-}
-
-/// The call for the list.
-#[cfg(feature = "list")]
-mod listing {
-    use super::*;
-    use crate::answers::PathWritten;
-    use punelavoh::buffers::{list_scores, list_workspace, ListBuffers, LIST_WORKSPACE};
-    use punelavoh::{ListSettings, PathRow};
-
-    /// The number slices of the workspace as `Slice` numbers them, behind them the active nodes and the two of scores.
-    const ACTIVE: usize = LIST_WORKSPACE.len();
-    const SCORES: usize = ACTIVE + 1;
-
-    pub fn check_list(sample: &Sample, input: &ListInput, lend: Lend, expected: &Outcome<ListWritten>) -> Option<Checked<()>> {
-        let mut told = punelavoh::lengths(sample.k, input.paths, graph_maxima(&input.graph), search_maxima(&input.search));
-        if told.refusal != 0 {
-            told = Lengths { paths: UNTOLD, bases: UNTOLD, origins: UNTOLD, ..told };
-        }
-        let work = list_workspace(&told.workspace);
-        let outputs = [told.paths, told.bases, told.origins, told.origins];
-        let lent = lent_lengths(outputs, [Slice::Paths, Slice::Bases, Slice::Sequences, Slice::Places], lend)?;
-        let lent_work = lent_lengths(work, std::array::from_fn(Slice::Workspace), lend)?;
-        let [lent_active] = lent_lengths([told.workspace.active], [Slice::Workspace(ACTIVE)], lend)?;
-        let scores = list_scores(&told.workspace);
-        let lent_scores = lent_lengths(scores, [Slice::Workspace(SCORES), Slice::Workspace(SCORES + 1)], lend)?;
-        let handed = SampleBuffers::new(&borrowed(sample), lend.seed);
-        let column = Lent::holding(&input.column, lend.seed);
-        let mut buffers = ListBuffers::new(lent, lent_work, lent_active, lent_scores, lend.seed);
-        let settings = ListSettings {
-            paths: input.paths,
-            threshold: input.threshold,
-            recover: input.recover,
-            graph: graph_maxima(&input.graph),
-            search: search_maxima(&input.search),
-            column: column.slice(),
-        };
-        let none = ListWritten { rows: Vec::new(), pushes: 0, longest: 0 };
-        let (refusal, written) = match expected {
-            Ok(written) => (0, written),
-            Err(number) => (*number, &none),
-        };
-        let stride = input.search.path_edges as usize;
-        let mut call_and_check = || {
-            let answer = buffers.call(handed.sample(), settings);
-            let fields = (answer.refusal, answer.paths, answer.pushes);
-            let wanted = (refusal, written.rows.len() as u32, written.pushes);
-            let mark = (written.longest..=written.pushes).contains(&answer.waiting_mark);
-            require(fields == wanted && mark, || format!("found {answer:?}, expected {wanted:?}, mark from {}", written.longest))?;
-            check_path_rows(&buffers.rows, &written.rows)?;
-            check_strided(&buffers.bases, sample.k as usize + stride, &written.rows, |row| row.bases.clone(), "bases")?;
-            check_strided(&buffers.sequences, stride, &written.rows, |row| row.origins.iter().map(|o| o.0).collect(), "sequences")?;
-            check_strided(&buffers.places, stride, &written.rows, |row| row.origins.iter().map(|o| o.1).collect(), "places")?;
-            for ((slice, told), name) in buffers.workspace.iter().zip(work).zip(LIST_WORKSPACE) {
-                check_workspace(slice, told, refusal, name)?;
-            }
-            check_workspace(&buffers.active, told.workspace.active, refusal, "active")?;
-            for ((slice, told), name) in buffers.scores.iter().zip(scores).zip(["scores", "row scores"]) {
-                check_workspace(slice, told, refusal, name)?;
-            }
-            require(column.still_holds(&input.column), || "the column has changed".into())?;
-            require(handed.still_holds(&borrowed(sample)), || "what was handed in has changed".into())
-        };
-        Some(call_and_check().and_then(|()| call_and_check().map_err(|why| format!("{why}; in the same buffers once more"))))
-    }
-
-    /// The rows, with the bytes between them as they were, and nothing else changed.
-    fn check_path_rows(slice: &Lent<PathRow>, rows: &[PathWritten]) -> Checked<()> {
-        let before = slice.as_it_was();
-        for (i, row) in rows.iter().enumerate() {
-            let wanted = PathRow {
-                score: f64::from_bits(row.score),
-                closing: row.closing,
-                edges: row.origins.len() as u32,
-                is_ref: u8::from(row.is_ref),
-                padding: before[i].padding,
-            };
-            let found = slice.slice()[i];
-            require(found.same(wanted), || format!("path row {i} is {found:?}, expected {wanted:?}"))?;
-        }
-        require(slice.untouched_from(rows.len()), || "path rows: touched beyond the rows or around the slice".into())
-    }
-
-    /// Each row's elements from its place on, and nothing else changed.
-    fn check_strided<T: Element + PartialEq>(
-        slice: &Lent<T>,
-        stride: usize,
-        rows: &[PathWritten],
-        elements: impl Fn(&PathWritten) -> Vec<T>,
-        name: &str,
-    ) -> Checked<()> {
-        let mut wanted = slice.as_it_was();
-        for (i, row) in rows.iter().enumerate() {
-            let elements = elements(row);
-            wanted[i * stride..i * stride + elements.len()].copy_from_slice(&elements);
-        }
-        require(slice.still_holds(&wanted), || format!("{name}: not as expected, or touched beyond or around"))
     }
 }

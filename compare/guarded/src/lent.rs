@@ -1,6 +1,6 @@
 //! A buffer that lends a slice out of its middle and can tell what was changed, in it and around it.
 
-use crate::ffi::PathRow;
+use punelavoh::ffi::{Flag, PathRow};
 
 /// Elements before and behind the lent slice.
 const GUARD: usize = 64;
@@ -79,16 +79,16 @@ impl Element for PathRow {
     fn pattern(place: usize, seed: u32) -> Self {
         let number = u32::pattern(place, seed);
         let padding = std::array::from_fn(|i| u8::pattern(place + i, seed));
-        Self { score: f64::pattern(place, seed), closing: number, edges: number ^ 0xffff, is_ref: 1, padding }
+        Self { score: f64::pattern(place, seed), closing: number, edges: number ^ 0xffff, is_ref: Flag::from(true), padding }
     }
 
     fn same(self, other: Self) -> bool {
-        let rest = |r: Self| (r.closing, r.edges, r.is_ref, r.padding);
+        let rest = |r: Self| (r.closing, r.edges, r.is_ref.byte(), r.padding);
         self.score.same(other.score) && rest(self) == rest(other)
     }
 
     fn is_zero(self) -> bool {
-        self.score.is_zero() && (self.closing, self.edges, self.is_ref, self.padding) == (0, 0, 0, [0; 7])
+        self.score.is_zero() && (self.closing, self.edges, self.is_ref.byte(), self.padding) == (0, 0, 0, [0; 7])
     }
 }
 
