@@ -7,8 +7,8 @@ ghost use Rattle.path_rows.specs.Rows.{Filled};
 #[repr(C)]
 pub struct PathRow {
     pub score: f64,
-    pub closing: u32,
-    pub edges: u32,
+    pub closing: u32, // its closing number: paths are counted from 1 as they close
+    pub edges: u32, // it has k + edges bases
     pub is_ref: bool,
 }
 
