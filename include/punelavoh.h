@@ -318,10 +318,10 @@ static inline void *punelavoh_inner_nothing(void)
     return &nothing;
 }
 
-/* Inside: whether a block can be cut. A size of 0 is that of settings that are refused. */
+/* Inside: whether a block can be cut. */
 static inline bool punelavoh_inner_fits(size_t needed, const void *memory, size_t size)
 {
-    return needed != 0 && size >= needed && memory != NULL && (uintptr_t)memory % PUNELAVOH_ALIGNMENT == 0;
+    return size >= needed && memory != NULL && (uintptr_t)memory % PUNELAVOH_ALIGNMENT == 0;
 }
 
 /* Inside: the sample without null pointers. */
