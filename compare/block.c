@@ -1,6 +1,7 @@
-/* The calls over one block beside the long calls: random samples, most of them good, the others broken in every way that has a refusal. A block of just
-   the size told stands between guard bytes; answer, rows, bases, origins, edges and nodes must be those of the long call over slices of its own, and what a
-   call must not touch must stay. `compare/block` builds it under AddressSanitizer and UBSan. usage: block N SEED; last line: N passed, M failed. */
+/* The calls over one block beside the long calls: random samples, most of them good, the others broken in every way that has a refusal. A block of
+   just the size told stands between guard bytes; answer, rows, bases, origins, edges and nodes must be those of the long call over slices of its own,
+   and what a call must not touch must stay. `compare/block` builds it under AddressSanitizer and UBSan.
+   usage: block N SEED; last line: N passed, M failed */
 #include "punelavoh.h"
 #include <math.h>
 #include <sanitizer/asan_interface.h>
@@ -226,8 +227,8 @@ static void expect_untouched(Block b, const char *what) {
 
 /* A refusal of 1 to 6 comes before that of a block; where there is none, the block's is the answer. */
 static void expect_unfit(uint32_t refusal, uint32_t all_else, const char *what) {
-    bool first = all_else >= PUNELAVOH_REFUSED_KMER_SIZE && all_else < PUNELAVOH_REFUSED_LENT_SLICE;
-    expect(refusal == (first ? all_else : (uint32_t)PUNELAVOH_REFUSED_LENT_SLICE), what);
+    bool first = all_else >= PUNELAVOH_REFUSED_K && all_else < PUNELAVOH_REFUSED_SHORT_SLICE;
+    expect(refusal == (first ? all_else : (uint32_t)PUNELAVOH_REFUSED_SHORT_SLICE), what);
 }
 
 /* ---- the list */
@@ -301,7 +302,7 @@ static void compare_block(Block b, const PunelavohList *list, const LongList *l)
     const size_t lengths[] = {l->told.paths * sizeof *l->rows, l->told.bases, l->told.origins * 4, l->told.origins * 4};
     for (int i = 0; i < 4; i++)
         expect(memcmp(parts[i], longs[i], lengths[i]) == 0, "the output in the block");
-    bool kept = l->answer.refusal >= PUNELAVOH_REFUSED_KMER_SIZE && l->answer.refusal <= PUNELAVOH_REFUSED_LENT_SLICE;
+    bool kept = l->answer.refusal >= PUNELAVOH_REFUSED_K && l->answer.refusal <= PUNELAVOH_REFUSED_SHORT_SLICE;
     expect_rest(b, kept ? in.fill : 0, parts, lengths, 4, "the workspace in the block");
 }
 
@@ -378,7 +379,7 @@ static void compare_graph_block(Block b, const PunelavohGraph *graph, const Long
     const void *parts[] = {graph->edges, graph->nodes};
     const size_t lengths[] = {g->told.edges * 4, g->told.nodes * 4};
     expect(memcmp(parts[0], g->edges, lengths[0]) == 0 && memcmp(parts[1], g->nodes, lengths[1]) == 0, "the output of the graph in the block");
-    bool kept = g->answer.refusal >= PUNELAVOH_REFUSED_KMER_SIZE && g->answer.refusal <= PUNELAVOH_REFUSED_LENT_SLICE;
+    bool kept = g->answer.refusal >= PUNELAVOH_REFUSED_K && g->answer.refusal <= PUNELAVOH_REFUSED_SHORT_SLICE;
     expect_rest(b, kept ? in.fill : 0, parts, lengths, 2, "the workspace of the graph in the block");
 }
 

@@ -29,18 +29,18 @@ extern "C" {
 /* What an answer holds in `refusal`. 1 to 7 are looked at in this order. A refused answer holds 0 in every other field. */
 typedef enum {
     PUNELAVOH_ACCEPTED = 0,                 /* accepted */
-    PUNELAVOH_REFUSED_KMER_SIZE = 1,        /* k outside limits */
+    PUNELAVOH_REFUSED_K = 1,                /* k outside limits */
     PUNELAVOH_REFUSED_REFERENCE_LENGTH = 2, /* reference length */
-    PUNELAVOH_REFUSED_REFERENCE_BASE = 3,   /* reference byte not A C G T N */
+    PUNELAVOH_REFUSED_REFERENCE_BYTE = 3,   /* reference byte not A C G T N */
     PUNELAVOH_REFUSED_READS = 4,            /* read ends fall, last end (0 without reads) is not the base count, qualities differ in length, too
                                                many reads or bases */
-    PUNELAVOH_REFUSED_SETTINGS = 5,         /* paths asked or a maximum outside limits */
+    PUNELAVOH_REFUSED_MAXIMUM = 5,          /* paths asked or a maximum outside limits */
     PUNELAVOH_REFUSED_COLUMN = 6,           /* column */
-    PUNELAVOH_REFUSED_LENT_SLICE = 7,       /* a lent slice shorter than told */
-    PUNELAVOH_REFUSED_GRAPH = 8,            /* vertex or edge above its maximum */
-    PUNELAVOH_REFUSED_TREES = 9,            /* tree node above its maximum */
-    PUNELAVOH_REFUSED_COUNT = 10,           /* a count or total has no place in the column */
-    PUNELAVOH_REFUSED_PATH = 11,            /* a path's edges or active trees above their maximum */
+    PUNELAVOH_REFUSED_SHORT_SLICE = 7,      /* a lent slice shorter than told */
+    PUNELAVOH_REFUSED_GRAPH_SIZE = 8,       /* vertex or edge above its maximum */
+    PUNELAVOH_REFUSED_TREE_NODES = 9,       /* tree node above its maximum */
+    PUNELAVOH_REFUSED_NO_PLACE = 10,        /* a count or total has no place in the column */
+    PUNELAVOH_REFUSED_PATH_SIZE = 11,       /* a path's edges or active trees above their maximum */
     PUNELAVOH_REFUSED_PUSHES = 12,          /* a push beyond the maximum */
     PUNELAVOH_REFUSED_ORIGIN = 13           /* origin naming no sequence, or whose k+1 bytes do not fit it */
 } PunelavohRefusal;
@@ -51,27 +51,27 @@ static inline const char *punelavoh_refusal_words(uint32_t refusal)
     switch (refusal) {
     case PUNELAVOH_ACCEPTED:
         return "accepted";
-    case PUNELAVOH_REFUSED_KMER_SIZE:
+    case PUNELAVOH_REFUSED_K:
         return "k outside limits";
     case PUNELAVOH_REFUSED_REFERENCE_LENGTH:
         return "reference length";
-    case PUNELAVOH_REFUSED_REFERENCE_BASE:
+    case PUNELAVOH_REFUSED_REFERENCE_BYTE:
         return "reference byte not A C G T N";
     case PUNELAVOH_REFUSED_READS:
         return "read ends fall, last end (0 without reads) is not the base count, qualities differ in length, too many reads or bases";
-    case PUNELAVOH_REFUSED_SETTINGS:
+    case PUNELAVOH_REFUSED_MAXIMUM:
         return "paths asked or a maximum outside limits";
     case PUNELAVOH_REFUSED_COLUMN:
         return "column";
-    case PUNELAVOH_REFUSED_LENT_SLICE:
+    case PUNELAVOH_REFUSED_SHORT_SLICE:
         return "a lent slice shorter than told";
-    case PUNELAVOH_REFUSED_GRAPH:
+    case PUNELAVOH_REFUSED_GRAPH_SIZE:
         return "vertex or edge above its maximum";
-    case PUNELAVOH_REFUSED_TREES:
+    case PUNELAVOH_REFUSED_TREE_NODES:
         return "tree node above its maximum";
-    case PUNELAVOH_REFUSED_COUNT:
+    case PUNELAVOH_REFUSED_NO_PLACE:
         return "a count or total has no place in the column";
-    case PUNELAVOH_REFUSED_PATH:
+    case PUNELAVOH_REFUSED_PATH_SIZE:
         return "a path's edges or active trees above their maximum";
     case PUNELAVOH_REFUSED_PUSHES:
         return "a push beyond the maximum";
@@ -399,7 +399,7 @@ typedef struct {
 
 /* As `punelavoh_graph`, with all that it is lent for writing cut from one block. The block begins at a multiple of PUNELAVOH_ALIGNMENT, overlaps
    nothing else, and may hold anything. Where it is too small, null or not so aligned, it is not touched, and the call is refused: by what comes
-   first in the table, PUNELAVOH_REFUSED_LENT_SLICE where all else is good. Returns the refusal, which is in the answer too. */
+   first in the table, PUNELAVOH_REFUSED_SHORT_SLICE where all else is good. Returns the refusal, which is in the answer too. */
 static inline uint32_t punelavoh_graph_in(PunelavohSettings settings, PunelavohSample sample, void *memory, size_t size, PunelavohGraph *result)
 {
     PunelavohLengthsTold told = punelavoh_inner_graph_told(settings);
@@ -475,7 +475,7 @@ typedef struct {
 
 /* As `punelavoh_list`, with all that it is lent for writing cut from one block. The block begins at a multiple of PUNELAVOH_ALIGNMENT, overlaps
    nothing else, and may hold anything; the flags in its rows are set to false before the call. Where it is too small, null or not so aligned, it
-   is not touched, and the call is refused: by what comes first in the table, PUNELAVOH_REFUSED_LENT_SLICE where all else is good. Returns the
+   is not touched, and the call is refused: by what comes first in the table, PUNELAVOH_REFUSED_SHORT_SLICE where all else is good. Returns the
    refusal, which is in the answer too. */
 static inline uint32_t punelavoh_list_in(PunelavohSettings settings, PunelavohSample sample, void *memory, size_t size, PunelavohList *result)
 {

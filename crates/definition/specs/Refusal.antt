@@ -20,22 +20,23 @@ pub record Returned : Type 0 where
 abbrev row : ℕ → After → Returned
 row n a = record { number = n; after = a }
 
--- 14 has no row: it is the program's own, and no call returns it. Behind each row stand the name that C has for it (tools/c-header), and the table's words.
+-- 14 has no row: it is the program's own, and no call returns it. Behind each row stand the table's words. In C they are called 1 K, 2 REFERENCE_LENGTH,
+-- 3 REFERENCE_BYTE, 4 READS, 5 MAXIMUM, 6 COLUMN, 7 SHORT_SLICE, 8 GRAPH_SIZE, 9 TREE_NODES, 10 NO_PLACE, 11 PATH_SIZE, 12 PUSHES, 13 ORIGIN.
 unfoldable pub returned : List Returned
 returned =
-    row 1 unchanged  -- KMER_SIZE: k outside limits
-    ∷ row 2 unchanged  -- REFERENCE_LENGTH: reference length
-    ∷ row 3 unchanged  -- REFERENCE_BASE: reference byte not A C G T N
-    ∷ row 4 unchanged  -- READS: read ends fall, last end (0 without reads) is not the base count, qualities differ in length, too many reads or bases
-    ∷ row 5 unchanged  -- SETTINGS: paths asked or a maximum outside limits
-    ∷ row 6 unchanged  -- COLUMN: column
-    ∷ row 7 unchanged  -- LENT_SLICE: a lent slice shorter than told
-    ∷ row 8 zero  -- GRAPH: vertex or edge above its maximum
-    ∷ row 9 zero  -- TREES: tree node above its maximum
-    ∷ row 10 zero  -- COUNT: a count or total has no place in the column
-    ∷ row 11 zero  -- PATH: a path's edges or active trees above their maximum
-    ∷ row 12 zero  -- PUSHES: a push beyond the maximum
-    ∷ row 13 noneLent  -- ORIGIN: origin naming no sequence, or whose k+1 bytes do not fit it
+    row 1 unchanged  -- k outside limits
+    ∷ row 2 unchanged  -- reference length
+    ∷ row 3 unchanged  -- reference byte not A C G T N
+    ∷ row 4 unchanged  -- read ends fall, last end (0 without reads) is not the base count, qualities differ in length, too many reads or bases
+    ∷ row 5 unchanged  -- paths asked or a maximum outside limits
+    ∷ row 6 unchanged  -- column
+    ∷ row 7 unchanged  -- a lent slice shorter than told
+    ∷ row 8 zero  -- vertex or edge above its maximum
+    ∷ row 9 zero  -- tree node above its maximum
+    ∷ row 10 zero  -- a count or total has no place in the column
+    ∷ row 11 zero  -- a path's edges or active trees above their maximum
+    ∷ row 12 zero  -- a push beyond the maximum
+    ∷ row 13 noneLent  -- origin naming no sequence, or whose k+1 bytes do not fit it
     ∷ []
 
 abbrev isUnchanged : After → Bool

@@ -8,11 +8,16 @@ ghost use Rattle.list_interface.specs.Answers.{refusedAnswer, foundAnswe
 // What a run is asked for: k, the minimum quality, the number of paths, the threshold, recovery, and the maxima.
 #[repr(C)]
 pub struct Settings {
-    pub k: u32, // the kmer size
-    pub quality: u8, // the minimum quality: a base below it is not used
-    pub asked: u32, // paths asked
-    pub threshold: i32, // the evidence threshold, any number
-    pub recovery: bool, // whether paths are recovered
+    // the kmer size
+    pub k: u32,
+    // the minimum quality: a base below it is not used
+    pub quality: u8,
+    // paths asked
+    pub asked: u32,
+    // the evidence threshold, any number
+    pub threshold: i32,
+    // whether paths are recovered
+    pub recovery: bool,
     pub graph: GraphMaxima,
     pub search: SearchMaxima,
 }
@@ -23,7 +28,8 @@ pub struct ListAnswer {
     pub refusal: u32,
     pub paths: u32,
     pub pushes: u32,
-    pub mark: u32, // no less than the longest waiting list, no more than the pushes
+    // no less than the longest waiting list, no more than the pushes
+    pub mark: u32,
 }
 
 // A refused answer holds 0 in every other field.

@@ -7,8 +7,10 @@ ghost use Rattle.path_rows.specs.Rows.{Filled};
 #[repr(C)]
 pub struct PathRow {
     pub score: f64,
-    pub closing: u32, // its closing number: paths are counted from 1 as they close
-    pub edges: u32, // it has k + edges bases
+    // its closing number: paths are counted from 1 as they close
+    pub closing: u32,
+    // it has k + edges bases
+    pub edges: u32,
     pub is_ref: bool,
 }
 
