@@ -447,13 +447,13 @@ static inline PunelavohLengthsTold punelavoh_inner_list_told(PunelavohSettings s
 static inline size_t punelavoh_inner_list_bytes(PunelavohLengthsTold told)
 {
     size_t size = 0;
-    size += (told.paths) * sizeof(PunelavohPathRow);
+    size += told.paths * sizeof(PunelavohPathRow);
     size += (told.workspace.scores + told.workspace.columns) * sizeof(double);
     size += (told.origins + told.origins + told.workspace.vertices + told.workspace.edges + told.workspace.index + told.workspace.nodes +
         told.workspace.targets + told.workspace.paths + told.workspace.queue + told.workspace.closed + told.workspace.order + told.workspace.marks
         + told.workspace.walks + told.workspace.columns + told.workspace.columns) * sizeof(uint32_t);
-    size += (told.workspace.active) * sizeof(uint16_t);
-    size += (told.bases) * sizeof(uint8_t);
+    size += told.workspace.active * sizeof(uint16_t);
+    size += told.bases * sizeof(uint8_t);
     return size;
 }
 
