@@ -290,12 +290,17 @@ PunelavohListAnswer punelavoh_list(
 /* A block begins at a multiple of this, as memory of malloc does. */
 #define PUNELAVOH_ALIGNMENT 8
 
-/* What is read, by the names that it has in the long calls. Where a length is 0, its pointer is not looked at and may be null. */
+/* What is read. Each pointer has its number of elements beside it; where that is 0, the pointer is not looked at and may be null. */
 typedef struct {
+    /* its bases, k to 1,024 letters of A C G T N */
     const uint8_t *reference; size_t reference_length;
+    /* for each read where it ends in `bases`, exclusive; they never fall, and the last is the number of bases; up to 512 */
     const uint32_t *ends; size_t ends_length;
+    /* of all reads, one after the other; up to 32,768 */
     const uint8_t *bases; size_t bases_length;
+    /* one for each base, numbers and not the characters of a text */
     const uint8_t *qualities; size_t qualities_length;
+    /* place n holds log10 of n; 2 to 65,536 places */
     const double *column; size_t column_length;
 } PunelavohSample;
 
