@@ -1,5 +1,4 @@
-/* The list of CAACTGG with the reads CAAGTGG, CAACTGG and CAACTGG, two paths asked: score, bases, and each edge's origin with the bytes there. Link with
-   -lm. */
+/* The list of CAACTGG with the reads CAAGTGG, CAACTGG and CAACTGG, two paths asked: score, bases, and each edge's origin with the bytes there. */
 #include "punelavoh.h"
 #include <math.h>
 #include <stdio.h>
@@ -8,37 +7,33 @@
 
 int main(void) {
     const uint8_t reference[] = "CAACTGG", bases[] = "CAAGTGGCAACTGGCAACTGG";
+    const uint32_t ends[] = {7, 14, 21};
     uint8_t qualities[21];
     memset(qualities, 40, sizeof qualities);
-    const uint32_t ends[] = {7, 14, 21};
-    Settings a = {3, 10, 2, 9, false, {128, 256, 256}, {16, 8, 64}};
-    LengthsTold told = punelavoh_lengths(a.k, a.asked, a.graph, a.search);
     double column[64] = {0};
-    for (int i = 1; i < 64; i++)
-        column[i] = log10(i);
-    PathRow *rows = calloc(told.paths, sizeof(PathRow));
-    uint8_t *path_bases = calloc(told.bases, 1);
-    uint32_t *sequences = calloc(told.origins, 4), *places = calloc(told.origins, 4);
-    Workspace w = told.workspace;
-    size_t lengths[] = {w.vertices, w.edges, w.index, w.nodes, w.targets, w.paths, w.queue, w.closed, w.order, w.marks, w.walks, w.columns,
-        w.columns};
-    uint32_t *s[13];
-    for (int i = 0; i < 13; i++)
-        s[i] = calloc(lengths[i], 4);
-    uint16_t *active = calloc(w.active, 2);
-    double *scores = calloc(w.scores, 8), *row_scores = calloc(w.columns, 8);
-    ListAnswer l = punelavoh_list(a, reference, 7, ends, 3, bases, 21, qualities, 21, column, 64, rows, told.paths, path_bases, told.bases, sequences,
-        told.origins, places, told.origins, s[0], w.vertices, s[1], w.edges, s[2], w.index, s[3], w.nodes, s[4], w.targets, s[5], w.paths,
-        scores, w.scores, active, w.active, s[6], w.queue, s[7], w.closed, s[8], w.order, s[9], w.marks, s[10], w.walks, row_scores, w.columns,
-        s[11], w.columns, s[12], w.columns);
-    printf("refusal %u paths %u pushes %u\n", l.refusal, l.paths, l.pushes);
-    for (uint32_t r = 0; r < l.paths; r++) {
-        printf("%f %.*s", rows[r].score, (int)(a.k + rows[r].edges), (char *)path_bases + r * (a.k + a.search.path_edges));
-        for (uint32_t e = r * a.search.path_edges; e < r * a.search.path_edges + rows[r].edges; e++) {
-            OriginAnswer o = punelavoh_origin(a.k, reference, 7, ends, 3, bases, 21, sequences[e], places[e]);
-            printf(" %u:%u=%.*s", sequences[e], places[e], (int)o.length, (const char *)(o.in_reads ? bases : reference) + o.start);
+    for (int n = 1; n < 64; n++)
+        column[n] = log10(n);
+    PunelavohSettings settings = {.k = 3, .quality = 10, .asked = 2, .threshold = 9, .recovery = false,
+        .graph = {.vertices = 128, .edges = 256, .nodes = 256}, .search = {.path_edges = 16, .active = 8, .pushes = 64}};
+    PunelavohSample sample = {.reference = reference, .reference_length = 7, .ends = ends, .ends_length = 3, .bases = bases, .bases_length = 21,
+        .qualities = qualities, .qualities_length = 21, .column = column, .column_length = 64};
+    size_t size = punelavoh_list_size(settings);
+    void *memory = malloc(size);
+    PunelavohList list;
+    if (punelavoh_list_in(settings, sample, memory, size, &list) != PUNELAVOH_ACCEPTED) {
+        fprintf(stderr, "%s\n", punelavoh_refusal_words(list.answer.refusal));
+        return 1;
+    }
+    printf("refusal %u paths %u pushes %u\n", list.answer.refusal, list.answer.paths, list.answer.pushes);
+    for (uint32_t r = 0; r < list.answer.paths; r++) {
+        PunelavohBytes path = punelavoh_list_bases(&list, r);
+        printf("%f %.*s", punelavoh_list_row(&list, r)->score, (int)path.length, (const char *)path.bytes);
+        for (uint32_t e = 0; e < punelavoh_list_row(&list, r)->edges; e++) {
+            PunelavohOrigin o = punelavoh_list_origin(&list, r, e);
+            PunelavohBytes there = punelavoh_origin_bytes(settings.k, sample, o.sequence, o.place);
+            printf(" %u:%u=%.*s", o.sequence, o.place, (int)there.length, (const char *)there.bytes);
         }
         printf("\n");
     }
-    return 0;
+    free(memory);
 }

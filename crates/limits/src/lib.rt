@@ -310,20 +310,35 @@ pub fn check_list(
 // the first five; the call for the list is lent all but `open`, and three slices of `columns`, the first of them f64.
 #[repr(C)]
 pub struct Workspace {
+    // the graph's vertices
     pub vertices: usize,
+    // the graph's edges
     pub edges: usize,
+    // by which a kmer's vertex is found; then the only edge that leaves a vertex
     pub index: usize,
+    // the nodes of the trees
     pub nodes: usize,
+    // the open trees of a walk
     pub open: usize,
+    // where each edge leads
     pub targets: usize,
+    // the records of the paths
     pub paths: usize,
+    // scores of the paths
     pub scores: usize,
+    // active trees of the paths
     pub active: usize,
+    // the waiting paths, as a heap
     pub queue: usize,
+    // the closed paths
     pub closed: usize,
+    // the pivotal edges in their order
     pub order: usize,
+    // marks by edge, for the pivotal ones
     pub marks: usize,
+    // open trees, then edges to look at, then offers of a fork, then edges of the closed paths
     pub walks: usize,
+    // each of three columns that the rows are made in
     pub columns: usize,
 }
 

@@ -8,10 +8,15 @@ ghost use Rattle.list_interface.specs.Answers.{refusedAnswer, foundAnswe
 // What a run is asked for: k, the minimum quality, the number of paths, the threshold, recovery, and the maxima.
 #[repr(C)]
 pub struct Settings {
+    // the kmer size
     pub k: u32,
+    // the minimum quality: a base below it is not used
     pub quality: u8,
+    // paths asked
     pub asked: u32,
+    // the evidence threshold, any number
     pub threshold: i32,
+    // whether paths are recovered
     pub recovery: bool,
     pub graph: GraphMaxima,
     pub search: SearchMaxima,
@@ -23,6 +28,7 @@ pub struct ListAnswer {
     pub refusal: u32,
     pub paths: u32,
     pub pushes: u32,
+    // no less than the longest waiting list, no more than the pushes
     pub mark: u32,
 }
 

@@ -7,7 +7,9 @@ ghost use Rattle.path_rows.specs.Rows.{Filled};
 #[repr(C)]
 pub struct PathRow {
     pub score: f64,
+    // its closing number: paths are counted from 1 as they close
     pub closing: u32,
+    // it has k + edges bases
     pub edges: u32,
     pub is_ref: bool,
 }

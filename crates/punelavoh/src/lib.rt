@@ -43,8 +43,33 @@ fn clear_columns(
 
 // ---- for C and Rust
 
-// Writes edge rows of six numbers (from, to, support, reference mark, and the origin's sequence and place), rising by ends, and node rows of four (from,
-// to, count, depth).
+// The parameters by name, for the header that tools/c-header makes; a workspace slice `w_x` is what `Workspace` says of x. In brackets stands where a
+// value or the length of a slice is told, where it is not told by the same name. In braces stand the numbers of a row.
+// settings: what the run is asked for
+// k: the kmer size
+// quality: the minimum quality: a base below it is not used
+// paths [settings.asked]: paths asked
+// graph: the maxima of the graph and its trees
+// search: the maxima of the search
+// maxima [settings.graph]: the maxima of the graph and its trees
+// reference: its bases, k to 1,024 letters of A C G T N
+// ends: for each read where it ends in `bases`, exclusive; they never fall, and the last is the number of bases; up to 512
+// bases: of all reads, one after the other; up to 32,768
+// qualities: one for each base, numbers and not the characters of a text
+// column: place n holds log10 of n; 2 to 65,536 places
+// sequence: 0 for the reference, else the read, from 1
+// place: of the first byte in that sequence, from 0
+// edges {from, to, support, is_ref, sequence, place}: all edges, rising by ends; is_ref is 1 for an edge of the reference, else 0
+// nodes {from, to, count, depth}: all tree nodes, tree after tree; a root has its vertex as both ends and depth 0
+// rows [told.paths]: the paths, best first
+// out_bases [told.bases]: the bases of the path in row r, from r * (k + path_edges) on
+// sequences [told.origins]: for each edge of the path in row r the sequence of its origin, from r * path_edges on
+// places [told.origins]: and the place in that sequence
+// row_scores [told.workspace.columns]: the column of the scores
+// row_closings [told.workspace.columns]: the column of the closing numbers
+// row_edges [told.workspace.columns]: the column of the edge counts
+
+// Writes the rows of edges and of tree nodes.
 #[no_mangle]
 pub extern "C" fn punelavoh_graph(
     k: u32,
@@ -84,7 +109,7 @@ pub extern "C" fn punelavoh_graph(
     )
 }
 
-// Tells how many elements each slice needs; `paths` is the number of paths asked for.
+// Tells how many elements each slice needs.
 #[no_mangle]
 pub extern "C" fn punelavoh_lengths(
     k: u32,
@@ -113,8 +138,7 @@ pub extern "C" fn punelavoh_origin(
     origins::origin_part(k, reference, ends, bases, sequence, place)
 }
 
-// Writes the list: row r is rows[r], its bases stand in out_bases from r * (k + path_edges), and its edges' origins in sequences and places from
-// r * path_edges. The rows are first made in the three columns, which are cleared like the rest of the workspace.
+// Writes the list. Its rows are first made in three columns, which are cleared like the rest of the workspace.
 #[no_mangle]
 pub extern "C" fn punelavoh_list(
     settings: Settings,
