@@ -88,28 +88,22 @@ fn functions_are_those_exported() {
 }
 
 #[test]
-fn refusals_are_those_of_the_table() {
+fn refusals_are_those_of_the_library() {
     let Some(crates) = crates() else { return };
-    let table = read(&crates.join("definition/specs/Refusal.antt"));
-    let rows: Vec<(u32, String)> = table
-        .lines()
-        .filter_map(|line| line.trim().trim_start_matches("∷ ").strip_prefix("row "))
-        .filter_map(|row| row.split_once("  -- "))
-        .map(|(row, words)| (row.split(' ').next().and_then(|n| n.parse().ok()).expect("a number"), words.to_owned()))
+    let source = read(&crates.join("refusals/src/lib.rt"));
+    let lines: Vec<&str> = source.lines().collect();
+    let theirs: Vec<(String, String)> = lines
+        .windows(2)
+        .filter_map(|two| Some((two[1].strip_prefix("pub const ")?, two[0].strip_prefix("// ")?)))
+        .map(|(constant, words)| (constant.to_owned(), words.to_owned()))
         .collect();
-    let named: Vec<(u32, String)> = Refusal::NAMED.iter().map(|refusal| (refusal.number(), refusal.to_string())).collect();
-    assert_eq!(named, rows);
-    assert!(rows.len() >= 13);
-    // The names for C stand above the table, as 2 REFERENCE_LENGTH; here they are ReferenceLength.
-    if let Some((_, names)) = table.split_once("In C they are called") {
-        let words: Vec<&str> = names.split([' ', ',', '.', '\n']).filter(|word| !word.is_empty() && *word != "--").collect();
-        let pairs = words.chunks(2).take(Refusal::NAMED.len()).map(|pair| pair.join(" "));
-        assert_eq!(pairs.collect::<Vec<_>>(), Refusal::NAMED.iter().map(|r| format!("{} {}", r.number(), in_c(*r))).collect::<Vec<_>>());
-    }
+    let ours = Refusal::NAMED.iter().map(|refusal| (format!("{}: u32 = {};", in_capitals(*refusal), refusal.number()), refusal.to_string()));
+    assert_eq!(ours.collect::<Vec<_>>(), theirs);
+    assert!(theirs.len() >= 13);
 }
 
 /// The name of a refusal in capitals, its words joined by underscores.
-fn in_c(refusal: Refusal) -> String {
+fn in_capitals(refusal: Refusal) -> String {
     let mut name = String::new();
     for letter in format!("{refusal:?}").chars() {
         if letter.is_uppercase() && !name.is_empty() {

@@ -1,5 +1,5 @@
 // The kmer size of `bio_ids.rs`, and document 01's limit on it.
-use refusals::KMER_SIZE;
+use refusals::K;
 ghost use mathlib.Core.Path.{_≡_};
 ghost use Rattle.definition.specs.Refusal.{firstBroken};
 ghost use Rattle.bio_ids.specs.Sizes.{sizeOf, triedRefusal, atLeastTwo, kRules};
@@ -29,7 +29,7 @@ impl KmerSize {
         ensures { λ r. ⌜ sizeOf r ≡ atLeastTwo k ⌝ }
     {
         if k < 2 {
-            return TriedKmerSize::Refused(KMER_SIZE);
+            return TriedKmerSize::Refused(K);
         }
         TriedKmerSize::Size(KmerSize(k))
     }
@@ -47,7 +47,7 @@ pub fn k_refusal(k: u32) -> u32
     ensures { λ r. ⌜ r ≡ firstBroken (kRules k) ⌝ }
 {
     if k > 128 {
-        return KMER_SIZE;
+        return K;
     }
     let tried = KmerSize::try_new(k as u16);
     let TriedKmerSize::Size(_) = tried else {

@@ -20,8 +20,7 @@ pub record Returned : Type 0 where
 abbrev row : ℕ → After → Returned
 row n a = record { number = n; after = a }
 
--- 14 has no row: it is the program's own, and no call returns it. Behind each row stand the table's words. In C they are called 1 K, 2 REFERENCE_LENGTH,
--- 3 REFERENCE_BYTE, 4 READS, 5 MAXIMUM, 6 COLUMN, 7 SHORT_SLICE, 8 GRAPH_SIZE, 9 TREE_NODES, 10 NO_PLACE, 11 PATH_SIZE, 12 PUSHES, 13 ORIGIN.
+-- 14 has no row: it is the program's own, and no call returns it.
 unfoldable pub returned : List Returned
 returned =
     row 1 unchanged  -- k outside limits

@@ -11,7 +11,7 @@ use limits::LengthsTold;
 use limits::SearchMaxima;
 use limits::check_graph;
 use limits::lengths_within;
-use refusals::LENT_SLICE;
+use refusals::SHORT_SLICE;
 use threading_tree::write_nodes;
 ghost use mathlib.Core.Path.{_≡_};
 ghost use mathlib.Core.Bool.{true};
@@ -111,7 +111,7 @@ fn check(
     let told = told_for(k, g);
     let fits = lent_fits(told, l);
     if !fits {
-        return LENT_SLICE;
+        return SHORT_SLICE;
     }
     0
 }

@@ -14,7 +14,7 @@ use assembly::incoming_edge;
 use assembly::kmer_bucket;
 use assembly::out_edge;
 use assembly::wide;
-use refusals::GRAPH_MAXIMUM;
+use refusals::GRAPH_SIZE;
 ghost use mathlib.Core.Path.{_≡_};
 ghost use mathlib.Core.Bool.{not};
 ghost use mathlib.Core.List.{_++_};
@@ -99,7 +99,7 @@ fn get_or_create_kmer_vertex(
         });
     }
     if n >= most.vertices {
-        return Step::Refused(GRAPH_MAXIMUM);
+        return Step::Refused(GRAPH_SIZE);
     }
     create_vertex(vertices, n, q);
     enter_kmer(index, n, h);
@@ -146,7 +146,7 @@ fn extend_chain_by_one(
         });
     }
     if m >= most.edges {
-        return Step::Refused(GRAPH_MAXIMUM);
+        return Step::Refused(GRAPH_SIZE);
     }
     let r = get_or_create_kmer_vertex(reference, bases, vertices, index, k, most, s, q);
     let Step::Next(t) = r else {

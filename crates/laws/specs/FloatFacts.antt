@@ -82,7 +82,7 @@ flip-eq a b = go (tri a b)
     go (inr (inl e)) = simp (le-ltb a b (omega arith), eq-eqb a b e, le-ltb b a (omega arith))
     go (inr (inr h)) = simp (le-ltb a b (omega arith), ne-eqb a b (omega arith), lt-ltb b a h)
 
--- -a ≤ b always; b ≤ -a only where both are nought
+-- -a ≤ b always; b ≤ -a only where both are zero
 mixed : (a b : ℕ) → (ltb 0 (a + b) || (eqb a b && eqb a 0)) ≡ true
 mixed a b = go (tri 0 (a + b))
   where

@@ -1,10 +1,10 @@
 // Refusals 1 to 7 of document 01 in the table's order, after which numbers the workspace is unchanged, and the call that tells the slice lengths needed.
 use refusals::COLUMN;
-use refusals::LENT_SLICE;
+use refusals::MAXIMUM;
 use refusals::READS;
-use refusals::REFERENCE_BASE;
+use refusals::REFERENCE_BYTE;
 use refusals::REFERENCE_LENGTH;
-use refusals::SETTINGS;
+use refusals::SHORT_SLICE;
 use tables::EDGE;
 use tables::EDGE_ROW;
 use tables::FORK;
@@ -203,7 +203,7 @@ pub fn check_reference(k: u32, reference: &[u8]) -> u32
         return REFERENCE_LENGTH;
     }
     if !reference_bases(reference) {
-        return REFERENCE_BASE;
+        return REFERENCE_BYTE;
     }
     0
 }
@@ -260,12 +260,12 @@ pub fn check_graph(
     }
     let maxima_good = graph_maxima_fit(g);
     if !maxima_good {
-        return SETTINGS;
+        return MAXIMUM;
     }
     if long_enough {
         return 0;
     }
-    LENT_SLICE
+    SHORT_SLICE
 }
 
 // 1 to 7 of the call for the list; neither the threshold nor recovery has a limit.
@@ -294,14 +294,14 @@ pub fn check_list(
     }
     let settings_good = settings_fit(asked, g, s);
     if !settings_good {
-        return SETTINGS;
+        return MAXIMUM;
     }
     let column_good = kbest_haplotype::column_fits(column);
     if !column_good {
         return COLUMN;
     }
     if !long_enough {
-        return LENT_SLICE;
+        return SHORT_SLICE;
     }
     0
 }
@@ -363,7 +363,7 @@ fn check_lengths(k: u32, asked: u32, g: GraphMaxima, s: SearchMaxima) -> u32
         return refusal;
     }
     if !settings_fit(asked, g, s) {
-        return SETTINGS;
+        return MAXIMUM;
     }
     0
 }

@@ -4,7 +4,7 @@ use limits::Workspace;
 use limits::check_list;
 use limits::lengths_within;
 use list_interface::Settings;
-use refusals::LENT_SLICE;
+use refusals::SHORT_SLICE;
 ghost use mathlib.Core.Path.{_≡_};
 ghost use Rattle.definition.specs.Refusal.{firstBroken};
 ghost use Rattle.definition.specs.Limits.{longEnough, listRules};
@@ -147,16 +147,16 @@ pub fn check(
     let told = lengths_within(a.k, a.asked, g, s);
     let outputs = outputs_fit(told, l);
     if !outputs {
-        return LENT_SLICE;
+        return SHORT_SLICE;
     }
     let tables = told.workspace;
     let graphs = graph_fits(tables, l);
     if !graphs {
-        return LENT_SLICE;
+        return SHORT_SLICE;
     }
     let searches = search_fits(tables, l);
     if !searches {
-        return LENT_SLICE;
+        return SHORT_SLICE;
     }
     0
 }

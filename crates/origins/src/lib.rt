@@ -1,5 +1,5 @@
 // The call for the bytes at an origin, and the call beside it that tells the refusal's number.
-use refusals::NO_ORIGIN;
+use refusals::ORIGIN;
 ghost use mathlib.Core.Path.{_≡_};
 ghost use Prim.Native.Nat.{_≤_};
 ghost use lib.ListN.{length};
@@ -41,7 +41,7 @@ fn fit(k: u32, in_reads: bool, start: usize, length: usize, place: u32) -> Found
             start: start + from,
         });
     }
-    Found::Refused(NO_ORIGIN)
+    Found::Refused(ORIGIN)
 }
 
 // The part that an origin names, or its refusal.
@@ -64,7 +64,7 @@ pub fn find_origin(
     }
     let read = sequence as usize - 1;
     if read >= ends.len() {
-        return Found::Refused(NO_ORIGIN);
+        return Found::Refused(ORIGIN);
     }
     let start = read_start(ends, read);
     let length = ends[read] as usize - start;

@@ -12,7 +12,7 @@ use path_store::pivotal::split_place;
 use path_store::records::path_at;
 use path_store::walks::write_path;
 use pivotal_edges::create_pivotal_edges_in_topological_order;
-use refusals::PUSH_MAXIMUM;
+use refusals::PUSHES;
 use search_state::Progress;
 use search_state::Setting;
 use search_state::Step;
@@ -57,7 +57,7 @@ fn push_path(scores: &[f64], queue: &mut [u32], g: Setting, p: Progress, path: u
     ensures { λ r. ⌜ OnePushed (now (scores .entry)) (now (queue .entry)) g p path (now (queue .exit)) r ⌝ }
 {
     if p.pushes >= g.pushes {
-        return Step::Refused(PUSH_MAXIMUM);
+        return Step::Refused(PUSHES);
     }
     heap_push(queue, p.waiting, scores, path);
     let waiting = p.waiting + 1;

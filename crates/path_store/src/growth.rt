@@ -15,7 +15,7 @@ use crate::chains::wide;
 use crate::records::PathRecord;
 use crate::records::path_at;
 use crate::records::path_put;
-use refusals::PATH_MAXIMUM;
+use refusals::PATH_SIZE;
 
 // The number of the path that was made, or a refusal.
 pub enum PathAnswer {
@@ -111,7 +111,7 @@ pub fn extend_path(
     let parent = path_at(paths, scores, taken.path);
     let k = wide(parent.edges) + wide(taken.chain) + 1;
     if k > wide(most) {
-        return PathAnswer::Refused(PATH_MAXIMUM);
+        return PathAnswer::Refused(PATH_SIZE);
     }
     let row = PathRecord {
         score: x.score,
@@ -144,7 +144,7 @@ pub fn close_path(
     let parent = path_at(paths, scores, taken.path);
     let k = wide(parent.edges) + wide(taken.chain);
     if k > wide(most) {
-        return PathAnswer::Refused(PATH_MAXIMUM);
+        return PathAnswer::Refused(PATH_SIZE);
     }
     let row = PathRecord {
         score: parent.score,
@@ -238,7 +238,7 @@ pub fn recover_path(
     ensures { λ r. ⌜ Grown (now (paths .entry)) (now (scores .entry)) n (recoveredRow (now (index .entry)) (now (paths .entry)) (now (scores .entry)) (now (targets .entry)) path k e) most r (now (paths .exit)) (now (scores .exit)) ⌝ }
 {
     if k >= most {
-        return PathAnswer::Refused(PATH_MAXIMUM);
+        return PathAnswer::Refused(PATH_SIZE);
     }
     let best = path_at(paths, scores, path);
     let cut = cut_path(paths, scores, path, k);
@@ -266,7 +266,7 @@ pub fn join_tree(paths: &mut [u32], scores: &mut [f64], path: u32, v: u32, most:
 {
     let row = path_at(paths, scores, path);
     if row.trees >= most {
-        return PathAnswer::Refused(PATH_MAXIMUM);
+        return PathAnswer::Refused(PATH_SIZE);
     }
     let with = PathRecord {
         score: row.score,

@@ -1,6 +1,6 @@
 // 1 to 5 as the program meets them: 4 also where a read's two lines are of unequal length, 5 also above 8 paths.
 use crate::header::Settings;
-use refusals::SETTINGS;
+use refusals::MAXIMUM;
 ghost use mathlib.Core.Path.{_≡_};
 ghost use mathlib.Core.List.{List, _∷_, _++_};
 ghost use mathlib.Core.Bool.{false};
@@ -44,7 +44,7 @@ pub fn check_text(
         return refusal;
     }
     if settings.asked > 8 {
-        return SETTINGS;
+        return MAXIMUM;
     }
     0
 }

@@ -8,7 +8,7 @@
 //
 // Callers use the relation HeldWalk of specs/Held: the tables hold a walk of the definition.
 
-use refusals::TREE_MAXIMUM;
+use refusals::TREE_NODES;
 use tables::NODE;
 use tables::NODE_ROW;
 use tables::OPEN;
@@ -203,7 +203,7 @@ pub fn add_edge(nodes: &mut [u32], n: usize, cap: usize, s: usize, a: u32, b: u3
         Place::Gap(u, v) => {
             let k = n + 1;
             if k > cap {
-                return Step::Refused(TREE_MAXIMUM);
+                return Step::Refused(TREE_NODES);
             }
             put_node(nodes, k, a, b, m, v);
             increment_count(nodes, s, m);
