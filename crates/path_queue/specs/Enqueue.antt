@@ -267,25 +267,25 @@ module _ {A : Around} {es index targets t : List ℕ} {sc : List Float} {closed 
 
     gives-none : bestFor es index targets t sc closed p e ≡ 0 → recover (columnScoring column) (A .f) (nameOf es e) s ≡ made s []
     gives-none z =
-        recover-none (A .f) (nameOf es) index targets (R .ground .agrees) column (A .closing) t sc (p .records) (R .holds .records .held .table) e (take (p .closed) closed) s (R .holds .closed)
+        recover-none (A .f) (nameOf es) index targets (R .ground .agrees) column (A .closing) t sc (p .records) (R .holds .records .held .table) e (take (p .closed) closed) s (R .holds .closed-is)
         (bestFor es index targets t sc closed p e) best-source z
 
     module _ (b : ℕ) (B : suc b ≡ bestFor es index targets t sc closed p e) (l : b < p .records) where
       gives-lost : kept index targets t b (edgeFrom es e) ≡ 0 → recover (columnScoring column) (A .f) (nameOf es e) s ≡ made s []
       gives-lost z =
-          recover-lost (A .f) (nameOf es) index targets (R .ground .agrees) column (A .closing) t sc (p .records) (R .holds .records .held .table) e (take (p .closed) closed) s (R .holds .closed)
+          recover-lost (A .f) (nameOf es) index targets (R .ground .agrees) column (A .closing) t sc (p .records) (R .holds .records .held .table) e (take (p .closed) closed) s (R .holds .closed-is)
           b (B ∙ best-source) l z
 
       module _ (pos : 0 < kept index targets t b (edgeFrom es e)) where
         keeps-low : kept index targets t b (edgeFrom es e) ≤ countOf t b
         keeps-low =
-            recover-low (A .f) (nameOf es) index targets (R .ground .agrees) column (A .closing) t sc (p .records) (R .holds .records .held .table) e (take (p .closed) closed) s (R .holds .closed)
+            recover-low (A .f) (nameOf es) index targets (R .ground .agrees) column (A .closing) t sc (p .records) (R .holds .records .held .table) e (take (p .closed) closed) s (R .holds .closed-is)
             b (B ∙ best-source) l (kept index targets t b (edgeFrom es e)) refl pos
 
         module _ (I : Inside t sc (p .records)) (h : e < length targets) where
           gives-over : g .most < kept index targets t b (edgeFrom es e) + 1 → recover (columnScoring column) (A .f) (nameOf es e) s ≡ broken 11
           gives-over o =
-              recover-over (A .f) (nameOf es) index targets (R .ground .agrees) column (A .closing) t sc (p .records) (R .holds .records .held .table) e (take (p .closed) closed) s (R .holds .closed)
+              recover-over (A .f) (nameOf es) index targets (R .ground .agrees) column (A .closing) t sc (p .records) (R .holds .records .held .table) e (take (p .closed) closed) s (R .holds .closed-is)
               b (B ∙ best-source) l (kept index targets t b (edgeFrom es e)) refl pos I h (omega (arith, R .ground .most))
 
           gives-made : kept index targets t b (edgeFrom es e) + 1 ≤ g .most
@@ -293,7 +293,7 @@ module _ {A : Around} {es index targets t : List ℕ} {sc : List Float} {closed 
               ≡ made s
               (viewOf (A .f) (nameOf es) index targets [] (putCells t (p .records) (recoveredRow index t sc targets b (kept index targets t b (edgeFrom es e)) e)) (set sc (p .records) (scoreOf sc b)) (p .records) ∷ [])
           gives-made o =
-              recover-made (A .f) (nameOf es) index targets (R .ground .agrees) column (A .closing) t sc (p .records) (R .holds .records .held .table) e (take (p .closed) closed) s (R .holds .closed)
+              recover-made (A .f) (nameOf es) index targets (R .ground .agrees) column (A .closing) t sc (p .records) (R .holds .records .held .table) e (take (p .closed) closed) s (R .holds .closed-is)
               b (B ∙ best-source) l (kept index targets t b (edgeFrom es e)) refl pos I h (omega (arith, R .ground .most))
 
 -- ---- the next pivotal edge
