@@ -10,6 +10,7 @@ use lib.Ieee.{Float}
 use Rattle.definition.specs.Refusal.{firstBroken}
 use Rattle.definition.specs.Limits.{Input, longEnough, listTold, toldBases, toldOrigins, basesStride}
 use Rattle.definition.specs.Text.{Text, textRules, sizeOf}
+use Rattle.tables.specs.Widths.{pathNumbers}
 use Rattle.limits.specs.Rules.{none-broken}
 use Rattle.limits.specs.Bounds.{k-most, max-le}
 use Rattle.list_interface.specs.Handed.{inputFor}
@@ -131,7 +132,7 @@ module _ (s : Source) (T E : List ℕ) (c : List Float) (o : Outputs) (w : Table
       ∙ no-short 128 (length (w .queue)) _ _ (omega (arith, l .w-queue))
       ∙ no-short ((128 + n + 8) * 8) (length (w .active)) _ _ (omega (arith, l .w-active))
       ∙ no-short (128 + n + 8) (length (w .scores)) _ _ (omega (arith, l .w-scores))
-      ∙ no-short ((128 + n + 8) * 9) (length (w .paths)) _ _ (omega (arith, l .w-paths))
+      ∙ no-short (pathNumbers (128 + n + 8)) (length (w .paths)) _ _ (omega (arith, l .w-paths))
       ∙ no-short 256 (length (w .targets)) _ _ (omega (arith, l .w-targets))
       ∙ no-short 1285 (length (w .nodes)) _ _ (omega (arith, l .w-nodes))
       ∙ no-short 256 (length (w .index)) _ _ (omega (arith, l .w-index))

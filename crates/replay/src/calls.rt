@@ -13,6 +13,8 @@ use limits::LengthsTold;
 use limits::SearchMaxima;
 use limits::Workspace;
 use limits::workspace_kept;
+use tables::EDGE_ROW;
+use tables::NODE_ROW;
 ghost use Prim.Native.Nat.{_≤_};
 
 pub fn graph_maxima(call: &[u32], place: usize) -> GraphMaxima
@@ -47,10 +49,10 @@ pub fn lengths_agree(call: &[u32]) -> bool {
     if told.refusal != field(call, 9) {
         return false;
     }
-    if told.edges != wide(field(call, 10)) * 6 {
+    if told.edges != wide(field(call, 10)) * EDGE_ROW {
         return false;
     }
-    if told.nodes != wide(field(call, 11)) * 4 {
+    if told.nodes != wide(field(call, 11)) * NODE_ROW {
         return false;
     }
     if told.paths != wide(field(call, 12)) {
@@ -154,7 +156,7 @@ fn graph_answered(call: &[u32], answer: GraphAnswer) -> bool {
 // The rows of the edges, of six numbers each, and behind them those of the nodes.
 fn rows_written(call: &[u32], edges: &[u32], nodes: &[u32]) -> bool {
     let rows = behind(call, 8);
-    let n = least(wide(field(call, 6)) * 6, rows.len());
+    let n = least(wide(field(call, 6)) * EDGE_ROW, rows.len());
     if !written(edges, &rows[0..n]) {
         return false;
     }

@@ -2,6 +2,7 @@
 use Prim.Native.Nat.{_-_, _+_, _*_}
 use native.Mathlib.Omega.{arith}
 use lib.ListN.{length}
+use Rattle.assembly.specs.Fields.{toField, edgeCell}
 use Rattle.graph_rows.specs.Listing.{Listing, list-start, list-v, list-names, list-skip, list-asks, list-room, list-take, list-end}
 use Rattle.graph_rows.proofs.write_edges.Statement.{statement}
 use Rattle.graph_rows.proofs.write_edges.Tie as tie
@@ -40,7 +41,7 @@ edge-to-requires : tie.Need-edge-to-requires Inv-loop μ-loop
 edge-to-requires c κs = list-room (c .before .before .before .before .before .before .before .before .before .before .before .pre) (c .before .before .before .before .before .before .before .loop .inv) (c .before .before .before .before .before .before .loop-test .taken) (c .before .before .before .before .before .next-out .ensures) (c .before .before .before .before .if1 .left)
 
 add-t : tie.Need-add-t Inv-loop μ-loop
-add-t c = let e = c .edge-to .ensures in omega (arith, c .before .before .before .before .before .before .before .before .before .before .shared-slice-known2 .given ((c .before .before .before .before .before .before .next-out .result - 1) * 6 + 1))
+add-t c = let e = c .edge-to .ensures in omega (arith, c .before .before .before .before .before .before .before .before .before .before .shared-slice-known2 .given (edgeCell (c .before .before .before .before .before .before .next-out .result - 1) toField))
 
 loop-less-2 : tie.Need-loop-less-2 Inv-loop μ-loop
 loop-less-2 c = let l = c .before .before .before .before .before .before .before .loop-test .taken in omega arith

@@ -7,7 +7,7 @@ use Rattle.assembly.proofs.edge_from.Reads as edge-from-reads
 use Rattle.path_queue.proofs.leave_path.Reads as leave-path-reads
 use Rattle.path_store.proofs.chains.wide.Reads as wide-reads
 use Rattle.path_store.proofs.pivotal.best_through.Reads as best-through-reads
-use Prim.Native.Nat.{_+_, _*_}
+use Rattle.assembly.specs.Fields.{fromField, edgeCell}
 use Rattle.path_queue.specs.Try.{try-closed, try-none, try-leaves, try-left, edge-row, edge-from-is}
 use native.Mathlib.Omega.{arith}
 
@@ -18,7 +18,7 @@ edge-from-requires : tie.Need-edge-from-requires
 edge-from-requires c κs = edge-row (c .before .before .before .before .before .before .before .before .pre) _ (c .wide .ensures .0)
 
 cast-v : tie.Need-cast-v
-cast-v c = let h = c .before .before .before .before .before .before .before .before .shared-slice-known .given ((c .before .before .before .before .before .before .before .before .before .args .e) * 6 + 0) in let q = edge-from-is (c .before .before .before .before .before .before .before .before .before .pre) _ _ (c .before .wide .ensures .0) (c .edge-from .ensures) in omega arith
+cast-v c = let h = c .before .before .before .before .before .before .before .before .shared-slice-known .given (edgeCell (c .before .before .before .before .before .before .before .before .before .args .e) fromField) in let q = edge-from-is (c .before .before .before .before .before .before .before .before .before .pre) _ _ (c .before .wide .ensures .0) (c .edge-from .ensures) in omega arith
 
 best-through-requires : tie.Need-best-through-requires
 best-through-requires c κs = try-closed (c .before .before .before .before .before .before .before .before .before .before .before .pre) _

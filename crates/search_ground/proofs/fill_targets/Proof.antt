@@ -2,6 +2,7 @@
 use Prim.Native.Nat.{_+_, _-_, _*_}
 use native.Mathlib.Omega.{arith}
 use lib.ListN.{length, length-set}
+use Rattle.assembly.specs.Fields.{toField, edgeCell}
 use Rattle.search_ground.specs.Tables.{Filled, IsTarget, filled-start, filled-next, targets-end}
 use Rattle.search_ground.proofs.fill_targets.Statement.{statement}
 use Rattle.search_ground.proofs.fill_targets.Tie as tie
@@ -19,7 +20,7 @@ edge-to-requires : tie.Need-edge-to-requires Inv-loop μ-loop
 edge-to-requires c κs = let h = c .loop-test .taken in let s = c .before .loop .inv .size in let p = c .before .before .before .before .pre in omega arith
 
 cast-targets : tie.Need-cast-targets Inv-loop μ-loop
-cast-targets c = let h = c .before .before .before .before .shared-slice-known .given (c .before .before .loop .e * 6 + 1) in let q = c .edge-to .ensures in omega arith
+cast-targets c = let h = c .before .before .before .before .shared-slice-known .given (edgeCell (c .before .before .loop .e) toField) in let q = c .edge-to .ensures in omega arith
 
 mul-targets : tie.Need-mul-targets Inv-loop μ-loop
 mul-targets c = let h = c .before .loop-test .taken in let s = c .before .before .loop .inv .size in let g = c .before .before .before .before .before .good in omega arith
