@@ -12,10 +12,10 @@ use Rattle.path_store.specs.declared.records.PathRecord.{PathRecord}
 use Rattle.path_list.specs.Rows.{ColumnsTo, known-at, known-inside, columns-start, columns-next, columns-end}
 
 abbrev Inv-loop : tie.InvT-loop
-Inv-loop paths scores closed rank count row_scores₀ row_closings₀ row_edges₀ r₀ row_scores row_closings row_edges r = ColumnsTo paths scores closed rank count r row_scores₀ row_closings₀ row_edges₀ row_scores row_closings row_edges
+Inv-loop paths scores closed rank count row-scores₀ row-closings₀ row-edges₀ r₀ row-scores row-closings row-edges r = ColumnsTo paths scores closed rank count r row-scores₀ row-closings₀ row-edges₀ row-scores row-closings row-edges
 
 abbrev μ-loop : tie.MeasureT-loop
-μ-loop paths scores closed rank count row_scores₀ row_closings₀ row_edges₀ r₀ row_scores row_closings row_edges r = count - r
+μ-loop paths scores closed rank count row-scores₀ row-closings₀ row-edges₀ r₀ row-scores row-closings row-edges r = count - r
 
 loop-holds : tie.Need-loop-holds Inv-loop μ-loop
 loop-holds c = columns-start _ _ _ _ _ _ _ _
@@ -35,26 +35,26 @@ at-requires c κs = known-at _ _ ((c .before .before .before .before .before .be
 path-at-requires : tie.Need-path-at-requires Inv-loop μ-loop
 path-at-requires c κs = known-inside _ _ ((c .before .before .before .before .before .before .before .before .before .before .before .pre) .0) _ _ _ ((c .before .before .before .before .before .before .before .before .before .before .before .pre) .1) _ ((c .before .before .loop-test) .taken) _ ((c .at) .ensures)
 
-mul-scored : tie.Need-mul-scored Inv-loop μ-loop
-mul-scored c = omega (arith, (c .before .before .before .before .before .before .before .before .before .before .before .before .pre) .0 .few, (c .before .before .before .loop-test) .taken)
+mul-row-scores : tie.Need-mul-row-scores Inv-loop μ-loop
+mul-row-scores c = omega (arith, (c .before .before .before .before .before .before .before .before .before .before .before .before .pre) .0 .few, (c .before .before .before .loop-test) .taken)
 
-slice-write-scored : tie.Need-slice-write-scored Inv-loop μ-loop
-slice-write-scored c = omega (arith, (c .before .before .before .before .loop) .inv .scores .long, (c .before .before .before .before .before .before .before .before .before .before .before .before .pre) .2, (c .before .before .before .loop-test) .taken)
+slice-write-row-scores : tie.Need-slice-write-row-scores Inv-loop μ-loop
+slice-write-row-scores c = omega (arith, (c .before .before .before .before .loop) .inv .scores .long, (c .before .before .before .before .before .before .before .before .before .before .before .before .pre) .2, (c .before .before .before .loop-test) .taken)
 
-add-closings : tie.Need-add-closings Inv-loop μ-loop
-add-closings c = omega (arith, (c .before .before .before .before .before .before .before .before .before .before .before .before .pre) .0 .known _ ((c .before .before .before .loop-test) .taken), (c .before .before .before .before .before .before .before .before .before .before .before .before .pre) .0 .few)
+add-row-closings : tie.Need-add-row-closings Inv-loop μ-loop
+add-row-closings c = omega (arith, (c .before .before .before .before .before .before .before .before .before .before .before .before .pre) .0 .known _ ((c .before .before .before .loop-test) .taken), (c .before .before .before .before .before .before .before .before .before .before .before .before .pre) .0 .few)
 
-mul-closings : tie.Need-mul-closings Inv-loop μ-loop
-mul-closings c = omega (arith, (c .before .before .before .before .before .before .before .before .before .before .before .before .pre) .0 .few, (c .before .before .before .loop-test) .taken)
+mul-row-closings : tie.Need-mul-row-closings Inv-loop μ-loop
+mul-row-closings c = omega (arith, (c .before .before .before .before .before .before .before .before .before .before .before .before .pre) .0 .few, (c .before .before .before .loop-test) .taken)
 
-slice-write-closings : tie.Need-slice-write-closings Inv-loop μ-loop
-slice-write-closings c = omega (arith, (c .before .before .before .before .loop) .inv .row_closings .long, (c .before .before .before .before .before .before .before .before .before .before .before .before .pre) .3, (c .before .before .before .loop-test) .taken)
+slice-write-row-closings : tie.Need-slice-write-row-closings Inv-loop μ-loop
+slice-write-row-closings c = omega (arith, (c .before .before .before .before .loop) .inv .closings .long, (c .before .before .before .before .before .before .before .before .before .before .before .before .pre) .3, (c .before .before .before .loop-test) .taken)
 
-mul-lengths : tie.Need-mul-lengths Inv-loop μ-loop
-mul-lengths c = omega (arith, (c .before .before .before .before .before .before .before .before .before .before .before .before .pre) .0 .few, (c .before .before .before .loop-test) .taken)
+mul-row-edges : tie.Need-mul-row-edges Inv-loop μ-loop
+mul-row-edges c = omega (arith, (c .before .before .before .before .before .before .before .before .before .before .before .before .pre) .0 .few, (c .before .before .before .loop-test) .taken)
 
-slice-write-lengths : tie.Need-slice-write-lengths Inv-loop μ-loop
-slice-write-lengths c = omega (arith, (c .before .before .before .before .loop) .inv .edges .long, (c .before .before .before .before .before .before .before .before .before .before .before .before .pre) .4, (c .before .before .before .loop-test) .taken)
+slice-write-row-edges : tie.Need-slice-write-row-edges Inv-loop μ-loop
+slice-write-row-edges c = omega (arith, (c .before .before .before .before .loop) .inv .edges .long, (c .before .before .before .before .before .before .before .before .before .before .before .before .pre) .4, (c .before .before .before .loop-test) .taken)
 
 add-r : tie.Need-add-r Inv-loop μ-loop
 add-r c = omega (arith, (c .before .before .before .before .before .before .before .before .before .before .before .before .pre) .0 .few, (c .before .before .before .loop-test) .taken)
@@ -69,7 +69,7 @@ same-length : tie.Need-same-length Inv-loop μ-loop
 same-length c = (c .before .loop) .inv .scores .long
 
 same-length-2 : tie.Need-same-length-2 Inv-loop μ-loop
-same-length-2 c = (c .before .loop) .inv .row_closings .long
+same-length-2 c = (c .before .loop) .inv .closings .long
 
 same-length-3 : tie.Need-same-length-3 Inv-loop μ-loop
 same-length-3 c = (c .before .loop) .inv .edges .long
@@ -89,13 +89,13 @@ write-columns-spec =
     cast-i
     at-requires
     path-at-requires
-    mul-scored
-    slice-write-scored
-    add-closings
-    mul-closings
-    slice-write-closings
-    mul-lengths
-    slice-write-lengths
+    mul-row-scores
+    slice-write-row-scores
+    add-row-closings
+    mul-row-closings
+    slice-write-row-closings
+    mul-row-edges
+    slice-write-row-edges
     add-r
     loop-less
     loop-again
