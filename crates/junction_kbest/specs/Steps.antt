@@ -83,8 +83,8 @@ module _ (g : Setting) (vs es x index targets : List ℕ) (column : List Float) 
           closed-by =
               Y .is f vs es (J .branches) cl queue order s (closes f g vs es x index targets column bs cl t sc ac queue closed order marks p s taken E t₁ sc₁ ac₁ J lt ls la)
 
-          closed : (q : Progress) → c ≡ On q → ClosedOn f g es x index targets (J .branches) t₁ sc₁ ac₁ queue order p s taken q t₂ sc₂ closed₂ marks₂
-          closed q h = subst (λ (b : Step). ClosedBy f g es x index targets (J .branches) t₁ sc₁ ac₁ queue order p s taken b t₂ sc₂ closed₂ marks₂) h closed-by
+          closed-on : (q : Progress) → c ≡ On q → ClosedOn f g es x index targets (J .branches) t₁ sc₁ ac₁ queue order p s taken q t₂ sc₂ closed₂ marks₂
+          closed-on q h = subst (λ (b : Step). ClosedBy f g es x index targets (J .branches) t₁ sc₁ ac₁ queue order p s taken b t₂ sc₂ closed₂ marks₂) h closed-by
 
         pub step-close-refused : (k : ℕ) → c ≡ Refused k → TakenExtended g vs es x index targets column t sc ac closed marks p taken c t₂ sc₂ ac₁ closed₂ marks₂
         step-close-refused k h =
@@ -102,13 +102,13 @@ module _ (g : Setting) (vs es x index targets : List ℕ) (column : List Float) 
               let f = P .input in
               extends f g vs es x index targets column (P .branches) (P .closings) t sc ac (P .queue) closed (P .order) marks p (P .state) taken (P .all) t₁ sc₁ ac₁
               (joined f (P .branches) (P .closings) (P .queue) (P .order) (P .state) (P .all) m e) lt ls la q t₂ sc₂ closed₂ marks₂
-              (closed f (P .branches) (P .closings) (P .queue) (P .order) (P .state) (P .all) q h) lt₂ ls₂ out (P .rows)
+              (closed-on f (P .branches) (P .closings) (P .queue) (P .order) (P .state) (P .all) q h) lt₂ ls₂ out (P .rows)
 
           module _ (d : Extended) (t₃ : List ℕ) (sc₃ : List Float) (ac₃ : List ℕ) (Z : Extensions g vs es x index targets column t₂ sc₂ ac₁ (q .records) taken d t₃ sc₃ ac₃) where
             module _ (f : SearchInput) (bs : ℕ → List Branches) (cl : ℕ → ℕ) (queue order : List ℕ) (s : State Float)
                 (E : Extending f g vs es x index targets column bs cl t sc ac queue closed order marks p s taken) where
               abbrev C : ClosedOn f g es x index targets (joined f bs cl queue order s E m e .branches) t₁ sc₁ ac₁ queue order p s taken q t₂ sc₂ closed₂ marks₂
-              C = closed f bs cl queue order s E q h
+              C = closed-on f bs cl queue order s E q h
 
               abbrev By : Extended → Type 0
               By b =
@@ -128,7 +128,7 @@ module _ (g : Setting) (vs es x index targets : List ℕ) (column : List Float) 
                       (let z : n ≡ k = w ∙ ap extendRefusal u in
                       rw z
                       (extend-refused f g vs es x index targets column bs cl t sc ac queue closed order marks p s taken E t₁ sc₁ ac₁ (joined f bs cl queue order s E m e) lt ls la q t₂ sc₂ closed₂ marks₂
-                      (closed f bs cl queue order s E q h) lt₂ ls₂ k (subst (By f bs cl queue order s E) u (extended-by f bs cl queue order s E))));
+                      (closed-on f bs cl queue order s E q h) lt₂ ls₂ k (subst (By f bs cl queue order s E) u (extended-by f bs cl queue order s E))));
                 }
 
             pub step-made : (n : ℕ) → d ≡ extended.Made n → TakenExtended g vs es x index targets column t sc ac closed marks p taken (On (withRecords q n)) t₃ sc₃ ac₃ closed₂ marks₂
@@ -136,5 +136,5 @@ module _ (g : Setting) (vs es x index targets : List ℕ) (column : List Float) 
                 record {
                   is = λ f bs cl queue order s E.
                       all-made f g vs es x index targets column bs cl t sc ac queue closed order marks p s taken E t₁ sc₁ ac₁ (joined f bs cl queue order s E m e) lt ls la q t₂ sc₂ closed₂ marks₂
-                      (closed f bs cl queue order s E q h) lt₂ ls₂ n t₃ sc₃ ac₃ (subst (By f bs cl queue order s E) u (extended-by f bs cl queue order s E));
+                      (closed-on f bs cl queue order s E q h) lt₂ ls₂ n t₃ sc₃ ac₃ (subst (By f bs cl queue order s E) u (extended-by f bs cl queue order s E));
                 }
