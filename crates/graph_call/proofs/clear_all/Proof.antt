@@ -20,19 +20,19 @@ clear-requires-5 : tie.Need-clear-requires-5
 clear-requires-5 c κs = search needs
 
 same-length : tie.Need-same-length
-same-length c = search needs
+same-length c = c .before .before .before .before .before .before .before .before .before .before .before .before .before .before .before .before .before .before .clear .kept .0
 
 same-length-2 : tie.Need-same-length-2
-same-length-2 c = search needs
+same-length-2 c = c .before .before .before .before .before .before .before .before .before .before .before .before .before .before .clear2 .kept .0
 
 same-length-3 : tie.Need-same-length-3
-same-length-3 c = search needs
+same-length-3 c = c .before .before .before .before .before .before .before .before .before .before .clear3 .kept .0
 
 same-length-4 : tie.Need-same-length-4
-same-length-4 c = search needs
+same-length-4 c = c .before .before .before .before .before .before .clear4 .kept .0
 
 same-length-5 : tie.Need-same-length-5
-same-length-5 c = search needs
+same-length-5 c = c .before .before .clear5 .kept .0
 
 returns : tie.Need-returns
 returns c = record { w-vertices = cleared (c .before .before .before .before .before .before .before .before .before .before .before .before .before .before .before .before .before .before .before .before .before .before .before .before .before .args .w-vertices .now) _ (c .before .before .before .before .before .before .before .before .before .before .before .before .before .before .before .before .before .before .clear .ensures); w-edges = cleared (c .before .before .before .before .before .before .before .before .before .before .before .before .before .before .before .before .before .before .before .before .before .before .before .before .before .args .w-edges .now) _ (c .before .before .before .before .before .before .before .before .before .before .before .before .before .before .clear2 .ensures); w-index = cleared (c .before .before .before .before .before .before .before .before .before .before .before .before .before .before .before .before .before .before .before .before .before .before .before .before .before .args .w-index .now) _ (c .before .before .before .before .before .before .before .before .before .before .clear3 .ensures); w-nodes = cleared (c .before .before .before .before .before .before .before .before .before .before .before .before .before .before .before .before .before .before .before .before .before .before .before .before .before .args .w-nodes .now) _ (c .before .before .before .before .before .before .clear4 .ensures); w-open = cleared (c .before .before .before .before .before .before .before .before .before .before .before .before .before .before .before .before .before .before .before .before .before .before .before .before .before .args .w-open .now) _ (c .before .before .clear5 .ensures) }

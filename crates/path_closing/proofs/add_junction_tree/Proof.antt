@@ -19,10 +19,10 @@ has-visited-requires : tie.Need-has-visited-requires
 has-visited-requires c κs = (joins-table _ _ _ _ _ _ _ _ _ (c .before .before .before .before .before .before .before .before .before .before .before .before .pre), joins-path _ _ _ _ _ _ _ _ _ (c .before .before .before .before .before .before .before .before .before .before .before .before .pre), joins-vertex _ _ _ _ _ _ _ _ _ (c .before .before .before .before .before .before .before .before .before .before .before .before .pre))
 
 same-length : tie.Need-same-length
-same-length c = search needs
+same-length c = refl
 
 same-length-2 : tie.Need-same-length-2
-same-length-2 c = search needs
+same-length-2 c = refl
 
 returns-2 : tie.Need-returns-2
 returns-2 c = added-had _ _ _ _ _ _ _ _ _ _ (c .before .before .before .before .before .before .wide .ensures) _ (c .before .before .before .before .before .joining-slot .ensures) (c .before .before .before .before .if1 .left) _ (c .before .has-visited .ensures) _ (c .if2 .taken)
@@ -43,10 +43,10 @@ enum-told : tie.Need-enum-told
 enum-told c = search needs
 
 same-length-3 : tie.Need-same-length-3
-same-length-3 c = search needs
+same-length-3 c = c .before .before .before .before .before .before .join-tree .kept .0
 
 same-length-4 : tie.Need-same-length-4
-same-length-4 c = search needs
+same-length-4 c = c .before .before .before .before .before .before .join-tree .kept .1 .0
 
 returns-3 : tie.Need-returns-3
 returns-3 c = added-over _ _ _ _ _ _ _ _ _ _ (c .before .before .before .before .before .before .before .before .before .before .before .before .before .before .before .before .before .before .before .wide .ensures) _ (c .before .before .before .before .before .before .before .before .before .before .before .before .before .before .before .before .before .before .joining-slot .ensures) (c .before .before .before .before .before .before .before .before .before .before .before .before .before .before .before .before .before .if1 .left) _ (c .before .before .before .before .before .before .before .before .before .before .before .before .before .before .has-visited .ensures) (c .before .before .before .before .before .before .before .before .before .before .before .before .before .if2 .left) _ refl _ _ _ (c .before .before .before .before .before .before .join-tree .ensures) _ (c .enum-told .given .1)
@@ -55,13 +55,13 @@ store-tree-requires : tie.Need-store-tree-requires
 store-tree-requires c κs = (added-place _ _ _ _ _ _ _ _ _ _ (c .before .before .before .before .before .before .before .before .before .before .before .before .before .before .before .before .before .before .before .before .before .wide .ensures) _ (c .before .before .before .before .before .before .before .before .before .before .before .before .before .before .before .before .before .before .before .before .joining-slot .ensures) (c .before .before .before .before .before .before .before .before .before .before .before .before .before .before .before .before .before .before .before .if1 .left) _ (c .before .before .before .before .before .before .before .before .before .before .before .before .before .before .before .before .has-visited .ensures) (c .before .before .before .before .before .before .before .before .before .before .before .before .before .before .before .if2 .left) _ refl _ _ _ (c .before .before .before .before .before .before .before .before .join-tree .ensures) _ (c .before .before .r .given .1) _ (c .before .before .before .before .before .before .before .before .before .before .before .before .path-at .ensures) (c .before .before .before .before .before .before .before .before .before .before .before .before .before .before .before .before .before .before .before .before .before .before .before .before .before .before .before .before .before .pre), added-small _ _ _ _ _ _ _ _ _ _ (c .before .before .before .before .before .before .before .before .before .before .before .before .before .before .before .before .before .before .before .before .before .wide .ensures) _ (c .before .before .before .before .before .before .before .before .before .before .before .before .before .before .before .before .before .before .before .before .joining-slot .ensures) (c .before .before .before .before .before .before .before .before .before .before .before .before .before .before .before .before .before .before .before .if1 .left) _ (c .before .before .before .before .before .before .before .before .before .before .before .before .before .before .before .before .has-visited .ensures) (c .before .before .before .before .before .before .before .before .before .before .before .before .before .before .before .if2 .left) _ refl _ _ _ (c .before .before .before .before .before .before .before .before .join-tree .ensures) _ (c .before .before .r .given .1) _ (c .before .before .before .before .before .before .before .before .before .before .before .before .path-at .ensures) (c .before .before .before .before .before .before .before .before .before .before .before .before .before .before .before .before .before .before .before .before .before .before .before .before .before .before .before .before .before .pre))
 
 same-length-5 : tie.Need-same-length-5
-same-length-5 c = search needs
+same-length-5 c = c .before .before .before .before .before .before .before .before .before .before .before .join-tree .kept .0
 
 same-length-6 : tie.Need-same-length-6
-same-length-6 c = search needs
+same-length-6 c = c .before .before .before .before .before .before .before .before .before .before .before .join-tree .kept .1 .0
 
 same-length-7 : tie.Need-same-length-7
-same-length-7 c = search needs
+same-length-7 c = c .before .before .store-tree .kept .0
 
 returns-4 : tie.Need-returns-4
 returns-4 c = added-made _ _ _ _ _ _ _ _ _ _ (c .before .before .before .before .before .before .before .before .before .before .before .before .before .before .before .before .before .before .before .before .before .before .before .before .wide .ensures) _ (c .before .before .before .before .before .before .before .before .before .before .before .before .before .before .before .before .before .before .before .before .before .before .before .joining-slot .ensures) (c .before .before .before .before .before .before .before .before .before .before .before .before .before .before .before .before .before .before .before .before .before .before .if1 .left) _ (c .before .before .before .before .before .before .before .before .before .before .before .before .before .before .before .before .before .before .before .has-visited .ensures) (c .before .before .before .before .before .before .before .before .before .before .before .before .before .before .before .before .before .before .if2 .left) _ refl _ _ _ (c .before .before .before .before .before .before .before .before .before .before .before .join-tree .ensures) _ (c .before .before .before .before .before .r .given .1) _ (c .before .before .before .before .before .before .before .before .before .before .before .before .before .before .before .path-at .ensures) _ _ (c .before .before .store-tree .ensures)

@@ -4,6 +4,7 @@ use Rattle.path_closing.proofs.close_taken.Statement.{statement}
 use Rattle.path_closing.proofs.close_taken.Tie as tie
 use mathlib.Core.Path.{refl}
 use native.Mathlib.Omega.{arith}
+use lib.ListN.{length-set}
 use borrow.Author.Tests.{not-true, not-false}
 use Rattle.path_closing.specs.ClosesTaken.{closes-taken-inside, closes-taken-growable, closes-taken-row, closes-taken-active, taken-open, taken-over, taken-made}
 
@@ -23,10 +24,10 @@ has-stopping-evidence-requires : tie.Need-has-stopping-evidence-requires
 has-stopping-evidence-requires c κs = closes-taken-active _ _ _ _ _ _ _ _ _ (c .before .before .wide .ensures) _ (c .before .before .before .path-at .ensures) _ (c .wide2 .ensures) (c .before .before .before .before .before .before .before .before .before .before .before .pre)
 
 same-length : tie.Need-same-length
-same-length c = search needs
+same-length c = refl
 
 same-length-2 : tie.Need-same-length-2
-same-length-2 c = search needs
+same-length-2 c = refl
 
 returns : tie.Need-returns
 returns c = taken-open _ _ _ _ _ _ _ _ _ (c .before .before .before .before .wide .ensures) _ (c .before .before .before .before .before .path-at .ensures) _ (c .before .before .wide2 .ensures) _ (c .before .has-stopping-evidence .ensures) (not-true _ (c .if1 .taken))
@@ -44,10 +45,10 @@ path-refusal-requires : tie.Need-path-refusal-requires
 path-refusal-requires c κs = search needs
 
 same-length-3 : tie.Need-same-length-3
-same-length-3 c = search needs
+same-length-3 c = c .before .before .before .before .before .before .before .close-path .kept .0
 
 same-length-4 : tie.Need-same-length-4
-same-length-4 c = search needs
+same-length-4 c = c .before .before .before .before .before .before .before .close-path .kept .1 .0
 
 returns-2 : tie.Need-returns-2
 returns-2 c = taken-over _ _ _ _ _ _ _ _ _ (c .before .before .before .before .before .before .before .before .before .before .before .before .before .before .wide .ensures) _ (c .before .before .before .before .before .before .before .before .before .before .before .before .before .before .before .path-at .ensures) _ (c .before .before .before .before .before .before .before .before .before .before .before .before .wide2 .ensures) _ (c .before .before .before .before .before .before .before .before .before .before .before .has-stopping-evidence .ensures) (not-false _ (c .before .before .before .before .before .before .before .before .before .before .if1 .left)) _ _ _ (c .before .before .before .before .before .before .before .close-path .ensures) _ (c .before .enum-told .given .1) _ (c .path-refusal .ensures)
@@ -65,13 +66,13 @@ add-t19 : tie.Need-add-t19
 add-t19 c = let q = c .before .before .before .before .before .before .before .before .before .before .before .before .before .before .before .before .before .before .before .before .before .before .before .before .before .pre .more in let l = c .before .before .before .before .before .before .before .before .before .before .before .before .before .before .before .before .before .before .before .before .before .before .before .before .before .good .1 .1 .1 .1 .0 in omega arith
 
 same-length-5 : tie.Need-same-length-5
-same-length-5 c = search needs
+same-length-5 c = c .before .before .before .before .before .before .before .before .before .close-path .kept .0
 
 same-length-6 : tie.Need-same-length-6
-same-length-6 c = search needs
+same-length-6 c = c .before .before .before .before .before .before .before .before .before .close-path .kept .1 .0
 
 same-length-7 : tie.Need-same-length-7
-same-length-7 c = search needs
+same-length-7 c = simp length-set
 
 returns-3 : tie.Need-returns-3
 returns-3 c = taken-made _ _ _ _ _ _ _ _ _ (c .before .before .before .before .before .before .before .before .before .before .before .before .before .before .before .before .wide .ensures) _ (c .before .before .before .before .before .before .before .before .before .before .before .before .before .before .before .before .before .path-at .ensures) _ (c .before .before .before .before .before .before .before .before .before .before .before .before .before .before .wide2 .ensures) _ (c .before .before .before .before .before .before .before .before .before .before .before .before .before .has-stopping-evidence .ensures) (not-false _ (c .before .before .before .before .before .before .before .before .before .before .before .before .if1 .left)) _ _ _ (c .before .before .before .before .before .before .before .before .before .close-path .ensures) _ (c .before .before .before .r .given .1) _ refl

@@ -18,7 +18,7 @@ penalty-refusal-requires : tie.Need-penalty-refusal-requires
 penalty-refusal-requires c κs = search needs
 
 same-length : tie.Need-same-length
-same-length c = search needs
+same-length c = refl
 
 returns : tie.Need-returns
 returns c = offer-refused (c .before .before .before .before .before .before .before .before .before .before .before .before .before .pre) (c .before .before .before .offer-score .ensures) _ (c .before .enum-told .given .1) _ (c .penalty-refusal .ensures)
@@ -51,13 +51,13 @@ extend-with-edges-requires : tie.Need-extend-with-edges-requires
 extend-with-edges-requires c κs = offer-asks (c .before .before .before .before .before .before .before .before .before .before .before .before .before .before .before .before .before .before .pre) (c .before .before .before .before .before .before .before .before .offer-score .ensures) (c .before .before .before .before .before .before .p .given .1) refl
 
 same-length-2 : tie.Need-same-length-2
-same-length-2 c = search needs
+same-length-2 c = c .before .before .before .before .before .before .extend-with-edges .kept .1 .1 .1 .0
 
 same-length-3 : tie.Need-same-length-3
-same-length-3 c = search needs
+same-length-3 c = c .before .before .before .before .before .before .extend-with-edges .kept .1 .1 .1 .1 .0
 
 same-length-4 : tie.Need-same-length-4
-same-length-4 c = search needs
+same-length-4 c = c .before .before .before .before .before .before .extend-with-edges .kept .1 .1 .1 .1 .1 .0
 
 returns-2 : tie.Need-returns-2
 returns-2 c = offer-made (c .before .before .before .before .before .before .before .before .before .before .before .before .before .before .before .before .before .before .before .before .before .before .before .before .before .pre) (c .before .before .before .before .before .before .before .before .before .before .before .before .before .before .before .offer-score .ensures) (c .before .before .before .before .before .before .before .before .before .before .before .before .before .p .given .1) refl (c .before .before .before .before .before .before .extend-with-edges .ensures)

@@ -54,13 +54,13 @@ path-refusal-requires : tie.Need-path-refusal-requires
 path-refusal-requires c κs = search needs
 
 same-length : tie.Need-same-length
-same-length c = search needs
+same-length c = c .before .before .before .before .before .before .before .extend-path .kept .0
 
 same-length-2 : tie.Need-same-length-2
-same-length-2 c = search needs
+same-length-2 c = c .before .before .before .before .before .before .before .extend-path .kept .1 .0
 
 same-length-3 : tie.Need-same-length-3
-same-length-3 c = search needs
+same-length-3 c = c .before .before .before .before .before .before .before .before .before .before .before .before .before .walk-trees .kept .1 .1 .1 .0
 
 returns : tie.Need-returns
 returns c = lengthen-refused (c .before .before .before .before .before .before .before .before .before .before .before .before .before .before .before .before .before .before .before .before .before .before .before .before .before .before .before .before .before .before .pre) (c .before .before .before .before .before .before .before .before .before .before .before .before .before .before .before .before .before .before .before .before .before .path-at .ensures) (c .before .before .before .before .before .before .before .before .before .before .before .before .before .before .before .before .before .before .before .wide2 .ensures .0) (c .before .before .before .before .before .before .before .before .before .before .before .before .before .before .wide4 .ensures .0) (c .before .before .before .before .before .before .before .before .before .before .before .before .before .before .before .before .before .before .wide3 .ensures .0) (c .before .before .before .before .before .before .before .before .before .before .before .before .before .before .before .before .before .before .before .before .wide .ensures .0) (c .before .before .before .before .before .before .before .before .before .before .before .before .before .before .before .before .before .edge-end .ensures) (c .before .before .before .before .before .before .before .before .before .before .before .before .before .before .before .before .edge-end2 .ensures) (c .before .before .before .before .before .before .before .before .before .before .before .before .before .walk-trees .ensures) (c .before .before .before .before .before .before .before .before .before .before .before .before .before .walk-trees .kept .1 .1 .1 .0) (c .before .before .before .before .before .before .before .before .before .before .decisions-since .ensures) (c .before .before .before .before .before .before .before .extend-path .ensures) (c .before .enum-told .given .1) _ (c .path-refusal .ensures)
@@ -69,13 +69,13 @@ add-t29 : tie.Need-add-t29
 add-t29 c = let h = made-low (c .before .before .before .before .before .before .before .before .before .before .before .before .before .before .before .before .before .before .before .before .before .before .before .before .before .before .before .before .before .before .pre) (c .before .before .before .before .before .before .before .before .before .before .before .before .before .before .before .before .before .before .before .before .before .path-at .ensures) (c .before .before .before .before .before .before .before .before .before .before .before .before .before .before .before .before .before .before .before .wide2 .ensures .0) (c .before .before .before .before .before .before .before .before .before .before .before .before .before .before .wide4 .ensures .0) (c .before .before .before .before .before .before .before .before .before .before .before .before .before .before .before .before .before .before .wide3 .ensures .0) (c .before .before .before .before .before .before .before .before .before .before .before .before .before .before .before .before .before .before .before .before .wide .ensures .0) (c .before .before .before .before .before .before .before .before .before .before .before .before .before .before .before .before .before .edge-end .ensures) (c .before .before .before .before .before .before .before .before .before .before .before .before .before .before .before .before .edge-end2 .ensures) (c .before .before .before .before .before .before .before .before .before .before .before .before .before .walk-trees .ensures) (c .before .before .before .before .before .before .before .before .before .before .before .before .before .walk-trees .kept .1 .1 .1 .0) (c .before .before .before .before .before .before .before .before .before .before .decisions-since .ensures) (c .before .before .before .before .before .before .before .extend-path .ensures) (c .before .made .given .1) in omega arith
 
 same-length-4 : tie.Need-same-length-4
-same-length-4 c = search needs
+same-length-4 c = c .before .before .before .before .before .before .before .extend-path .kept .0
 
 same-length-5 : tie.Need-same-length-5
-same-length-5 c = search needs
+same-length-5 c = c .before .before .before .before .before .before .before .extend-path .kept .1 .0
 
 same-length-6 : tie.Need-same-length-6
-same-length-6 c = search needs
+same-length-6 c = c .before .before .before .before .before .before .before .before .before .before .before .before .before .walk-trees .kept .1 .1 .1 .0
 
 returns-2 : tie.Need-returns-2
 returns-2 c = lengthen-made (c .before .before .before .before .before .before .before .before .before .before .before .before .before .before .before .before .before .before .before .before .before .before .before .before .before .before .before .before .before .before .pre) (c .before .before .before .before .before .before .before .before .before .before .before .before .before .before .before .before .before .before .before .before .before .path-at .ensures) (c .before .before .before .before .before .before .before .before .before .before .before .before .before .before .before .before .before .before .before .wide2 .ensures .0) (c .before .before .before .before .before .before .before .before .before .before .before .before .before .before .wide4 .ensures .0) (c .before .before .before .before .before .before .before .before .before .before .before .before .before .before .before .before .before .before .wide3 .ensures .0) (c .before .before .before .before .before .before .before .before .before .before .before .before .before .before .before .before .before .before .before .before .wide .ensures .0) (c .before .before .before .before .before .before .before .before .before .before .before .before .before .before .before .before .before .edge-end .ensures) (c .before .before .before .before .before .before .before .before .before .before .before .before .before .before .before .before .edge-end2 .ensures) (c .before .before .before .before .before .before .before .before .before .before .before .before .before .walk-trees .ensures) (c .before .before .before .before .before .before .before .before .before .before .before .before .before .walk-trees .kept .1 .1 .1 .0) (c .before .before .before .before .before .before .before .before .before .before .decisions-since .ensures) (c .before .before .before .before .before .before .before .extend-path .ensures) (c .before .made .given .1)

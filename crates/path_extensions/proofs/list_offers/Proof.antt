@@ -23,7 +23,7 @@ applicable-next-edges-requires : tie.Need-applicable-next-edges-requires
 applicable-next-edges-requires c κs = lists-asks (c .before .before .before .before .before .before .before .before .before .before .before .before .pre) (c .before .before .before .before .path-at .ensures) (c .before .before .before .wide .ensures .0) (c .before .wide3 .ensures .0) (c .before .before .wide2 .ensures .0)
 
 same-length : tie.Need-same-length
-same-length c = search needs
+same-length c = c .before .before .applicable-next-edges .kept .1 .1 .1 .1 .1 .1 .1 .1 .1 .1 .1 .1 .1 .0
 
 returns : tie.Need-returns
 returns c = lists-listed (c .before .before .before .before .before .before .before .before .before .before .before .before .before .before .before .pre) (c .before .before .before .before .before .before .before .path-at .ensures) (c .before .before .before .before .before .before .wide .ensures .0) (c .before .before .before .before .wide3 .ensures .0) (c .before .before .before .before .before .wide2 .ensures .0) (c .before .before .applicable-next-edges .ensures)

@@ -26,13 +26,13 @@ try-edge-requires : tie.Need-try-edge-requires
 try-edge-requires c κs = step-tries (c .before .before .before .before .before .before .before .before .before .before .before .before .before .before .before .before .pre) (c .before .before .before .before .before .before .next-pivotal .ensures) (c .before .before .before .before .if1 .left)
 
 same-length : tie.Need-same-length
-same-length c = search needs
+same-length c = c .before .before .before .before .before .before .try-edge .kept .1 .1 .1 .0
 
 same-length-2 : tie.Need-same-length-2
-same-length-2 c = search needs
+same-length-2 c = c .before .before .before .before .before .before .try-edge .kept .1 .1 .1 .1 .0
 
 same-length-3 : tie.Need-same-length-3
-same-length-3 c = search needs
+same-length-3 c = c .before .before .before .before .before .before .try-edge .kept .1 .1 .1 .1 .1 .1 .0
 
 returns-2 : tie.Need-returns-2
 returns-2 c = step-tried (c .before .before .before .before .before .before .before .before .before .before .before .before .before .before .before .before .before .before .before .before .before .before .before .pre) (c .before .before .before .before .before .before .before .before .before .before .before .before .before .next-pivotal .ensures) (c .before .before .before .before .before .before .before .before .before .before .before .if1 .left) _ _ _ (c .before .before .before .before .before .before .try-edge .ensures)

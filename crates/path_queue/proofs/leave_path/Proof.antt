@@ -13,13 +13,13 @@ split-at-requires : tie.Need-split-at-requires
 split-at-requires c κs = leave-splits (c .before .before .before .before .before .before .before .before .pre)
 
 same-length : tie.Need-same-length
-same-length c = search needs
+same-length c = refl
 
 same-length-2 : tie.Need-same-length-2
-same-length-2 c = search needs
+same-length-2 c = refl
 
 same-length-3 : tie.Need-same-length-3
-same-length-3 c = search needs
+same-length-3 c = c .before .before .before .split-at .kept .1 .1 .1 .1 .0
 
 returns : tie.Need-returns
 returns c = leave-none (c .before .before .before .before .before .before .before .before .before .before .before .before .pre) _ _ (c .before .before .before .split-at .ensures) (c .if1 .taken)
@@ -40,13 +40,13 @@ path-refusal-requires : tie.Need-path-refusal-requires
 path-refusal-requires c κs = search needs
 
 same-length-4 : tie.Need-same-length-4
-same-length-4 c = search needs
+same-length-4 c = c .before .before .before .before .before .before .before .recover-path .kept .0
 
 same-length-5 : tie.Need-same-length-5
-same-length-5 c = search needs
+same-length-5 c = c .before .before .before .before .before .before .before .recover-path .kept .1 .0
 
 same-length-6 : tie.Need-same-length-6
-same-length-6 c = search needs
+same-length-6 c = c .before .before .before .before .before .before .before .before .before .before .before .before .before .split-at .kept .1 .1 .1 .1 .0
 
 returns-2 : tie.Need-returns-2
 returns-2 c = leave-over (c .before .before .before .before .before .before .before .before .before .before .before .before .before .before .before .before .before .before .before .before .before .before .pre) _ _ (c .before .before .before .before .before .before .before .before .before .before .before .before .before .split-at .ensures) (c .before .before .before .before .before .before .before .before .before .before .if1 .left) _ refl _ _ _ (c .before .before .before .before .before .before .before .recover-path .ensures) _ (c .before .enum-told2 .given .1) _ (c .path-refusal .ensures)
@@ -55,13 +55,13 @@ add-t24 : tie.Need-add-t24
 add-t24 c = omega (arith, c .before .before .before .before .before .before .before .before .before .before .before .before .before .before .before .before .before .before .before .before .before .before .pre .fits)
 
 same-length-7 : tie.Need-same-length-7
-same-length-7 c = search needs
+same-length-7 c = c .before .before .before .before .before .before .before .recover-path .kept .0
 
 same-length-8 : tie.Need-same-length-8
-same-length-8 c = search needs
+same-length-8 c = c .before .before .before .before .before .before .before .recover-path .kept .1 .0
 
 same-length-9 : tie.Need-same-length-9
-same-length-9 c = search needs
+same-length-9 c = c .before .before .before .before .before .before .before .before .before .before .before .before .before .split-at .kept .1 .1 .1 .1 .0
 
 returns-3 : tie.Need-returns-3
 returns-3 c = leave-made (c .before .before .before .before .before .before .before .before .before .before .before .before .before .before .before .before .before .before .before .before .before .before .pre) _ _ (c .before .before .before .before .before .before .before .before .before .before .before .before .before .split-at .ensures) (c .before .before .before .before .before .before .before .before .before .before .if1 .left) _ refl _ _ _ (c .before .before .before .before .before .before .before .recover-path .ensures) _ (c .before .enum-told .given .1)

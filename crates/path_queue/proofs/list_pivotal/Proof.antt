@@ -1,3 +1,4 @@
+use mathlib.Core.Path.{_∙_}
 use borrow.Author.Needs.{needs}
 use Rattle.path_queue.proofs.list_pivotal.Statement.{statement}
 use Rattle.path_queue.proofs.list_pivotal.Tie as tie
@@ -22,13 +23,13 @@ set-marks-requires-2 : tie.Need-set-marks-requires-2
 set-marks-requires-2 c κs = search needs
 
 same-length : tie.Need-same-length
-same-length c = search needs
+same-length c = c .before .before .before .before .before .before .before .before .before .before .create-pivotal-edges-in-topological-order .kept .1 .1 .1 .0
 
 same-length-2 : tie.Need-same-length-2
-same-length-2 c = search needs
+same-length-2 c = c .before .before .before .before .before .before .before .before .before .before .create-pivotal-edges-in-topological-order .kept .1 .1 .1 .1 .1 .0
 
 same-length-3 : tie.Need-same-length-3
-same-length-3 c = search needs
+same-length-3 c = c .before .before .set-marks2 .kept .0 ∙ c .before .before .before .before .before .before .before .before .before .before .create-pivotal-edges-in-topological-order .kept .1 .1 .1 .1 .0 ∙ c .before .before .before .before .before .before .before .before .before .before .before .before .before .before .before .before .set-marks .kept .0
 
 returns-2 : tie.Need-returns-2
 returns-2 c = some-pivotal (c .before .before .before .before .before .before .before .before .before .before .before .before .before .before .before .before .before .before .before .before .before .before .before .before .pre) _ _ _ _ _ _ _ (not-false _ (c .before .before .before .before .before .before .before .before .before .before .before .before .before .before .before .before .before .before .if1 .left)) (c .before .before .before .before .before .before .before .before .before .before .create-pivotal-edges-in-topological-order .kept .1 .1 .1 .1 .1 .0) (c .before .before .before .before .before .before .before .before .before .before .create-pivotal-edges-in-topological-order .ensures) (c .before .before .set-marks2 .ensures)

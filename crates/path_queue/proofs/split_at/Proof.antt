@@ -24,7 +24,7 @@ split-place-requires : tie.Need-split-place-requires
 split-place-requires c κs = split-asks (c .before .before .before .before .before .before .before .before .before .before .before .before .pre) _ _ (c .wide .ensures .0 ∙ ap (λ (x : PathRecord). x .edges) (c .before .before .before .before .before .before .path-at .ensures)) (c .before .before .before .before .write-path .ensures)
 
 same-length : tie.Need-same-length
-same-length c = search needs
+same-length c = c .before .before .before .before .before .write-path .kept .1 .1 .1 .1 .0
 
 returns : tie.Need-returns
 returns c = split-is (c .before .before .before .before .before .before .before .before .before .before .before .before .before .pre) _ _ (c .before .wide .ensures .0 ∙ ap (λ (x : PathRecord). x .edges) (c .before .before .before .before .before .before .before .path-at .ensures)) (c .before .before .before .before .before .write-path .ensures) _ _ (c .split-place .ensures)

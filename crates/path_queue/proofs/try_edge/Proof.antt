@@ -1,3 +1,4 @@
+use mathlib.Core.Path.{refl}
 use borrow.Author.Needs.{needs}
 use Rattle.path_queue.proofs.try_edge.Statement.{statement}
 use Rattle.path_queue.proofs.try_edge.Tie as tie
@@ -24,10 +25,10 @@ best-through-requires : tie.Need-best-through-requires
 best-through-requires c κs = try-closed (c .before .before .before .before .before .before .before .before .before .before .before .pre) _
 
 same-length : tie.Need-same-length
-same-length c = search needs
+same-length c = refl
 
 same-length-2 : tie.Need-same-length-2
-same-length-2 c = search needs
+same-length-2 c = refl
 
 returns : tie.Need-returns
 returns c = try-none (c .before .before .before .before .before .before .before .before .before .before .before .before .before .pre) _ _ (edge-from-is (c .before .before .before .before .before .before .before .before .before .before .before .before .before .pre) _ _ (c .before .before .before .before .before .wide .ensures .0) (c .before .before .before .before .edge-from .ensures)) (c .before .best-through .ensures) (c .if1 .taken)
@@ -39,13 +40,13 @@ leave-path-requires : tie.Need-leave-path-requires
 leave-path-requires c κs = try-leaves (c .before .before .before .before .before .before .before .before .before .before .before .before .before .before .before .before .pre) _ _ (edge-from-is (c .before .before .before .before .before .before .before .before .before .before .before .before .before .before .before .before .pre) _ _ (c .before .before .before .before .before .before .before .before .wide .ensures .0) (c .before .before .before .before .before .before .before .edge-from .ensures)) (c .before .before .before .before .best-through .ensures) (c .before .before .before .if1 .left)
 
 same-length-3 : tie.Need-same-length-3
-same-length-3 c = search needs
+same-length-3 c = c .before .before .before .before .before .before .leave-path .kept .1 .1 .0
 
 same-length-4 : tie.Need-same-length-4
-same-length-4 c = search needs
+same-length-4 c = c .before .before .before .before .before .before .leave-path .kept .1 .1 .1 .0
 
 same-length-5 : tie.Need-same-length-5
-same-length-5 c = search needs
+same-length-5 c = c .before .before .before .before .before .before .leave-path .kept .1 .1 .1 .1 .0
 
 returns-2 : tie.Need-returns-2
 returns-2 c = try-left (c .before .before .before .before .before .before .before .before .before .before .before .before .before .before .before .before .before .before .before .before .before .before .before .pre) _ _ (edge-from-is (c .before .before .before .before .before .before .before .before .before .before .before .before .before .before .before .before .before .before .before .before .before .before .before .pre) _ _ (c .before .before .before .before .before .before .before .before .before .before .before .before .before .before .before .wide .ensures .0) (c .before .before .before .before .before .before .before .before .before .before .before .before .before .before .edge-from .ensures)) (c .before .before .before .before .before .before .before .before .before .before .before .best-through .ensures) (c .before .before .before .before .before .before .before .before .before .before .if1 .left) _ _ _ (c .before .before .before .before .before .before .leave-path .ensures)

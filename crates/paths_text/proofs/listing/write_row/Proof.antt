@@ -59,7 +59,7 @@ write-path-requires c κs =
     (c10 .pre .0 .score, c10 .pre .1)
 
 same-length : tie.Need-same-length
-same-length c = search needs
+same-length c = c .before .before .write-path .kept .0
 
 returns : tie.Need-returns
 unfolding lineAt
