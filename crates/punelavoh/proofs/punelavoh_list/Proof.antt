@@ -1,4 +1,4 @@
--- `caller::punelavoh_list` meets its contract: a walk of its MIR, from call to call. Made by `tools/walk`: `Proof.walk` is what to change. A slice that is used again after a call is lent to it and comes back; the last call that uses it is given it.
+-- `punelavoh::punelavoh_list` meets its contract: a walk of its MIR, from call to call. Made by `tools/walk`: `Proof.walk` is what to change. A slice that is used again after a call is lent to it and comes back; the last call that uses it is given it.
 -- `walk` goes as far as the cut and `rest` from there on, since one declaration of both is too long for the prover.
 -- Assumes nothing.
 use mathlib.Core.Path.{_≡_, refl, sym, _∙_, ap, subst}
@@ -1422,4 +1422,4 @@ punelavoh-list-spec 𝓤 H 𝓜 𝓖 𝓡 =
     (cited 𝓤 H (tripleOf 𝓤 H (𝓖 .A) list-columns.signature (list-columns.spec 𝓤 H (𝓖 .A) (𝓜 .mem) (𝓡 .run))) 𝓜 𝓡 code.env #list-columns list-columns-def.routine code.calls-list-call·list-columns (list-columns-thm.met 𝓤 H 𝓜 𝓖 𝓡))
     (cited 𝓤 H (tripleOf 𝓤 H (𝓖 .A) rows-told.signature (rows-told.spec 𝓤 H (𝓖 .A) (𝓜 .mem) (𝓡 .run))) 𝓜 𝓡 code.env #rows-told rows-told-def.routine code.calls-row-counts·rows-told (rows-told-thm.met 𝓤 H 𝓜 𝓖 𝓡))
     (cited 𝓤 H (tripleOf 𝓤 H (𝓖 .A) write-rows.signature (write-rows.spec 𝓤 H (𝓖 .A) (𝓜 .mem) (𝓡 .run))) 𝓜 𝓡 code.env #write-rows write-rows-def.routine code.calls-path-rows·write-rows (write-rows-thm.met 𝓤 H 𝓜 𝓖 𝓡))
-    (cited 𝓤 H (tripleOf 𝓤 H (𝓖 .A) clear-columns.signature (clear-columns.spec 𝓤 H (𝓖 .A) (𝓜 .mem) (𝓡 .run))) 𝓜 𝓡 code.env #clear-columns clear-columns-def.routine code.calls-caller·clear-columns (clear-columns-thm.met 𝓤 H 𝓜 𝓖 𝓡)))
+    (cited 𝓤 H (tripleOf 𝓤 H (𝓖 .A) clear-columns.signature (clear-columns.spec 𝓤 H (𝓖 .A) (𝓜 .mem) (𝓡 .run))) 𝓜 𝓡 code.env #clear-columns clear-columns-def.routine code.calls-punelavoh·clear-columns (clear-columns-thm.met 𝓤 H 𝓜 𝓖 𝓡)))
