@@ -1,12 +1,12 @@
 // The cases: a sample, and the calls that are made on it.
-use crate::calls::graph_agrees;
-use crate::calls::lengths_agree;
-use crate::calls::origin_agrees;
 use crate::lists::list_agrees_over;
-use crate::numbers::field;
-use crate::numbers::list_at;
-use crate::numbers::low_byte;
-use crate::numbers::unpack;
+use known_answers::calls::graph_agrees;
+use known_answers::calls::lengths_agree;
+use known_answers::calls::origin_agrees;
+use known_answers::numbers::field;
+use known_answers::numbers::list_at;
+use known_answers::numbers::low_byte;
+use known_answers::numbers::unpack;
 use std::num::wrapping_add_u64;
 
 pub struct Total {

@@ -1,10 +1,10 @@
 // Replays answers of the oracle through the proved calls; vectors/README.md tells the form of the data.
-mod calls;
 mod cases;
-mod column;
 mod lists;
-mod numbers;
-mod rows;
+
+use known_answers::column::read_entries;
+use known_answers::numbers::list_at;
+use known_answers::numbers::read_numbers;
 
 fn print_part(name: &[u8], n: u64) {
     io::write_all(1, name);
@@ -14,16 +14,16 @@ fn print_part(name: &[u8], n: u64) {
 // The data tell the first places of log10; those behind them hold the largest entry that a column may have, and are not read by any call of the sample.
 fn replay_data(numbers: &[u32]) -> cases::Total {
     let mut log10 = [16.0f64; 65536];
-    let part = numbers::list_at(numbers, 0);
+    let part = list_at(numbers, 0);
     let start = part.start;
     let end = part.end;
-    column::read_entries(&numbers[start..end], &mut log10);
+    read_entries(&numbers[start..end], &mut log10);
     cases::replay(&numbers[end..], &log10)
 }
 
 fn replay_text(text: &[u8]) -> cases::Total {
     let mut numbers = [0u32; 131072];
-    let count = numbers::read_numbers(text, &mut numbers);
+    let count = read_numbers(text, &mut numbers);
     replay_data(&numbers[0..count])
 }
 
