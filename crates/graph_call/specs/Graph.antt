@@ -13,11 +13,11 @@ use Rattle.definition.specs.Building.{built}
 use Rattle.definition.specs.Calls.{writtenAt, GraphOutcome, graphOf, graphCall, afterGraphChecks, workspaceAfter}
 use Rattle.definition.proofs.Late.{graph-keeps, graph-late}
 use Rattle.limits.specs.Rules.{rule, Numbered, none-broken, first-broken, first-hold, sample-numbered, graph-rules}
-use Rattle.limits.specs.Workspaces.{vertexTable, edgeTable, kmerIndex, nodeTable, openTrees}
-use Rattle.limits.specs.declared.Workspace.{Workspace}
-use Rattle.limits.specs.declared.LengthsTold.{LengthsTold}
-use Rattle.limits.specs.Bounds.{k-most}
-use Rattle.limits.specs.Lengths.{graphWorkspaceTold, acceptedLengths}
+use Rattle.slice_lengths.specs.Workspaces.{vertexTable, edgeTable, kmerIndex, nodeTable, openTrees}
+use Rattle.slice_lengths.specs.declared.Workspace.{Workspace}
+use Rattle.slice_lengths.specs.declared.LengthsTold.{LengthsTold}
+use Rattle.slice_lengths.specs.Bounds.{k-most}
+use Rattle.slice_lengths.specs.Lengths.{graphWorkspaceTold, acceptedLengths}
 use Rattle.graph_work.specs.Clear.{zeros}
 use Rattle.graph_call.specs.declared.GraphAnswer.{GraphAnswer}
 use Rattle.graph_call.specs.Lent.{toldFor, toldOf, Long, long-of, Room, Lent}

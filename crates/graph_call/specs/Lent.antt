@@ -6,11 +6,11 @@ use Prim.Native.Nat.{ℕ, _*_, _≤_}
 use lib.ListN.{length}
 use Rattle.definition.specs.Refusal.{firstBroken}
 use Rattle.definition.specs.Limits.{Sample, GraphMaxima, sampleRules, graphMaximaFit, searchMaximaFit, settingsFit, longEnough, graphTold, toldEdges, toldNodes, edgeWidth, nodeWidth}
-use Rattle.limits.specs.Workspaces.{vertexTable, edgeTable, kmerIndex, nodeTable, openTrees}
-use Rattle.limits.specs.declared.Workspace.{Workspace}
-use Rattle.limits.specs.declared.LengthsTold.{LengthsTold}
-use Rattle.limits.specs.Bounds.{InLimits, settings-most}
-use Rattle.limits.specs.Lengths.{graphSlices, graphWorkspaceTold, acceptedLengths}
+use Rattle.slice_lengths.specs.Workspaces.{vertexTable, edgeTable, kmerIndex, nodeTable, openTrees}
+use Rattle.slice_lengths.specs.declared.Workspace.{Workspace}
+use Rattle.slice_lengths.specs.declared.LengthsTold.{LengthsTold}
+use Rattle.slice_lengths.specs.Bounds.{InLimits, settings-most}
+use Rattle.slice_lengths.specs.Lengths.{graphSlices, graphWorkspaceTold, acceptedLengths}
 use Rattle.limits.specs.Long.{long-head}
 use Rattle.graph_call.specs.declared.GraphLent.{GraphLent}
 

@@ -5,8 +5,8 @@ use Prim.Native.Nat.{ℕ}
 use lib.ListN.{length}
 use Rattle.definition.specs.Limits.{Sample, GraphMaxima}
 use Rattle.definition.specs.Calls.{GraphOutcome, graphCall, workspaceAfter}
-use Rattle.limits.specs.Workspaces.{vertexTable, edgeTable, kmerIndex, nodeTable, openTrees}
-use Rattle.limits.specs.Lengths.{graphWorkspaceTold}
+use Rattle.slice_lengths.specs.Workspaces.{vertexTable, edgeTable, kmerIndex, nodeTable, openTrees}
+use Rattle.slice_lengths.specs.Lengths.{graphWorkspaceTold}
 use Rattle.graph_call.specs.declared.GraphAnswer.{GraphAnswer}
 
 abbrev pub outcome : GraphAnswer → List ℕ → List ℕ → GraphOutcome

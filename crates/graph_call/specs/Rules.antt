@@ -6,11 +6,11 @@ use Prim.Native.Nat.{ℕ, _<_, _≤_}
 use native.Mathlib.Omega.{arith}
 use Rattle.definition.specs.Refusal.{Rule, firstBroken}
 use Rattle.definition.specs.Limits.{Sample, GraphMaxima, graphMaximaFit, longEnough, sampleRules, graphRules}
-use Rattle.limits.specs.Bounds.{k-most}
+use Rattle.slice_lengths.specs.Bounds.{k-most}
 use Rattle.limits.specs.Rules.{rule, Numbered, none-broken, last-untested, last-broken, last-holds}
 use Rattle.limits.specs.Long.{none-short}
-use Rattle.limits.specs.Lengths.{graphSlices}
-use Rattle.limits.specs.declared.LengthsTold.{LengthsTold}
+use Rattle.slice_lengths.specs.Lengths.{graphSlices}
+use Rattle.slice_lengths.specs.declared.LengthsTold.{LengthsTold}
 use Rattle.graph_call.specs.Lent.{toldFor, toldOf, slices-told}
 
 -- 1 to 5

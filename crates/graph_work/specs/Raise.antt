@@ -24,7 +24,7 @@ use Rattle.junction_tree_graph.specs.Answers.{BuiltOf, FoundOf, maxima-in, not-
 use Rattle.junction_trees.specs.declared.Evidence.{Evidence}
 use Rattle.junction_trees.specs.declared.Evidence.the-variants as trees
 use Rattle.junction_trees.specs.Trees.{Gathers, Gathered, Evident, NotEvident, built-kept, built-fits, built-over}
-use Rattle.limits.specs.Workspaces.{vertexTable, edgeTable, kmerIndex, nodeTable, openTrees}
+use Rattle.slice_lengths.specs.Workspaces.{vertexTable, edgeTable, kmerIndex, nodeTable, openTrees}
 use Rattle.graph_work.specs.declared.Raise.{Raise}
 use Rattle.graph_work.specs.declared.Raised.{Raised}
 use Rattle.graph_work.specs.declared.Raised.the-variants.{Graph, Refused}

@@ -9,10 +9,10 @@ use agreement::agree::same_bytes;
 use agreement::agree::written;
 use graph_call::GraphAnswer;
 use limits::GraphMaxima;
-use limits::LengthsTold;
 use limits::SearchMaxima;
-use limits::Workspace;
 use limits::workspace_kept;
+use slice_lengths::LengthsTold;
+use slice_lengths::Workspace;
 use tables::EDGE_ROW;
 use tables::NODE_ROW;
 ghost use Prim.Native.Nat.{_≤_};
@@ -40,7 +40,7 @@ fn search_maxima(call: &[u32], place: usize) -> SearchMaxima
 // ---- lengths: k, paths, maxima; refusal, rows of edges and nodes, paths, bases, origins
 
 pub fn lengths_agree(call: &[u32]) -> bool {
-    let told = limits::lengths(
+    let told = slice_lengths::lengths(
         field(call, 1),
         field(call, 2),
         graph_maxima(call, 3),
@@ -106,7 +106,7 @@ fn told_for(k: u32, maxima: GraphMaxima) -> LengthsTold {
         active: 1,
         pushes: 1,
     };
-    limits::lengths(k, 0, maxima, search)
+    slice_lengths::lengths(k, 0, maxima, search)
 }
 
 // What the workspace holds where it was told: what it held before, or zero.

@@ -3,6 +3,3 @@ pub mod Tests
 pub mod Loops
 pub mod Rules
 pub mod Long
-pub mod Bounds
-pub mod Workspaces
-pub mod Lengths

@@ -9,8 +9,8 @@ use lib.Ieee.{Float, fin}
 use Rattle.definition.specs.Refusal.{keepsWorkspace}
 use Rattle.definition.specs.Limits.{Input}
 use Rattle.definition.specs.Calls.{writtenAt, workspaceAfter}
-use Rattle.limits.specs.declared.Workspace.{Workspace}
-use Rattle.limits.specs.Lengths.{workspaceTold}
+use Rattle.slice_lengths.specs.declared.Workspace.{Workspace}
+use Rattle.slice_lengths.specs.Lengths.{workspaceTold}
 use Rattle.list_work.specs.Outcome.{Tables}
 
 abbrev pub floatZero : Float

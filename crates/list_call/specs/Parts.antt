@@ -8,8 +8,8 @@ use lib.Seq.{length-take-le, length-front}
 use Rattle.definition.specs.Limits.{Input}
 use Rattle.definition.specs.Calls.{writtenAt}
 use Rattle.definition.proofs.Checks.{Checked}
-use Rattle.limits.specs.Bounds.{InLimits, settings-most}
-use Rattle.limits.specs.declared.Workspace.{Workspace}
+use Rattle.slice_lengths.specs.Bounds.{InLimits, settings-most}
+use Rattle.slice_lengths.specs.declared.Workspace.{Workspace}
 use Rattle.graph_rows.specs.Zeros.{cleared-over}
 use Rattle.list_work.specs.Outcome.{Outputs, Tables}
 use Rattle.list_call.specs.Outcome.{toldFor, tablesBy, zeroedTo, floatZero, clearedTables}

@@ -5,7 +5,7 @@ use lib.ListN.{length}
 use Rattle.definition.specs.Limits.{Input}
 use Rattle.definition.specs.Listing.{refusal, answer}
 use Rattle.definition.proofs.Checks.{Checked}
-use Rattle.limits.specs.declared.Workspace.{Workspace}
+use Rattle.slice_lengths.specs.declared.Workspace.{Workspace}
 use Rattle.list_interface.specs.declared.ListAnswer.{ListAnswer}
 use Rattle.list_work.specs.Works.{Outs}
 use Rattle.list_lent.specs.declared.Lent as lent

@@ -1,12 +1,12 @@
 // The call for the list, over number slices alone: checks, build, trees, search, the list in columns, and clearing.
 use graph_rows::clear;
-use limits::workspace_told;
 use list_interface::ListAnswer;
 use list_interface::Settings;
 use list_interface::refused;
 use list_lent::Lent;
 use list_lent::check;
 use list_work::work;
+use slice_lengths::workspace_told;
 ghost use mathlib.Core.Path.{_≡_};
 ghost use Prim.Native.Nat.{_≤_};
 ghost use Rattle.list_interface.specs.Handed.{inputFor};

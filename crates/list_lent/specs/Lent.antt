@@ -7,11 +7,11 @@ use native.Mathlib.Omega.{arith}
 use lib.Dec.{leb}
 use lib.ListN.{length}
 use Rattle.definition.specs.Limits.{GraphMaxima, SearchMaxima, Input, longEnough, basesStride, toldBases, toldOrigins, listTold}
-use Rattle.limits.specs.Workspaces.{vertexTable, edgeTable, kmerIndex, nodeTable, targetTable, pathTable, pathScores, activeNodes, waitingQueue, closedPaths, pivotalOrder, pivotalMarks, pathWalks, rowColumns}
-use Rattle.limits.specs.Lengths.{listSlices, listWorkspaceTold, acceptedLengths}
+use Rattle.slice_lengths.specs.Workspaces.{vertexTable, edgeTable, kmerIndex, nodeTable, targetTable, pathTable, pathScores, activeNodes, waitingQueue, closedPaths, pivotalOrder, pivotalMarks, pathWalks, rowColumns}
+use Rattle.slice_lengths.specs.Lengths.{listSlices, listWorkspaceTold, acceptedLengths}
 use Rattle.limits.specs.Long.{long-head}
-use Rattle.limits.specs.declared.Workspace.{Workspace}
-use Rattle.limits.specs.declared.LengthsTold.{LengthsTold}
+use Rattle.slice_lengths.specs.declared.Workspace.{Workspace}
+use Rattle.slice_lengths.specs.declared.LengthsTold.{LengthsTold}
 use Rattle.list_lent.specs.declared.Lent as lent
 
 -- what rule 7 compares with

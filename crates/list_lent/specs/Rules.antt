@@ -7,10 +7,10 @@ use native.Mathlib.Omega.{arith}
 use Rattle.definition.specs.Refusal.{Rule, firstBroken}
 use Rattle.definition.specs.Limits.{Input, settingsFit, columnFits, longEnough, sampleRules, listRules}
 use Rattle.definition.proofs.Checks.{checked}
-use Rattle.limits.specs.Bounds.{InLimits, settings-most, k-most}
+use Rattle.slice_lengths.specs.Bounds.{InLimits, settings-most, k-most}
 use Rattle.limits.specs.Rules.{rule, Numbered, last-untested, last-broken, last-holds}
-use Rattle.limits.specs.Lengths.{acceptedLengths}
-use Rattle.limits.specs.declared.LengthsTold.{LengthsTold}
+use Rattle.slice_lengths.specs.Lengths.{acceptedLengths}
+use Rattle.slice_lengths.specs.declared.LengthsTold.{LengthsTold}
 use Rattle.list_lent.specs.declared.Lent as lent
 use Rattle.list_lent.specs.Lent.{toldOf, lentOf, outputsTold, outputsLent, graphTold, graphLent, searchTold, searchLent, long-is}
 

@@ -1,10 +1,10 @@
 // Refusals 1 to 7 of the call for the list: the rules in their order, and whether each slice lent is as long as told.
-use limits::LengthsTold;
-use limits::Workspace;
 use limits::check_list;
-use limits::lengths_within;
 use list_interface::Settings;
 use refusals::SHORT_SLICE;
+use slice_lengths::LengthsTold;
+use slice_lengths::Workspace;
+use slice_lengths::lengths_within;
 ghost use mathlib.Core.Path.{_≡_};
 ghost use Rattle.definition.specs.Refusal.{firstBroken};
 ghost use Rattle.definition.specs.Limits.{longEnough, listRules};

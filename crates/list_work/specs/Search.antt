@@ -25,8 +25,8 @@ use Rattle.definition.proofs.Bounds.{Counted, search-counted}
 use Rattle.definition.proofs.Checks.{Checked, k-some, some-pushes}
 use Rattle.assembly.specs.Fields.{kmerPlace}
 use Rattle.tables.specs.Widths.{edgeNumbers, queuedNumbers, offerNumbers}
-use Rattle.limits.specs.Workspaces.{vertexTable, pathTable, pathScores, activeNodes, waitingQueue, closedPaths, pivotalOrder, pivotalMarks, pathWalks, openTrees}
-use Rattle.limits.specs.Bounds.{InLimits, settings-most}
+use Rattle.slice_lengths.specs.Workspaces.{vertexTable, pathTable, pathScores, activeNodes, waitingQueue, closedPaths, pivotalOrder, pivotalMarks, pathWalks, openTrees}
+use Rattle.slice_lengths.specs.Bounds.{InLimits, settings-most}
 use Rattle.assembly.specs.Symbolic.{linked, length-linked}
 use Rattle.junction_tree_graph.specs.Built.{BuiltAt, fits-of}
 use Rattle.fork_offers.specs.Actives.{Least}

@@ -12,8 +12,8 @@ use Rattle.definition.specs.Score.{columnScoring}
 use Rattle.definition.specs.Building.{Built, built}
 use Rattle.definition.specs.Listing.{afterBuild}
 use Rattle.tables.specs.Widths.{edgeNumbers}
-use Rattle.limits.specs.Workspaces.{openTrees}
-use Rattle.limits.specs.Bounds.{settings-most}
+use Rattle.slice_lengths.specs.Workspaces.{openTrees}
+use Rattle.slice_lengths.specs.Bounds.{settings-most}
 use Rattle.search_ground.specs.Exact.{built-exact}
 use Rattle.graph_work.specs.declared.Raise.{Raise}
 use Rattle.graph_work.specs.declared.Raised.{Raised}

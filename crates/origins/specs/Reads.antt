@@ -14,7 +14,7 @@ use Rattle.laws.specs.ListLaws.{and-left, and-right, part-part}
 use Rattle.definition.specs.Refusal.{firstBroken}
 use Rattle.definition.specs.Limits.{kFits, referenceFits, referenceBases, rising, endsFit, originRules}
 use Rattle.definition.specs.Origins.{readAt}
-use Rattle.limits.specs.Bounds.{k-most}
+use Rattle.slice_lengths.specs.Bounds.{k-most}
 
 -- where a read, counted from 0, starts: at b or else where the one before it ends
 abbrev startFrom : ℕ → List ℕ → ℕ → ℕ

@@ -12,7 +12,7 @@ use Rattle.definition.specs.Limits.{Input, longEnough, listTold, toldBases, tol
 use Rattle.definition.specs.Text.{Text, textRules, sizeOf}
 use Rattle.tables.specs.Widths.{pathNumbers}
 use Rattle.limits.specs.Rules.{none-broken}
-use Rattle.limits.specs.Bounds.{k-most, max-le}
+use Rattle.slice_lengths.specs.Bounds.{k-most, max-le}
 use Rattle.list_interface.specs.Handed.{inputFor}
 use Rattle.limits.specs.Long.{no-short, none-short}
 use Rattle.list_lent.specs.Lent.{toldOf, lentOf}

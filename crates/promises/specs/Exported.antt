@@ -14,7 +14,7 @@ use Rattle.definition.specs.Threading.{Origin}
 use Rattle.definition.specs.Listing.{Row}
 use Rattle.definition.specs.Calls.{ListSlices, OriginOutcome, originCall, listLent}
 use Rattle.definition.specs.Promises.{Spelled, AllElseEqual}
-use Rattle.limits.specs.Lengths.{listWorkspaceTold}
+use Rattle.slice_lengths.specs.Lengths.{listWorkspaceTold}
 use Rattle.origins.specs.declared.OriginAnswer.{OriginAnswer}
 use Rattle.origins.specs.Parts.{lentBy, Names}
 use Rattle.list_interface.specs.declared.ListAnswer.{ListAnswer}

@@ -7,7 +7,7 @@ use native.Mathlib.Nat.{mul-le-mul-right}
 use native.Mathlib.Omega.{arith}
 use Rattle.definition.specs.Limits.{GraphMaxima, SearchMaxima, Input, longEnough, basesStride, toldBases, toldOrigins}
 use Rattle.definition.specs.Promises.{AllElseEqual}
-use Rattle.limits.specs.Lengths.{listSlices, acceptedLengths}
+use Rattle.slice_lengths.specs.Lengths.{listSlices, acceptedLengths}
 use Rattle.limits.specs.Long.{no-short, long-head}
 use Rattle.list_lent.specs.Lent.{toldOf, slices-told}
 

@@ -10,8 +10,8 @@ use Rattle.definition.specs.Limits.{Sample, GraphMaxima, SearchMaxima, Input, l
 use Rattle.definition.specs.Listing.{Answer, refusal, listed, answer}
 use Rattle.definition.specs.Calls.{GraphOutcome, ListSlices, listOutcome, listLent, listCall}
 use Rattle.definition.proofs.Late.{list-not-7, graph-not-7}
-use Rattle.limits.specs.declared.LengthsTold.{LengthsTold}
-use Rattle.limits.specs.Lengths.{listSlices, graphSlices, listWorkspaceTold, graphWorkspaceTold, acceptedLengths, Told, accepted-is}
+use Rattle.slice_lengths.specs.declared.LengthsTold.{LengthsTold}
+use Rattle.slice_lengths.specs.Lengths.{listSlices, graphSlices, listWorkspaceTold, graphWorkspaceTold, acceptedLengths, Told, accepted-is}
 use Rattle.graph_call.specs.declared.GraphAnswer.{GraphAnswer}
 use Rattle.graph_call.specs.Outcome.{Graphed}
 use Rattle.list_interface.specs.declared.ListAnswer.{ListAnswer}

@@ -24,7 +24,7 @@ use Rattle.definition.proofs.Column.{column-keeps}
 use Rattle.definition.proofs.Checks.{accepted, some-pushes}
 use Rattle.definition.proofs.Late.{accepted-zero, list-keeps}
 use Rattle.limits.specs.Rules.{none-broken}
-use Rattle.limits.specs.Workspaces.{rowColumns}
+use Rattle.slice_lengths.specs.Workspaces.{rowColumns}
 use Rattle.threading_tree.specs.Front.{front, written-front}
 use Rattle.list_interface.specs.declared.ListAnswer.{ListAnswer}
 use Rattle.list_work.specs.Outcome.{Outputs, outputsOf, Tables, summary, writtenList, outputsAfter, Listed}

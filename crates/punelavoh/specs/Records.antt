@@ -6,11 +6,11 @@ use lib.ListN.{length, replicate}
 use lib.Ieee.{Float}
 use Rattle.definition.specs.Limits.{Input}
 use Rattle.definition.specs.Calls.{writtenAt, workspaceAfter, ListSlices, ListOutcome, listCall}
-use Rattle.limits.specs.Workspaces.{rowColumns}
+use Rattle.slice_lengths.specs.Workspaces.{rowColumns}
 use Rattle.list_interface.specs.declared.ListAnswer.{ListAnswer}
 use Rattle.list_work.specs.Outcome.{Outputs, Tables}
 use Rattle.list_call.specs.Outcome.{tablesAfter, floatZero}
-use Rattle.limits.specs.Lengths.{listWorkspaceTold}
+use Rattle.slice_lengths.specs.Lengths.{listWorkspaceTold}
 use Rattle.list_lent.specs.Lent.{workspaceLent}
 use Rattle.list_call.specs.Within.{lengthsOf}
 use Rattle.path_rows.specs.declared.PathRow.{PathRow}

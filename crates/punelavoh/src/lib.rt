@@ -2,7 +2,6 @@
 use graph_call::GraphAnswer;
 use graph_rows::clear;
 use limits::GraphMaxima;
-use limits::LengthsTold;
 use limits::SearchMaxima;
 use list_call::clear_scores;
 use list_call::list_columns;
@@ -12,9 +11,10 @@ use origins::OriginAnswer;
 use path_rows::PathRow;
 use row_counts::columns_told;
 use row_counts::rows_told;
+use slice_lengths::LengthsTold;
 ghost use Rattle.definition.specs.Calls.{originCall};
 ghost use Rattle.limits.specs.Handed.{sampleOf, graphMaximaOf, searchMaximaOf};
-ghost use Rattle.limits.specs.Lengths.{Told};
+ghost use Rattle.slice_lengths.specs.Lengths.{Told};
 ghost use Rattle.origins.specs.Parts.{origin, Names};
 ghost use Rattle.graph_call.specs.Outcome.{Graphed};
 ghost use Rattle.list_interface.specs.Handed.{inputFor};
@@ -119,7 +119,7 @@ pub extern "C" fn punelavoh_lengths(
 ) -> LengthsTold
     ensures { λ r. ⌜ Told k paths (graphMaximaOf graph) (searchMaximaOf search) r ⌝ }
 {
-    limits::lengths(k, paths, graph, search)
+    slice_lengths::lengths(k, paths, graph, search)
 }
 
 // Tells which part of the reference (in_reads 0) or of the read bases (in_reads 1) an origin names.

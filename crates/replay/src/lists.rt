@@ -66,7 +66,7 @@ fn list_settings(call: &[u32], k: u32, quality: u8) -> Settings {
 fn lengths_told(a: Settings) -> Lent {
     let g = a.graph;
     let s = a.search;
-    let told = limits::lengths(a.k, a.asked, g, s);
+    let told = slice_lengths::lengths(a.k, a.asked, g, s);
     let w = told.workspace;
     Lent {
         rows: told.paths,

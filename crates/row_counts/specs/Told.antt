@@ -3,7 +3,7 @@ use mathlib.Core.Path.{_≡_, sym}
 use mathlib.Core.Bool.{true, false}
 use Prim.Native.Nat.{ℕ}
 use Rattle.definition.specs.Refusal.{keepsWorkspace}
-use Rattle.limits.specs.Workspaces.{rowColumns}
+use Rattle.slice_lengths.specs.Workspaces.{rowColumns}
 
 unfoldable pub columnsTold : ℕ → ℕ → ℕ
 columnsTold number asked = elim (keepsWorkspace number) [ true ↦ 0 | false ↦ rowColumns asked ]

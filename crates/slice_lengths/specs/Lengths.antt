@@ -6,9 +6,9 @@ use mathlib.Core.List.{List, [], _∷_}
 use Rattle.definition.specs.Refusal.{firstBroken}
 use Rattle.definition.specs.Limits.{GraphMaxima, SearchMaxima, toldEdges, toldNodes, toldBases, toldOrigins, lengthsRules}
 use Rattle.definition.specs.Calls.{LengthsAnswer, lengthsOf, lengthsCall}
-use Rattle.limits.specs.Workspaces.{vertexTable, edgeTable, kmerIndex, nodeTable, openTrees, targetTable, pathTable, pathScores, activeNodes, waitingQueue, closedPaths, pivotalOrder, pivotalMarks, pathWalks, rowColumns}
-use Rattle.limits.specs.declared.Workspace.{Workspace}
-use Rattle.limits.specs.declared.LengthsTold.{LengthsTold}
+use Rattle.slice_lengths.specs.Workspaces.{vertexTable, edgeTable, kmerIndex, nodeTable, openTrees, targetTable, pathTable, pathScores, activeNodes, waitingQueue, closedPaths, pivotalOrder, pivotalMarks, pathWalks, rowColumns}
+use Rattle.slice_lengths.specs.declared.Workspace.{Workspace}
+use Rattle.slice_lengths.specs.declared.LengthsTold.{LengthsTold}
 
 abbrev pub answerOf : LengthsTold → LengthsAnswer
 answerOf r =

@@ -1,10 +1,10 @@
 -- `lengths_within` meets its contract. Assumes nothing.
 use Rattle.definition.specs.Limits.{toldEdges, toldNodes, basesStride, toldBases, toldOrigins}
-use Rattle.limits.specs.Bounds.{bases-fit, origins-fit}
-use Rattle.limits.specs.Lengths.{acceptedLengths}
+use Rattle.slice_lengths.specs.Bounds.{bases-fit, origins-fit}
+use Rattle.slice_lengths.specs.Lengths.{acceptedLengths}
 use borrow.Author.Needs.{needs}
-use Rattle.limits.proofs.lengths_within.Statement.{statement}
-use Rattle.limits.proofs.lengths_within.Tie as tie
+use Rattle.slice_lengths.proofs.lengths_within.Statement.{statement}
+use Rattle.slice_lengths.proofs.lengths_within.Tie as tie
 
 workspace-told-requires : tie.Need-workspace-told-requires
 workspace-told-requires c κs = c .pre .1

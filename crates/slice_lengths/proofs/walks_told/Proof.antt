@@ -1,11 +1,11 @@
 -- `walks_told` meets its contract. Assumes nothing.
-use Rattle.limits.specs.Bounds.{origins-fit}
+use Rattle.slice_lengths.specs.Bounds.{origins-fit}
 use borrow.Author.Needs.{needs}
-use Rattle.limits.proofs.walks_told.Statement.{statement}
-use Rattle.limits.proofs.walks_told.Tie as tie
-use Rattle.limits.proofs.walks_told.Reads as reads
-use Rattle.limits.proofs.walks_told.Lts as lts
-use Rattle.limits.proofs.larger.Reads as larger-reads
+use Rattle.slice_lengths.proofs.walks_told.Statement.{statement}
+use Rattle.slice_lengths.proofs.walks_told.Tie as tie
+use Rattle.slice_lengths.proofs.walks_told.Reads as reads
+use Rattle.slice_lengths.proofs.walks_told.Lts as lts
+use Rattle.slice_lengths.proofs.larger.Reads as larger-reads
 
 cast-open : tie.Need-cast-open
 cast-open c = search needs

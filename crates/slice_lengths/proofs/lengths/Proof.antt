@@ -1,8 +1,8 @@
 -- `lengths` meets its contract: a refusal, or settings within the limits. Assumes nothing.
-use Rattle.limits.specs.Bounds.{accepted-by}
-use Rattle.limits.specs.Lengths.{told-refused, told-accepted}
-use Rattle.limits.proofs.lengths.Statement.{statement}
-use Rattle.limits.proofs.lengths.Tie as tie
+use Rattle.slice_lengths.specs.Bounds.{accepted-by}
+use Rattle.slice_lengths.specs.Lengths.{told-refused, told-accepted}
+use Rattle.slice_lengths.proofs.lengths.Statement.{statement}
+use Rattle.slice_lengths.proofs.lengths.Tie as tie
 
 check-lengths-requires : tie.Need-check-lengths-requires
 check-lengths-requires c κs = tt

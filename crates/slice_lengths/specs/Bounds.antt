@@ -12,8 +12,8 @@ use Rattle.laws.specs.ListLaws.{and-left, and-right}
 use Rattle.laws.specs.Numbers.{within}
 use Rattle.definition.specs.Refusal.{firstBroken}
 use Rattle.definition.specs.Limits.{GraphMaxima, SearchMaxima, kFits, graphMaximaFit, searchMaximaFit, settingsFit, lengthsRules}
 use Rattle.limits.specs.Rules.{none-broken}
-use Rattle.limits.specs.Workspaces.{openTrees, pathWalks}
+use Rattle.slice_lengths.specs.Workspaces.{openTrees, pathWalks}
 
 pub record InLimits (asked : ℕ) (g : GraphMaxima) (s : SearchMaxima) : Type 0 where
   pub asked-most : asked ≤ 128

@@ -2,10 +2,10 @@
 use mathlib.Core.Path.{_∙_}
 use Rattle.definition.specs.Limits.{lengthsRules}
 use Rattle.bio_ids.specs.Sizes.{kRules}
 use Rattle.limits.specs.Tests.{told-no, told-yes}
 use Rattle.limits.specs.Rules.{all-hold, broken, holds, first-broken, k-holds}
-use Rattle.limits.proofs.check_lengths.Statement.{statement}
-use Rattle.limits.proofs.check_lengths.Tie as tie
+use Rattle.slice_lengths.proofs.check_lengths.Statement.{statement}
+use Rattle.slice_lengths.proofs.check_lengths.Tie as tie
 
 k-refusal-requires : tie.Need-k-refusal-requires
 k-refusal-requires c κs = tt

@@ -5,9 +5,9 @@ use native.Mathlib.Omega.{arith}
 use Rattle.definition.specs.Refusal.{firstBroken}
 use Rattle.definition.specs.Limits.{GraphMaxima, SearchMaxima, toldEdges, toldNodes, basesStride, toldBases, toldOrigins, lengthsRules}
 use Rattle.definition.specs.Calls.{LengthsAnswer, lengthsOf, lengthsCall}
-use Rattle.limits.specs.declared.LengthsTold.{LengthsTold}
-use Rattle.limits.specs.Bounds.{InLimits, accepted, active-places, path-places, base-places, walk-places}
-use Rattle.limits.specs.Lengths.{answerOf, workspaceOf, workspaceCall, workspaceBytes, toldBytes, Told, told-number}
+use Rattle.slice_lengths.specs.declared.LengthsTold.{LengthsTold}
+use Rattle.slice_lengths.specs.Bounds.{InLimits, accepted, active-places, path-places, base-places, walk-places}
+use Rattle.slice_lengths.specs.Lengths.{answerOf, workspaceOf, workspaceCall, workspaceBytes, toldBytes, Told, told-number}
 
 -- 256 MiB
 abbrev pub most : ℕ

@@ -1,12 +1,12 @@
 -- `workspace_told` meets its contract. Assumes nothing.
-use Rattle.limits.specs.Bounds.{active-fits}
-use Rattle.limits.specs.Lengths.{told-walks}
+use Rattle.slice_lengths.specs.Bounds.{active-fits}
+use Rattle.slice_lengths.specs.Lengths.{told-walks}
 use borrow.Author.Needs.{needs}
-use Rattle.limits.proofs.workspace_told.Statement.{statement}
-use Rattle.limits.proofs.workspace_told.Tie as tie
-use Rattle.limits.proofs.workspace_told.Reads as reads
-use Rattle.limits.proofs.workspace_told.Lts as lts
-use Rattle.limits.proofs.walks_told.Reads as walks-told-reads
+use Rattle.slice_lengths.proofs.workspace_told.Statement.{statement}
+use Rattle.slice_lengths.proofs.workspace_told.Tie as tie
+use Rattle.slice_lengths.proofs.workspace_told.Reads as reads
+use Rattle.slice_lengths.proofs.workspace_told.Lts as lts
+use Rattle.slice_lengths.proofs.walks_told.Reads as walks-told-reads
 
 cast-paths : tie.Need-cast-paths
 cast-paths c = search needs

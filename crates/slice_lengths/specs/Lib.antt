@@ -1,0 +1,3 @@
+pub mod Bounds
+pub mod Workspaces
+pub mod Lengths
