@@ -12,8 +12,8 @@ use borrow.Author.Tests.{ltb-true, le-leb}
 use Rattle.laws.specs.Numbers.{reaches}
 use Rattle.laws.specs.ListLaws.{clash}
 use Rattle.definition.specs.Evidence.{Branches}
-use Rattle.threading_tree.specs.Slots.{cols, Slot}
-use Rattle.threading_tree.specs.Take.{Wide, wide-slot}
+use Rattle.threading_node.specs.Slots.{cols, Slot}
+use Rattle.threading_node.specs.Take.{Wide, wide-slot}
 use Rattle.threading_tree.specs.Read.{Leads, Readable, leads-one}
 
 -- ---- a total and the threshold

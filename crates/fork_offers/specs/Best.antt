@@ -12,10 +12,10 @@ use borrow.Author.Tests.{eq-eqb, ne-eqb, le-leb, lt-leb}
 use Rattle.definition.specs.Threading.{Ends}
 use Rattle.definition.specs.Evidence.{Branches, bare, branch}
 use Rattle.definition.specs.Search.{SearchInput, Offer, realBranches, best}
-use Rattle.threading_tree.specs.Ends.{ends}
-use Rattle.threading_tree.specs.Slots.{cols, Slot}
-use Rattle.threading_tree.specs.Cells.{left}
-use Rattle.threading_tree.specs.Take.{Wide, wide-slot}
+use Rattle.threading_node.specs.Ends.{ends}
+use Rattle.threading_node.specs.Slots.{cols, Slot}
+use Rattle.threading_node.specs.Cells.{left}
+use Rattle.threading_node.specs.Take.{Wide, wide-slot}
 use Rattle.threading_tree.specs.Read.{Leads, Readable, BranchAt, leads-one, leads-none, leads-branch, summing-start, summing-falls}
 use Rattle.fork_offers.specs.Real.{nodeEdge, isReal, outsOf, RealEdge}
 

@@ -14,7 +14,7 @@ use Rattle.definition.proofs.Counts.{Small, small-sum}
 use Rattle.definition.specs.Evidence.{Branches}
 use Rattle.definition.specs.Search.{SearchInput, Offer, sumOf, unseen, realBranches, best, offers}
 use Rattle.assembly.specs.Store.{edgesOf}
-use Rattle.threading_tree.specs.Slots.{cols}
+use Rattle.threading_node.specs.Slots.{cols}
 use Rattle.threading_tree.specs.Read.{Leads, Readable, Summed}
 use Rattle.fork_offers.specs.Actives.{Least, Actives, Active, First, actives-one, actives-end, actives-first}
 use Rattle.fork_offers.specs.Real.{Fork, outsOf, outs-is}

@@ -14,8 +14,8 @@ use Rattle.assembly.specs.Fields.{HasVertex, outEdge, HasEdges, HasEdge, edgeFr
 use Rattle.assembly.specs.Store.{edgeAt, edgesOf}
 use Rattle.assembly.specs.Table.{Distinct}
 use Rattle.assembly.specs.Outs.{Names, Slots, Nexts, outFrom, nexts-none, nexts-some, slots-names}
-use Rattle.threading_tree.specs.Ends.{ends, eqEnds-true, eqEnds-self, eqEnds-ne}
-use Rattle.threading_tree.specs.Slots.{cols}
+use Rattle.threading_node.specs.Ends.{ends, eqEnds-true, eqEnds-self, eqEnds-ne}
+use Rattle.threading_node.specs.Slots.{cols}
 
 abbrev pub endsOfAll : List Edge → List Ends
 endsOfAll es = map (λ (e : Edge). e .ends) es

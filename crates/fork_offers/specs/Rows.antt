@@ -15,7 +15,7 @@ use Rattle.definition.specs.Threading.{Ends, eqEnds}
 use Rattle.definition.specs.Search.{Offer, among, unseen}
 use Rattle.assembly.specs.Store.{edgeAt}
 use Rattle.assembly.specs.Table.{Distinct}
-use Rattle.threading_tree.specs.Ends.{eqEnds-self, eqEnds-ne}
+use Rattle.threading_node.specs.Ends.{eqEnds-self, eqEnds-ne}
 use Rattle.fork_offers.specs.Fields.{HasOffer, offerEdge, offerCount, offerTotal, offerGuided}
 
 abbrev pub offerAt : List ℕ → List ℕ → ℕ → Offer

@@ -10,7 +10,7 @@ use Rattle.laws.specs.Numbers.{reaches}
 use Rattle.definition.specs.Threading.{Ends}
 use Rattle.definition.specs.Evidence.{Branches}
 use Rattle.definition.specs.Search.{SearchInput, offersEdge, sumOf, hasStoppingEvidence}
-use Rattle.threading_tree.specs.Slots.{cols}
+use Rattle.threading_node.specs.Slots.{cols}
 use Rattle.threading_tree.specs.Read.{Leads, ChildSlot, Summed}
 use Rattle.fork_offers.specs.Actives.{Least, Actives, Active, First, actives-one, actives-end, actives-first}
 

@@ -11,10 +11,10 @@ use Rattle.definition.specs.Threading.{Ends}
 use Rattle.definition.specs.Evidence.{Branches, bare, branch}
 use Rattle.definition.specs.Search.{SearchInput, Offer, among, unseen, realBranches, best}
 use Rattle.assembly.specs.Store.{edgeAt}
-use Rattle.threading_tree.specs.Ends.{ends}
-use Rattle.threading_tree.specs.Slots.{cols, Slot}
-use Rattle.threading_tree.specs.Cells.{left}
-use Rattle.threading_tree.specs.Take.{Wide, wide-slot}
+use Rattle.threading_node.specs.Ends.{ends}
+use Rattle.threading_node.specs.Slots.{cols, Slot}
+use Rattle.threading_node.specs.Cells.{left}
+use Rattle.threading_node.specs.Take.{Wide, wide-slot}
 use Rattle.threading_tree.specs.Read.{Leads, Readable, BranchAt, leads-one, leads-none, leads-branch}
 use Rattle.fork_offers.specs.Fields.{HasOffer}
 use Rattle.fork_offers.specs.Real.{Fork, nodeEdge, isReal, outsOf, RealEdge}

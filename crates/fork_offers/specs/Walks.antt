@@ -13,8 +13,8 @@ use borrow.Author.Tests.{eq-eqb, ne-eqb}
 use Rattle.definition.specs.Threading.{Ends}
 use Rattle.definition.specs.Evidence.{Branches, bare, hasBranch}
 use Rattle.definition.specs.Search.{child, walkTrees}
-use Rattle.threading_tree.specs.Slots.{cols, Slot}
-use Rattle.threading_tree.specs.Take.{Wide, wide-slot}
+use Rattle.threading_node.specs.Slots.{cols, Slot}
+use Rattle.threading_node.specs.Take.{Wide, wide-slot}
 use Rattle.threading_tree.specs.Read.{Leads, Readable, ChildSlot, leads-has}
 use Rattle.fork_offers.specs.Actives.{Stand, Actives, Active, First, stand-le, stand-kept, stand-more, append-nil, actives-one, actives-end, actives-first}
 

@@ -15,7 +15,7 @@ use Rattle.assembly.specs.Table.{length-table}
 use Rattle.assembly.specs.Store.{edgeAt, edgesOf}
 use Rattle.assembly.specs.Outs.{Nexts, Slots, Names}
 use Rattle.assembly.specs.Sorted.{Orders, rest, rest-start, rest-skip, rest-take, rest-end}
-use Rattle.threading_tree.specs.Front.{front, front-row, written-front, flat-last, flat-many}
+use Rattle.threading_node.specs.Front.{front, front-row, written-front, flat-last, flat-many}
 
 -- p rows are written, and the edges from (v, t) on are left
 pub record Listing (es out out' : List ℕ) (m v t p : ℕ) : Type 0 where

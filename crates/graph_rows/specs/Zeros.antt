@@ -6,7 +6,7 @@ use native.Mathlib.Omega.{arith}
 use lib.ListN.{length, set, drop, replicate, length-replicate, replicate-append-replicate, length-set}
 use lib.Seq.{drop-append-seam}
 use Rattle.definition.specs.Calls.{writtenAt}
-use Rattle.threading_tree.specs.Front.{front, front-store, written-front}
+use Rattle.threading_node.specs.Front.{front, front-store, written-front}
 
 -- the first i of n elements are zero
 pub record Clearing {A : Type 0} (z : A) (old words : List A) (n i : ℕ) : Type 0 where

@@ -13,9 +13,9 @@ use Rattle.definition.specs.Threading.{Ends, Graph, leaving}
 use Rattle.definition.specs.Evidence.{Walk, takeEdge, pass, walkBases, nodes}
 use Rattle.assembly.specs.Fields.{HasVertex, treeRoot, putTreeRoot, HasEdges, HasEdge, edgeFrom, edgeTo}
 use Rattle.assembly.specs.Store.{edgeAt, edgesOf, Good}
-use Rattle.threading_tree.specs.Ends.{ends}
-use Rattle.threading_tree.specs.Slots.{cols, told, Beyond}
-use Rattle.threading_tree.specs.Good.{slot-live}
+use Rattle.threading_node.specs.Ends.{ends}
+use Rattle.threading_node.specs.Slots.{cols, told, Beyond}
+use Rattle.threading_node.specs.Good.{slot-live}
 use Rattle.threading_tree.specs.All.{grownRefusal, Walking as Asks, TookAll}
 use Rattle.threading_tree.specs.Join.{joinedRefusal}
 use Rattle.threading_tree.specs.Held.{HeldWalk, held-under, held-few, held-walking, held-takes, held-full}

@@ -18,7 +18,7 @@ use Rattle.assembly.specs.Fields.{HasVertices, HasVertex, outEdge, kmerPlace, e
 use Rattle.assembly.specs.Store.{edgeAt, kmersOf, graphOf, code, code-lt, follow-none, follow-some}
 use Rattle.assembly.specs.Kmers.{part, number-le}
 use Rattle.junction_tree_graph.specs.Stretches.{stretchAt}
-use Rattle.threading_tree.specs.Ends.{ends}
+use Rattle.threading_node.specs.Ends.{ends}
 use Rattle.threading_tree.specs.Held.{held-again}
 use Rattle.threading_tree.specs.Grows.{many, walk-grows}
 use Rattle.junction_trees.specs.declared.Ground.{Ground}

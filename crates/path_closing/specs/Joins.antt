@@ -20,8 +20,8 @@ use Rattle.definition.specs.Evidence.{Branches, hasBranch}
 use Rattle.definition.specs.Search.{SearchInput, joinTree}
 use Rattle.definition.proofs.Counts.{Small}
 use Rattle.assembly.specs.Fields.{HasVertex, treeRoot}
-use Rattle.threading_tree.specs.Slots.{cols, Slot}
-use Rattle.threading_tree.specs.Take.{wide-slot}
+use Rattle.threading_node.specs.Slots.{cols, Slot}
+use Rattle.threading_node.specs.Take.{wide-slot}
 use Rattle.threading_tree.specs.Read.{leads-has}
 use Rattle.path_store.specs.declared.records.PathRecord.{PathRecord}
 use Rattle.path_store.specs.declared.growth.PathAnswer.{PathAnswer}

@@ -13,7 +13,7 @@ use path_store::walks::has_visited;
 use search_state::Progress;
 use search_state::Setting;
 use search_state::Step;
-use threading_tree::first_child;
+use threading_node::first_child;
 ghost use mathlib.Core.Path.{_≡_};
 ghost use Prim.Native.Nat.{_+_, _*_, _<_};
 ghost use lib.ListN.{length, set};

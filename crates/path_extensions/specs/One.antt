@@ -23,7 +23,7 @@ use Rattle.definition.specs.Search.{SearchInput, Path, walkTrees, lengthen}
 use Rattle.definition.specs.Search as defs
 use Rattle.definition.proofs.Counts.{Small, small-walk}
 use Rattle.assembly.specs.Fields.{HasEdge, edgeFrom, edgeTo}
-use Rattle.threading_tree.specs.Ends.{ends}
+use Rattle.threading_node.specs.Ends.{ends}
 use Rattle.fork_offers.specs.Actives.{Actives, actives-kept, actives-many}
 use Rattle.fork_offers.specs.Walks.{Walkable, Walked}
 use Rattle.path_store.specs.declared.growth.PathAnswer.{PathAnswer}

@@ -26,7 +26,7 @@ use Rattle.path_store.specs.View.{viewOf}
 use Rattle.path_store.specs.Best.{bestOf}
 use Rattle.path_store.specs.Recover.{all-at, recover-none, recover-lost, recover-low, recover-over, recover-made}
 use Rattle.path_heap.specs.Heap.{waiting, waiting-none}
-use Rattle.threading_tree.specs.Take.{Wide}
+use Rattle.threading_node.specs.Take.{Wide}
 use Rattle.fork_offers.specs.Actives.{Actives}
 use Rattle.search_state.specs.declared.Setting.{Setting}
 use Rattle.search_state.specs.declared.Progress.{Progress}

@@ -25,7 +25,7 @@ use Rattle.definition.proofs.Checks.{accepted, some-pushes}
 use Rattle.definition.proofs.Late.{accepted-zero, list-keeps}
 use Rattle.limits.specs.Rules.{none-broken}
 use Rattle.slice_lengths.specs.Workspaces.{rowColumns}
-use Rattle.threading_tree.specs.Front.{front, written-front}
+use Rattle.threading_node.specs.Front.{front, written-front}
 use Rattle.list_interface.specs.declared.ListAnswer.{ListAnswer}
 use Rattle.list_work.specs.Outcome.{Outputs, outputsOf, Tables, summary, writtenList, outputsAfter, Listed}
 use Rattle.list_call.specs.Outcome.{tablesAfter, floatZero}

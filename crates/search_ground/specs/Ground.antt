@@ -33,7 +33,7 @@ use Rattle.assembly.specs.Kmers.{length-of}
 use Rattle.assembly.specs.Outs.{nexts-none}
 use Rattle.assembly.specs.Symbolic.{linked, length-linked}
 use Rattle.junction_tree_graph.specs.Built.{fits-of, BuiltAt}
-use Rattle.threading_tree.specs.Ends.{eqEnds-self, eqEnds-ne}
+use Rattle.threading_node.specs.Ends.{eqEnds-self, eqEnds-ne}
 use Rattle.threading_tree.specs.Read.{TreeOf, held-tree, held-no-tree}
 use Rattle.junction_trees.specs.Roots.{rootOf}
 use Rattle.junction_trees.specs.Stretches.{begun}

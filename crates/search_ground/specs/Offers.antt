@@ -16,9 +16,9 @@ use Rattle.definition.proofs.Walks.{offers-on}
 use Rattle.assembly.specs.Store.{edgeAt, edgesOf}
 use Rattle.assembly.specs.Table.{table}
 use Rattle.assembly.specs.Outs as outs
-use Rattle.threading_tree.specs.Nodes.{Nodes, node, erase, Above}
-use Rattle.threading_tree.specs.Nodes as nodes
-use Rattle.threading_tree.specs.Slots.{cols}
+use Rattle.threading_node.specs.Nodes.{Nodes, node, erase, Above}
+use Rattle.threading_node.specs.Nodes as nodes
+use Rattle.threading_node.specs.Slots.{cols}
 use Rattle.threading_tree.specs.Read.{Leads}
 use Rattle.fork_offers.specs.Actives.{Actives, Stand}
 use Rattle.search_state.specs.declared.Setting.{Setting}

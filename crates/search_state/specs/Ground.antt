@@ -11,9 +11,9 @@ use Rattle.definition.specs.Search.{SearchInput}
 use Rattle.definition.proofs.Counts.{Small}
 use Rattle.assembly.specs.Fields.{HasVertices, treeRoot}
 use Rattle.assembly.specs.Store.{edgeAt}
-use Rattle.threading_tree.specs.Ends.{ends}
-use Rattle.threading_tree.specs.Slots.{cols}
-use Rattle.threading_tree.specs.Take.{Wide}
+use Rattle.threading_node.specs.Ends.{ends}
+use Rattle.threading_node.specs.Slots.{cols}
+use Rattle.threading_node.specs.Take.{Wide}
 use Rattle.threading_tree.specs.Read.{Leads}
 use Rattle.pivotal_edges.specs.Walk.{Linked}
 use Rattle.path_store.specs.Link.{Agrees}

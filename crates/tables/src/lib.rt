@@ -12,7 +12,7 @@ pub const EDGE: usize = 6;
 
 pub const KMER: usize = 2;
 
-// threading_tree: a tree node, and an open tree
+// threading_node: a tree node; threading_tree: an open tree
 pub const NODE: usize = 5;
 
 pub const OPEN: usize = 2;

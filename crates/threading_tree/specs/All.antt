@@ -9,17 +9,17 @@ use lib.ListN.{length, length-set, length-append, replicate}
 use lib.Seq.{getD-set-other}
 use Rattle.laws.specs.Records.{field, putField, field-same, field-other, row-other}
 use Rattle.definition.specs.Threading.{Ends, compareEnds, eqEnds}
-use Rattle.threading_tree.specs.Ends.{ends}
+use Rattle.threading_node.specs.Ends.{ends}
 use Rattle.definition.specs.Evidence.{Branches}
-use Rattle.threading_tree.specs.Nodes.{Fields, Nodes, nil, node, erase, size, reachN, takeN, landed, At, kidsAt, Rising, reachN-lt, reachN-eq, reachN-gt, takeN-down, takeN-along, at-take, at-new, rising-take}
-use Rattle.threading_tree.specs.Good.{Good, at-live}
+use Rattle.threading_node.specs.Nodes.{Fields, Nodes, nil, node, erase, size, reachN, takeN, landed, At, kidsAt, Rising, reachN-lt, reachN-eq, reachN-gt, takeN-down, takeN-along, at-take, at-new, rising-take}
+use Rattle.threading_node.specs.Good.{Good, at-live}
 use Rattle.threading_tree.specs.Forest.{erase-times}
 use Rattle.threading_tree.specs.Walks.{Group, onward, spread, growM, Stand}
-use Rattle.threading_tree.specs.Take.{stepRefusal, Wide, wide-kept, Packable, Ready, Went, Full, Taken}
-use Rattle.threading_tree.specs.Slots.{cols, told, Beyond}
-use Rattle.threading_tree.specs.declared.Reached as SD
-use Rattle.threading_tree.specs.declared.Step.{Step}
-use Rattle.threading_tree.specs.declared.Step.the-variants.{Next, Refused}
+use Rattle.threading_node.specs.Take.{stepRefusal, Wide, wide-kept, Packable, Ready, Went, Full, Taken}
+use Rattle.threading_node.specs.Slots.{cols, told, Beyond}
+use Rattle.threading_node.specs.declared.Reached as SD
+use Rattle.threading_node.specs.declared.Step.{Step}
+use Rattle.threading_node.specs.declared.Step.the-variants.{Next, Refused}
 use Rattle.threading_tree.specs.declared.Grown.{Grown}
 use Rattle.threading_tree.specs.declared.Grown.the-variants.{Nodes as Many, Refused as Stopped}
 

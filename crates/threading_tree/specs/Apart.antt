@@ -8,11 +8,11 @@ use native.Mathlib.Omega.{arith}
 use lib.ListN.{length, length-append}
 use Rattle.laws.specs.Records.{field}
 use Rattle.definition.specs.Threading.{Ends}
-use Rattle.threading_tree.specs.Ends.{eqEnds-false}
+use Rattle.threading_node.specs.Ends.{eqEnds-false}
 use Rattle.definition.specs.Evidence.{Walk, takeEdge}
-use Rattle.threading_tree.specs.Nodes.{Nodes, At, here, down, along, Rising, Fields}
-use Rattle.threading_tree.specs.Table.{snoc-front}
-use Rattle.threading_tree.specs.Good.{Good, own-at, at-live}
+use Rattle.threading_node.specs.Nodes.{Nodes, At, here, down, along, Rising, Fields}
+use Rattle.threading_node.specs.Table.{snoc-front}
+use Rattle.threading_node.specs.Good.{Good, own-at, at-live}
 use Rattle.threading_tree.specs.Walks.{Group, onward, raise, Same, same-take}
 use Rattle.threading_tree.specs.All.{growN, Standing, erase-grow, standing-stand}
 

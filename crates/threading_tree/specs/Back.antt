@@ -5,7 +5,7 @@ use Prim.Native.Nat.{ℕ, suc, Ordering, Ordering·lt, Ordering·eq, Ordering·g
 use mathlib.Core.Bool.{Bool, true, false}
 use mathlib.Core.List.{List, [], _∷_}
 use Rattle.definition.specs.Threading.{Ends, compareEnds, eqEnds}
-use Rattle.threading_tree.specs.Nodes.{Nodes, nil, node, size, reachN, takeN, At, here, down, along, reachN-lt, reachN-eq, reachN-gt, takeN-down, takeN-along}
+use Rattle.threading_node.specs.Nodes.{Nodes, nil, node, size, reachN, takeN, At, here, down, along, reachN-lt, reachN-eq, reachN-gt, takeN-down, takeN-along}
 use Rattle.threading_tree.specs.Walks.{Group}
 use Rattle.threading_tree.specs.All.{growN}
 use Rattle.threading_tree.specs.Apart.{Apart}

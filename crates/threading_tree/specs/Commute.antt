@@ -5,10 +5,10 @@ use mathlib.Core.Bool.{true, false, cond}
 use mathlib.Core.List.{List, [], _∷_}
 use native.Mathlib.Omega.{arith}
 use Rattle.definition.specs.Threading.{Ends, compareEnds, eqEnds}
-use Rattle.threading_tree.specs.Ends.{ends, compareEnds-same, lt-trans, lt-ne, eqEnds-self, eqEnds-ne, cmp-eq, cmp-lt, eq-cmp}
+use Rattle.threading_node.specs.Ends.{ends, compareEnds-same, lt-trans, lt-ne, eqEnds-self, eqEnds-ne, cmp-eq, cmp-lt, eq-cmp}
 use Rattle.laws.specs.Lists.{isEmpty}
 use Rattle.definition.specs.Evidence.{Branches, bare, branch, Tree, reach, takeAt, atTree, growth}
-use Rattle.threading_tree.specs.Nodes.{Nodes, erase, At, here, down, along, Rising, at-above}
+use Rattle.threading_node.specs.Nodes.{Nodes, erase, At, here, down, along, Rising, at-above}
 use Rattle.threading_tree.specs.Forest.{forest}
 
 module _ (e f : Ends) (c : ℕ) (b x : Branches) where

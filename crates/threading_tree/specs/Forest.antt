@@ -7,10 +7,10 @@ use native.Mathlib.Nat.{add-suc}
 use mathlib.Core.Bool.{Bool, true, false, cond}
 use mathlib.Core.List.{List, [], _∷_}
 use Rattle.definition.specs.Threading.{Ends, compareEnds, eqEnds}
-use Rattle.threading_tree.specs.Ends.{ends, eq-self, cmp-eq}
+use Rattle.threading_node.specs.Ends.{ends, eq-self, cmp-eq}
 use Rattle.laws.specs.Lists.{isEmpty}
 use Rattle.definition.specs.Evidence.{Branches, bare, branch, Tree, reach, takeAt, atTree, Opened}
-use Rattle.threading_tree.specs.Nodes.{Nodes, nil, node, erase, reachN, takeN}
+use Rattle.threading_node.specs.Nodes.{Nodes, nil, node, erase, reachN, takeN}
 
 -- ---- one step of the definition, as a step of the numbered tree with multiplicity 1
 

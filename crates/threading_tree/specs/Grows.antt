@@ -11,7 +11,7 @@ use lib.ListN.{length, length-append, take, drop}
 use Rattle.definition.specs.Stretch.{Stretch}
 use Rattle.definition.specs.Threading.{Ends, compareEnds, eqEnds, Edge, Graph, leaving, follow, numberOf}
 use Rattle.definition.specs.Evidence.{Branches, bare, branch, Tree, reach, takeAt, atTree, Opened, Walk, opens, growth, growAll, takeEdge, openTree, pass, walkBases, walkStretch, walkAll, nodes}
-use Rattle.threading_tree.specs.Ends.{ends}
+use Rattle.threading_node.specs.Ends.{ends}
 use Rattle.threading_tree.specs.Forest.{forest}
 use Rattle.threading_tree.specs.Listed.{sizeB, forest-nodes}
 

@@ -7,17 +7,17 @@ use native.Mathlib.Decide.{ℕ-discrete}
 use lib.ListN.{length, getD, length-append, replicate}
 use Rattle.definition.specs.Threading.{Ends}
 use Rattle.definition.specs.Evidence.{Walk, takeEdge, openTree, nodes}
-use Rattle.threading_tree.specs.Ends.{ends}
-use Rattle.threading_tree.specs.Nodes.{Nodes, nil, erase, size, reachN, takeN, At, Rising, Links, Own, at-take, rising-take, takeN-here}
-use Rattle.threading_tree.specs.Good.{Good}
-use Rattle.threading_tree.specs.Slots.{cols, told, zero-kid, zero-count}
+use Rattle.threading_node.specs.Ends.{ends}
+use Rattle.threading_node.specs.Nodes.{Nodes, nil, erase, size, reachN, takeN, At, Rising, Links, Own, at-take, rising-take, takeN-here}
+use Rattle.threading_node.specs.Good.{Good}
+use Rattle.threading_node.specs.Slots.{cols, told, zero-kid, zero-count}
 use Rattle.threading_tree.specs.Forest.{forest, rootPath}
 use Rattle.threading_tree.specs.Walks.{Group, onward, spread, Perm, same, skip, swap, both, Same, same-opened}
 use Rattle.threading_tree.specs.All.{growN, total, Standing, Walking, TookAll, Grew, Over}
 use Rattle.threading_tree.specs.Apart.{Apart, apart-onward, walk-takes, groups-few}
 use Rattle.threading_tree.specs.Back.{at-reach-back, at-grow-back}
-use Rattle.threading_tree.specs.Take.{Wide, wide-kept, Packable}
-use Rattle.threading_tree.specs.Open.{RootAt}
+use Rattle.threading_node.specs.Take.{Wide, wide-kept, Packable}
+use Rattle.threading_node.specs.Open.{RootAt}
 use Rattle.threading_tree.specs.Join.{Joinable, JoinedTo, Joins, Turns, opened}
 use Rattle.threading_tree.specs.Listed.{sizeB, size-erase, forest-nodes}
 use Rattle.threading_tree.specs.declared.ThreadingState as TS

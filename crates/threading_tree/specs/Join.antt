@@ -10,19 +10,19 @@ use lib.Seq.{getD-set-other}
 use Rattle.laws.specs.Records.{field, putField, field-same, field-other, row-other}
 use Rattle.definition.specs.Threading.{Ends}
 use Rattle.definition.specs.Evidence.{Walk, openTree}
-use Rattle.threading_tree.specs.Ends.{ends}
-use Rattle.threading_tree.specs.Nodes.{Fields, Nodes, size, takeN, landed, At, here, kidsAt, Rising, at-take, at-new, takeN-here}
-use Rattle.threading_tree.specs.Good.{Good}
-use Rattle.threading_tree.specs.Slots.{cols, told, Beyond}
+use Rattle.threading_node.specs.Ends.{ends}
+use Rattle.threading_node.specs.Nodes.{Fields, Nodes, size, takeN, landed, At, here, kidsAt, Rising, at-take, at-new, takeN-here}
+use Rattle.threading_node.specs.Good.{Good}
+use Rattle.threading_node.specs.Slots.{cols, told, Beyond}
 use Rattle.threading_tree.specs.Walks.{Group, raise, HasAt, first, after, Same, same-raised, same-opened}
 use Rattle.threading_tree.specs.All.{Standing1, Standing, total, new-live}
 use Rattle.threading_tree.specs.Apart.{at-one, path-one, Differs, Apart, apart-new, apart-raise, groups-few, groups-fewer}
-use Rattle.threading_tree.specs.Take.{stepRefusal, Went, Full}
-use Rattle.threading_tree.specs.Open.{RootAt, Openable, OpenedAt}
-use Rattle.threading_tree.specs.declared.Reached as SD
+use Rattle.threading_node.specs.Take.{stepRefusal, Went, Full}
+use Rattle.threading_node.specs.Open.{RootAt, Openable, OpenedAt}
+use Rattle.threading_node.specs.declared.Reached as SD
 use Rattle.threading_tree.specs.declared.ThreadingState as TS
-use Rattle.threading_tree.specs.declared.Step.{Step}
-use Rattle.threading_tree.specs.declared.Step.the-variants.{Next, Refused}
+use Rattle.threading_node.specs.declared.Step.{Step}
+use Rattle.threading_node.specs.declared.Step.the-variants.{Next, Refused}
 use Rattle.threading_tree.specs.declared.Joined.{Joined}
 use Rattle.threading_tree.specs.declared.Joined.the-variants.{Next as Holds, Refused as Turned}
 

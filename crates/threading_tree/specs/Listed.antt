@@ -6,8 +6,8 @@ use mathlib.Core.List.{List, [], _∷_, _++_}
 use native.Mathlib.Omega.{arith}
 use lib.ListN.{length, length-append}
 use Rattle.definition.specs.Evidence.{Branches, bare, branch, Tree, Node, nodesBelow, nodes}
-use Rattle.threading_tree.specs.Ends.{ends}
-use Rattle.threading_tree.specs.Nodes.{Nodes, nil, node, erase, size}
+use Rattle.threading_node.specs.Ends.{ends}
+use Rattle.threading_node.specs.Nodes.{Nodes, nil, node, erase, size}
 use Rattle.threading_tree.specs.Forest.{forest}
 
 -- how many nodes the definition's branches have

@@ -11,9 +11,9 @@ use borrow.Author.Tests.{eq-eqb, ne-eqb}
 use lib.ListN.{length}
 use Rattle.definition.specs.Threading.{Ends, Edge, leaving}
 use Rattle.definition.specs.Evidence.{Walk, opens, takeEdge, openTree, pass, nodes}
-use Rattle.threading_tree.specs.Ends.{ends}
-use Rattle.threading_tree.specs.Slots.{told, Beyond}
-use Rattle.threading_tree.specs.Take.{Packable}
+use Rattle.threading_node.specs.Ends.{ends}
+use Rattle.threading_node.specs.Slots.{told, Beyond}
+use Rattle.threading_node.specs.Take.{Packable}
 use Rattle.threading_tree.specs.All.{grownRefusal, Walking, TookAll}
 use Rattle.threading_tree.specs.Join.{Joinable, JoinedTo}
 use Rattle.threading_tree.specs.Held.{HeldWalk, held-roots, held-under, held-few, held-walking, held-takes, held-full, held-joinable, held-opens, held-turned}

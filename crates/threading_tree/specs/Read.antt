@@ -12,17 +12,17 @@ use borrow.Author.Tests.{eq-eqb, ne-eqb}
 use Rattle.definition.specs.Threading.{Ends, compareEnds, eqEnds}
 use Rattle.definition.specs.Evidence.{Branches, bare, branch, Tree, Walk, hasBranch, treeAt}
 use Rattle.definition.specs.Search.{child, offersEdge, sumOf}
-use Rattle.threading_tree.specs.Ends.{ends, ends-path, gt-lt, lt-ne, eq-same, eqEnds-self, eqEnds-ne, eqEnds-false, Less, lt-less}
-use Rattle.threading_tree.specs.Nodes.{Nodes, nil, node, erase, size, seekN, At, here, down, along, kidsAt, Above, Rising, Fields, Links, above-less}
-use Rattle.threading_tree.specs.Rows.{seekN-lt, seekN-eq, seekN-gt, gap-here, here-same}
-use Rattle.threading_tree.specs.Good.{row-of, row-rising, slot-live}
-use Rattle.threading_tree.specs.Slots.{cols, Slot, every-from, every-to, every-count}
-use Rattle.threading_tree.specs.Cells.{Rowed, Sought, left, left-falls}
-use Rattle.threading_tree.specs.Take.{Wide, wide-slot, links-row}
+use Rattle.threading_node.specs.Ends.{ends, ends-path, gt-lt, lt-ne, eq-same, eqEnds-self, eqEnds-ne, eqEnds-false, Less, lt-less}
+use Rattle.threading_node.specs.Nodes.{Nodes, nil, node, erase, size, seekN, At, here, down, along, kidsAt, Above, Rising, Fields, Links, above-less}
+use Rattle.threading_node.specs.Rows.{seekN-lt, seekN-eq, seekN-gt, gap-here, here-same}
+use Rattle.threading_node.specs.Good.{row-of, row-rising, slot-live}
+use Rattle.threading_node.specs.Slots.{cols, Slot, every-from, every-to, every-count}
+use Rattle.threading_node.specs.Cells.{Rowed, Sought, left, left-falls}
+use Rattle.threading_node.specs.Take.{Wide, wide-slot, links-row}
 use Rattle.threading_tree.specs.Forest.{forest}
 use Rattle.threading_tree.specs.Held.{HeldWalk}
-use Rattle.threading_tree.specs.declared.Place.{Place}
-use Rattle.threading_tree.specs.declared.Place.the-variants.{Here, Gap}
+use Rattle.threading_node.specs.declared.Place.{Place}
+use Rattle.threading_node.specs.declared.Place.the-variants.{Here, Gap}
 
 -- the link l of a table with n nodes leads to the branches b
 pub record Leads (n : ℕ) (x : List ℕ) (l : ℕ) (b : Branches) : Type 0 where

@@ -4,9 +4,9 @@ use Prim.Native.Nat.{ℕ, zero, suc, _+_}
 use mathlib.Core.List.{List, [], _∷_, _++_, map, append-assoc}
 use lib.ListN.{replicate}
 use Rattle.definition.specs.Threading.{Ends}
-use Rattle.threading_tree.specs.Ends.{ends}
+use Rattle.threading_node.specs.Ends.{ends}
 use Rattle.definition.specs.Evidence.{Branches, Tree, reach, takeAt, atTree, Opened, Walk, growth, growAll, takeEdge, openTree}
-use Rattle.threading_tree.specs.Nodes.{Nodes, erase, reachN, takeN, At, Rising, at-take, rising-take}
+use Rattle.threading_node.specs.Nodes.{Nodes, erase, reachN, takeN, At, Rising, at-take, rising-take}
 use Rattle.threading_tree.specs.Forest.{forest, rootPath, erase-take, erase-reach, takeTimes, forest-open}
 use Rattle.threading_tree.specs.Commute.{take-take, forest-take}
 

@@ -10,13 +10,13 @@ use Rattle.laws.specs.Records.{putFrom, length-putFrom}
 use Rattle.definition.specs.Threading.{Ends}
 use Rattle.definition.specs.Evidence.{Walk, Node, nodesBelow, nodes}
 use Rattle.definition.specs.Calls.{writtenAt, flat, nodeRow}
-use Rattle.threading_tree.specs.Ends.{ends}
-use Rattle.threading_tree.specs.Nodes.{Nodes, nil, node, erase, size, Links}
-use Rattle.threading_tree.specs.Good.{Good}
-use Rattle.threading_tree.specs.Slots.{cols, Slot, Beyond}
-use Rattle.threading_tree.specs.Take.{Wide, wide-slot}
+use Rattle.threading_node.specs.Ends.{ends}
+use Rattle.threading_node.specs.Nodes.{Nodes, nil, node, erase, size, Links}
+use Rattle.threading_node.specs.Good.{Good}
+use Rattle.threading_node.specs.Slots.{cols, Slot, Beyond}
+use Rattle.threading_node.specs.Take.{Wide, wide-slot}
 use Rattle.threading_tree.specs.Listed.{size-erase, nodes-many, nodes-forest}
-use Rattle.threading_tree.specs.Front.{front, front-row, written-front, flat-last, flat-many}
+use Rattle.threading_node.specs.Front.{front, front-row, written-front, flat-last, flat-many}
 use Rattle.threading_tree.specs.Held.{HeldWalk}
 
 -- what the writer asks: a good table, a place for a slot at each depth, a row for each node

@@ -2,7 +2,7 @@
 use Prim.Native.Nat.{_+_, _-_}
 use mathlib.Core.Path.{_∙_}
 use native.Mathlib.Omega.{arith}
-use Rattle.threading_tree.specs.Ends.{ends}
+use Rattle.threading_node.specs.Ends.{ends}
 use Rattle.fork_offers.specs.Actives.{active-inside, active-place, active-slot, active-readable}
 use Rattle.fork_offers.specs.Offers.{Forking, forking-start, forking-edges, forking-end, forking-best, forking-closed, forking-tree, forking-next}
 use Rattle.fork_offers.proofs.applicable_next_edges.Statement.{statement}

@@ -1,7 +1,7 @@
 -- `fork_offers::best_branch` meets its contract. The loop's invariant: the best of the best so far with the rest of the row is that of the row.
 use Prim.Native.Nat.{_^_}
-use Rattle.threading_tree.specs.Ends.{ends}
-use Rattle.threading_tree.specs.Cells.{left}
+use Rattle.threading_node.specs.Ends.{ends}
+use Rattle.threading_node.specs.Cells.{left}
 use Rattle.fork_offers.specs.Real.{outsOf}
 use Rattle.fork_offers.specs.Best.{Choosing, choosing-start, choosing-end, choosing-old, choosing-slot, choosing-falls, choosing-next}
 use Rattle.fork_offers.proofs.best_branch.Statement.{statement}

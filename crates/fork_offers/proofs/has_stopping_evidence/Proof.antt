@@ -1,7 +1,7 @@
 -- `fork_offers::has_stopping_evidence` meets its contract. The loop's invariant: the answer of the trees that are left is that of all.
 use Prim.Native.Nat.{_+_, _-_}
 use native.Mathlib.Omega.{arith}
-use Rattle.threading_tree.specs.Ends.{ends}
+use Rattle.threading_node.specs.Ends.{ends}
 use Rattle.fork_offers.specs.Stops.{Stopping, stopping-start, stopping-end, stopping-yes, stopping-no, stopping-next}
 use Rattle.fork_offers.specs.Actives.{active-inside, active-place, active-slot, active-readable}
 use Rattle.fork_offers.proofs.has_stopping_evidence.Statement.{statement}

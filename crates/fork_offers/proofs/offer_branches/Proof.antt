@@ -1,7 +1,7 @@
 -- `fork_offers::offer_branches` meets its contract. The loop's invariant: the rows written, with what the rest of the row of siblings offers, are what the whole offers.
 use Prim.Native.Nat.{_^_}
-use Rattle.threading_tree.specs.Ends.{ends}
-use Rattle.threading_tree.specs.Cells.{left}
+use Rattle.threading_node.specs.Ends.{ends}
+use Rattle.threading_node.specs.Cells.{left}
 use Rattle.fork_offers.specs.Trees.{Branching, branching-start, branching-end, branching-slot, branching-falls, branching-adds, branching-next}
 use Rattle.fork_offers.proofs.offer_branches.Statement.{statement}
 use Rattle.fork_offers.proofs.offer_branches.Tie as tie

@@ -1,7 +1,7 @@
 -- `fork_offers::walk_trees` meets its contract. The loop's invariant: the trees stored, with those that are left walked, are all walked.
 use Prim.Native.Nat.{_+_, _-_}
 use native.Mathlib.Omega.{arith}
-use Rattle.threading_tree.specs.Ends.{ends}
+use Rattle.threading_node.specs.Ends.{ends}
 use Rattle.fork_offers.specs.Actives.{active-inside, active-place}
 use Rattle.fork_offers.specs.Walks.{Walking, walking-start, walking-end, walking-treed, walking-place, walking-small, walking-next}
 use Rattle.fork_offers.proofs.walk_trees.Statement.{statement}

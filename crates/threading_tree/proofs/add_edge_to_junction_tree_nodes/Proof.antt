@@ -1,9 +1,9 @@
 use Prim.Native.Nat.{_-_}
 use mathlib.Core.Path.{_∙_}
 use borrow.Author.Needs.{needs, scaled-fits}
-use Rattle.threading_tree.specs.Ends.{ends}
+use Rattle.threading_node.specs.Ends.{ends}
 use Rattle.threading_tree.specs.All.{Track, track-start, track-open, track-index, track-index₀, track-ready, track-fits, track-next, track-stop, track-end}
-use Rattle.threading_tree.specs.Fit.{fits-next, fits-row, fits-index}
+use Rattle.threading_node.specs.Fit.{fits-next, fits-row, fits-index}
 use borrow.Author.Count.{falls}
 use Rattle.threading_tree.proofs.add_edge_to_junction_tree_nodes.Statement.{statement}
 use Rattle.threading_tree.proofs.add_edge_to_junction_tree_nodes.Tie as tie

@@ -1,7 +1,7 @@
 use lib.ListN.{length-set}
 use borrow.Author.Needs.{scaled-fits}
 use Rattle.threading_tree.specs.Join.{join-search, join-turned, root-fits, raised-in, raised-index, raised-fits, join-raised, new-in, join-first, join-second, join-new}
-use Rattle.threading_tree.specs.Fit.{fits-next, fits-row, fits-index}
+use Rattle.threading_node.specs.Fit.{fits-next, fits-row, fits-index}
 use borrow.Author.Needs.{needs}
 use Rattle.threading_tree.proofs.add_tree_if_necessary.Statement.{statement}
 use Rattle.threading_tree.proofs.add_tree_if_necessary.Tie as tie

@@ -3,7 +3,7 @@ use mathlib.Core.Path.{_≡_, sym, _∙_}
 use borrow.Author.Count.{below-more, falls}
 use native.Mathlib.Omega.{arith}
 use Rattle.laws.specs.Records.{field}
-use Rattle.threading_tree.specs.Fit.{fits-next}
+use Rattle.threading_node.specs.Fit.{fits-next}
 use Rattle.threading_tree.proofs.find_active.Statement.{statement}
 use Rattle.threading_tree.proofs.find_active.Tie as tie
 

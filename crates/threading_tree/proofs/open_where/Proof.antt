@@ -1,4 +1,4 @@
-use Rattle.threading_tree.specs.Ends.{ends}
+use Rattle.threading_node.specs.Ends.{ends}
 use Rattle.threading_tree.specs.Pass.{open-joinable, open-not, open-does}
 use borrow.Author.Needs.{needs}
 use Rattle.threading_tree.proofs.open_where.Statement.{statement}

@@ -1,5 +1,5 @@
 use native.Mathlib.Omega.{arith}
-use Rattle.threading_tree.specs.Ends.{ends}
+use Rattle.threading_node.specs.Ends.{ends}
 use Rattle.threading_tree.specs.Pass.{stepping-root, pass-refused, pass-on, pass-both}
 use borrow.Author.Needs.{needs}
 use Rattle.threading_tree.proofs.pass_edge.Statement.{statement}

@@ -1,4 +1,4 @@
-use Rattle.threading_tree.specs.Ends.{ends}
+use Rattle.threading_node.specs.Ends.{ends}
 use Rattle.threading_tree.specs.Pass.{take-walking, take-not, take-does, take-full}
 use borrow.Author.Needs.{needs}
 use Rattle.threading_tree.proofs.take_unless.Statement.{statement}

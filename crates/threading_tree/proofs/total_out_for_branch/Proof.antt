@@ -1,7 +1,7 @@
 use Prim.Native.Nat.{_^_}
 use mathlib.Core.Path.{refl}
-use Rattle.threading_tree.specs.Cells.{left}
-use Rattle.threading_tree.specs.Fit.{fits-widen, fits-named}
+use Rattle.threading_node.specs.Cells.{left}
+use Rattle.threading_node.specs.Fit.{fits-widen, fits-named}
 use Rattle.threading_tree.specs.Read.{Summing, summing-start, summing-end, summing-slot, summing-next, summing-fits, summing-falls}
 use Rattle.threading_tree.proofs.total_out_for_branch.Statement.{statement}
 use Rattle.threading_tree.proofs.total_out_for_branch.Tie as tie

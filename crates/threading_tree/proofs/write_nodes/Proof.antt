@@ -1,7 +1,7 @@
 use Prim.Native.Nat.{_+_, _*_, _-_}
 use mathlib.Core.Path.{refl}
 use borrow.Author.Needs.{needs, scaled-fits}
-use Rattle.threading_tree.specs.Fit.{fits-widen, fits-named}
+use Rattle.threading_node.specs.Fit.{fits-widen, fits-named}
 use Rattle.threading_tree.specs.Write.{Writer, writer-slot, writer-start, node-in, row-in, depth-fits, stack-in, stack-in₀, next-row, next-depth, writer-down, falls-down, stack-up, stack-up₀, writer-up, falls-up, writer-end}
 use Rattle.threading_tree.proofs.write_nodes.Statement.{statement}
 use Rattle.threading_tree.proofs.write_nodes.Tie as tie

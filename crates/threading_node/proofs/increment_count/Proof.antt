@@ -1,7 +1,7 @@
 use borrow.Author.Needs.{needs}
-use Rattle.threading_tree.specs.Slots.{raised-is}
-use Rattle.threading_tree.proofs.increment_count.Statement.{statement}
-use Rattle.threading_tree.proofs.increment_count.Tie as tie
+use Rattle.threading_node.specs.Slots.{raised-is}
+use Rattle.threading_node.proofs.increment_count.Statement.{statement}
+use Rattle.threading_node.proofs.increment_count.Tie as tie
 
 mul-c : tie.Need-mul-c
 mul-c c = search needs

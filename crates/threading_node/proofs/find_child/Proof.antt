@@ -1,8 +1,8 @@
 use Prim.Native.Nat.{_^_}
-use Rattle.threading_tree.specs.Ends.{ends}
-use Rattle.threading_tree.specs.Cells.{Seeking, seeking-start, seeking-end, seeking-met, left, stops-before, stops-there, goes-on, gets-less}
-use Rattle.threading_tree.proofs.find_child.Statement.{statement}
-use Rattle.threading_tree.proofs.find_child.Tie as tie
+use Rattle.threading_node.specs.Ends.{ends}
+use Rattle.threading_node.specs.Cells.{Seeking, seeking-start, seeking-end, seeking-met, left, stops-before, stops-there, goes-on, gets-less}
+use Rattle.threading_node.proofs.find_child.Statement.{statement}
+use Rattle.threading_node.proofs.find_child.Tie as tie
 
 abbrev Inv-loop : tie.InvT-loop
 Inv-loop nodes start a b prev₀ at₀ prev at = Seeking nodes start (ends a b) prev at

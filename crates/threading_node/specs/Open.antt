@@ -4,15 +4,15 @@ use Prim.Native.Nat.{ℕ, suc, _+_, _^_, _<_, _≤_, Ordering, Ordering·lt, Ord
 use mathlib.Core.List.{List, [], _∷_}
 use native.Mathlib.Omega.{arith}
 use Rattle.definition.specs.Threading.{Ends, compareEnds}
-use Rattle.threading_tree.specs.Ends.{ends, eq-self, eq-same, eqEnds-false, lt-ne, lt-trans}
-use Rattle.threading_tree.specs.Nodes.{Nodes, node, seekN, landed, At, here, down, along, kidsAt, Rising, at-above}
-use Rattle.threading_tree.specs.Rows.{seekN-eq, seekN-gt, Found}
-use Rattle.threading_tree.specs.Good.{Good, good-bumped, child-found, landed-here}
-use Rattle.threading_tree.specs.Slots.{cols, told, Slot, Beyond, raised, raised-beyond, bumped-root, root-under}
-use Rattle.threading_tree.specs.Take.{Wide, wide-slot, Spare, Ready, Went, Full, After, Taken}
-use Rattle.threading_tree.specs.declared.Place.the-variants.{Here}
-use Rattle.threading_tree.specs.declared.Step.{Step}
-use Rattle.threading_tree.specs.declared.Step.the-variants.{Next, Refused}
+use Rattle.threading_node.specs.Ends.{ends, eq-self, eq-same, eqEnds-false, lt-ne, lt-trans}
+use Rattle.threading_node.specs.Nodes.{Nodes, node, seekN, landed, At, here, down, along, kidsAt, Rising, at-above}
+use Rattle.threading_node.specs.Rows.{seekN-eq, seekN-gt, Found}
+use Rattle.threading_node.specs.Good.{Good, good-bumped, child-found, landed-here}
+use Rattle.threading_node.specs.Slots.{cols, told, Slot, Beyond, raised, raised-beyond, bumped-root, root-under}
+use Rattle.threading_node.specs.Take.{Wide, wide-slot, Spare, Ready, Went, Full, After, Taken}
+use Rattle.threading_node.specs.declared.Place.the-variants.{Here}
+use Rattle.threading_node.specs.declared.Step.{Step}
+use Rattle.threading_node.specs.declared.Step.the-variants.{Next, Refused}
 
 -- a slot told as the root of v is that root's; 0 tells nothing
 abbrev pub RootAt : ℕ → ℕ → Nodes → Type 0

@@ -8,10 +8,10 @@ use native.Mathlib.Decide.{ℕ-discrete}
 use lib.ListN.{length, getD, length-set}
 use lib.Seq.{getD-set-other}
 use Rattle.laws.specs.Records.{field, putField, putFrom, field-same, field-other, row-other, length-putFrom, putFrom-row, putFrom-at}
-use Rattle.threading_tree.specs.Ends.{ends}
-use Rattle.threading_tree.specs.Nodes.{Fields}
-use Rattle.threading_tree.specs.Table.{Agree, Gained}
-use Rattle.threading_tree.specs.Rows.{Bumped, Added}
+use Rattle.threading_node.specs.Ends.{ends}
+use Rattle.threading_node.specs.Nodes.{Fields}
+use Rattle.threading_node.specs.Table.{Agree, Gained}
+use Rattle.threading_node.specs.Rows.{Bumped, Added}
 
 abbrev pub cols : List ℕ → Fields
 cols x =

@@ -1,8 +1,8 @@
-use Rattle.threading_tree.specs.Ends.{ends}
-use Rattle.threading_tree.specs.Take.{number-fits, node-slot, node-spare, rowed, taken-full, child-slot, child-spare, code-here, new-slot, gap-fits, new-fits, parent-slot, parent-spare, link-slot, sibling-slot, code-gap}
+use Rattle.threading_node.specs.Ends.{ends}
+use Rattle.threading_node.specs.Take.{number-fits, node-slot, node-spare, rowed, taken-full, child-slot, child-spare, code-here, new-slot, gap-fits, new-fits, parent-slot, parent-spare, link-slot, sibling-slot, code-gap}
 use borrow.Author.Needs.{needs}
-use Rattle.threading_tree.proofs.add_edge.Statement.{statement}
-use Rattle.threading_tree.proofs.add_edge.Tie as tie
+use Rattle.threading_node.proofs.add_edge.Statement.{statement}
+use Rattle.threading_node.proofs.add_edge.Tie as tie
 
 first-child-requires : tie.Need-first-child-requires
 first-child-requires c κs = node-slot _ _ _ _ (ends (c .before .before .args .a) (c .before .before .args .b)) _ (c .before .before .pre)

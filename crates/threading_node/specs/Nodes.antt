@@ -5,11 +5,11 @@ use Prim.Native.Nat.{ℕ, suc, _+_, _<_, _≤_, Ordering, Ordering·lt, Ordering
 use mathlib.Core.Bool.{Bool, true, false, cond}
 use mathlib.Core.List.{List, [], _∷_, _++_}
 use Rattle.definition.specs.Threading.{Ends, compareEnds, eqEnds}
-use Rattle.threading_tree.specs.Ends.{lt-trans, gt-lt, lt-ne, eq-same, eqEnds-self, eqEnds-ne}
+use Rattle.threading_node.specs.Ends.{lt-trans, gt-lt, lt-ne, eq-same, eqEnds-self, eqEnds-ne}
 use Rattle.laws.specs.Lists.{isEmpty}
 use Rattle.definition.specs.Evidence.{Branches, bare, branch}
-use Rattle.threading_tree.specs.declared.Place.{Place}
-use Rattle.threading_tree.specs.declared.Place.the-variants.{Here, Gap}
+use Rattle.threading_node.specs.declared.Place.{Place}
+use Rattle.threading_node.specs.declared.Place.the-variants.{Here, Gap}
 
 -- number, edge, count, the branches below, the branches after
 pub data Nodes : Type 0 where

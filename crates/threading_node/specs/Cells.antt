@@ -7,12 +7,12 @@ use native.Mathlib.Omega.{arith}
 use native.Mathlib.Nat.{mul-le-mul-right, suc-mul}
 use lib.ListN.{getD}
 use Rattle.definition.specs.Threading.{Ends, compareEnds}
-use Rattle.threading_tree.specs.Ends.{ends, Less, lt-less, less-lt, less-gt, same-eq, ends-path, compare-named}
-use Rattle.threading_tree.specs.Nodes.{Nodes, nil, node, seekN, Above, Rising}
-use Rattle.threading_tree.specs.Rows.{seekN-lt, seekN-eq, seekN-gt}
-use Rattle.threading_tree.specs.Slots.{cols, Slot, every-from, every-to}
-use Rattle.threading_tree.specs.declared.Place.{Place}
-use Rattle.threading_tree.specs.declared.Place.the-variants.{Here, Gap}
+use Rattle.threading_node.specs.Ends.{ends, Less, lt-less, less-lt, less-gt, same-eq, ends-path, compare-named}
+use Rattle.threading_node.specs.Nodes.{Nodes, nil, node, seekN, Above, Rising}
+use Rattle.threading_node.specs.Rows.{seekN-lt, seekN-eq, seekN-gt}
+use Rattle.threading_node.specs.Slots.{cols, Slot, every-from, every-to}
+use Rattle.threading_node.specs.declared.Place.{Place}
+use Rattle.threading_node.specs.declared.Place.the-variants.{Here, Gap}
 
 -- ---- a comparison as a number
 

@@ -1,7 +1,7 @@
-use Rattle.threading_tree.specs.Open.{ready, opened-new, root-slot, root-spare, opened-there}
+use Rattle.threading_node.specs.Open.{ready, opened-new, root-slot, root-spare, opened-there}
 use borrow.Author.Needs.{needs}
-use Rattle.threading_tree.proofs.get_and_increment_root.Statement.{statement}
-use Rattle.threading_tree.proofs.get_and_increment_root.Tie as tie
+use Rattle.threading_node.proofs.get_and_increment_root.Statement.{statement}
+use Rattle.threading_node.proofs.get_and_increment_root.Tie as tie
 
 increment-count-requires : tie.Need-increment-count-requires
 increment-count-requires c κs = (root-slot _ _ _ _ _ (c .before .before .before .pre) (c .before .if1 .taken), root-spare _ _ _ _ _ (c .before .before .before .pre) (c .before .if1 .taken))

@@ -1,8 +1,8 @@
 use mathlib.Core.Logic.{inl, inr}
 use native.Mathlib.Omega.{arith}
-use Rattle.threading_tree.specs.Cells.{rank-is-0, rank-is-1, rank-is-2}
-use Rattle.threading_tree.proofs.order.Statement.{statement}
-use Rattle.threading_tree.proofs.order.Tie as tie
+use Rattle.threading_node.specs.Cells.{rank-is-0, rank-is-1, rank-is-2}
+use Rattle.threading_node.proofs.order.Statement.{statement}
+use Rattle.threading_node.proofs.order.Tie as tie
 
 returns : tie.Need-returns
 returns c = rank-is-0 (c .before .args .a) (c .before .args .b) (c .before .args .c) (c .before .args .d) (inl (c .if1 .taken))

@@ -5,10 +5,10 @@ use Prim.Native.Nat.{ℕ, suc, _+_, _<_, _≤_, Ordering, Ordering·lt, Ordering
 use mathlib.Core.List.{List, [], _∷_, _++_, append-assoc}
 use native.Mathlib.Omega.{arith}
 use Rattle.definition.specs.Threading.{Ends, compareEnds}
-use Rattle.threading_tree.specs.Ends.{ends-path, gt-lt, lt-ne, eq-same}
-use Rattle.threading_tree.specs.Nodes.{Nodes, nil, node, reachN, seekN, headLink, Above, Rising, Fields, Cell, Links, Own, reachN-eq, reachN-gt, above-less}
-use Rattle.threading_tree.specs.Table.{long-not, Agree, Off, Gained, NotPre, frame, cell-same, cell-gained}
-use Rattle.threading_tree.specs.declared.Place.the-variants.{Here, Gap}
+use Rattle.threading_node.specs.Ends.{ends-path, gt-lt, lt-ne, eq-same}
+use Rattle.threading_node.specs.Nodes.{Nodes, nil, node, reachN, seekN, headLink, Above, Rising, Fields, Cell, Links, Own, reachN-eq, reachN-gt, above-less}
+use Rattle.threading_node.specs.Table.{long-not, Agree, Off, Gained, NotPre, frame, cell-same, cell-gained}
+use Rattle.threading_node.specs.declared.Place.the-variants.{Here, Gap}
 
 -- ---- the cases of a search, as laws
 

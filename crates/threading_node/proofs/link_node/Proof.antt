@@ -1,7 +1,7 @@
 use borrow.Author.Needs.{needs}
-use Rattle.threading_tree.specs.Slots.{linked-first, linked-later}
-use Rattle.threading_tree.proofs.link_node.Statement.{statement}
-use Rattle.threading_tree.proofs.link_node.Tie as tie
+use Rattle.threading_node.specs.Slots.{linked-first, linked-later}
+use Rattle.threading_node.proofs.link_node.Statement.{statement}
+use Rattle.threading_node.proofs.link_node.Tie as tie
 
 cast-nodes : tie.Need-cast-nodes
 cast-nodes c = search needs

@@ -1,9 +1,9 @@
 use native.Mathlib.Omega.{arith}
 use lib.ListN.{length-set}
 use borrow.Author.Needs.{needs}
-use Rattle.threading_tree.specs.Slots.{placed-is}
-use Rattle.threading_tree.proofs.put_node.Statement.{statement}
-use Rattle.threading_tree.proofs.put_node.Tie as tie
+use Rattle.threading_node.specs.Slots.{placed-is}
+use Rattle.threading_node.proofs.put_node.Statement.{statement}
+use Rattle.threading_node.proofs.put_node.Tie as tie
 
 mul-nodes : tie.Need-mul-nodes
 mul-nodes c = search needs

@@ -8,11 +8,11 @@ use native.Mathlib.Nat.{zero-add}
 use lib.Dec.{eqb}
 use borrow.Author.Tests.{eq-eqb, ne-eqb}
 use Rattle.definition.specs.Threading.{Ends, compareEnds}
-use Rattle.threading_tree.specs.Ends.{eqEnds-self}
-use Rattle.threading_tree.specs.Nodes.{Nodes, nil, node, size, reachN, takeN, seekN, headLink, landed, At, here, down, along, kidsAt, Rising, Fields, Links, Own, takeN-here, takeN-down, takeN-along, rising-take}
-use Rattle.threading_tree.specs.Table.{Agree, Res, links-take}
-use Rattle.threading_tree.specs.Rows.{Found, Bumped, Added, Stopped, head, inside, none, some, seek-here, seek-gap, bumped-off, row-bumped, added-off, row-added, seekN-lt, seekN-eq, seekN-gt, gap-here, here-same}
-use Rattle.threading_tree.specs.declared.Place.the-variants.{Here, Gap}
+use Rattle.threading_node.specs.Ends.{eqEnds-self}
+use Rattle.threading_node.specs.Nodes.{Nodes, nil, node, size, reachN, takeN, seekN, headLink, landed, At, here, down, along, kidsAt, Rising, Fields, Links, Own, takeN-here, takeN-down, takeN-along, rising-take}
+use Rattle.threading_node.specs.Table.{Agree, Res, links-take}
+use Rattle.threading_node.specs.Rows.{Found, Bumped, Added, Stopped, head, inside, none, some, seek-here, seek-gap, bumped-off, row-bumped, added-off, row-added, seekN-lt, seekN-eq, seekN-gt, gap-here, here-same}
+use Rattle.threading_node.specs.declared.Place.the-variants.{Here, Gap}
 
 -- the table with n nodes holds the numbered tree t
 pub record Good (f : Fields) (n : ℕ) (t : Nodes) : Type 0 where

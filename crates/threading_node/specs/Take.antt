@@ -6,18 +6,18 @@ use native.Mathlib.Omega.{arith}
 use native.Mathlib.Numerals.{add-one}
 use lib.ListN.{length}
 use Rattle.definition.specs.Threading.{Ends, compareEnds}
-use Rattle.threading_tree.specs.Ends.{ends}
-use Rattle.threading_tree.specs.Nodes.{Nodes, nil, node, size, takeN, seekN, landed, At, kidsAt, Fields, Links}
-use Rattle.threading_tree.specs.Table.{long-not}
-use Rattle.threading_tree.specs.Rows.{Bumped, Added, Stopped, head, inside, seek-gap, seekN-lt, seekN-eq, seekN-gt, gap-here, gap-before}
-use Rattle.threading_tree.specs.Good.{Good, row-of, row-owned, row-rising, slot-live, mine, child-found, good-bumped, good-added, landed-here, landed-gap, size-take, size-gap}
-use Rattle.threading_tree.specs.Slots.{cols, told, Slot, Beyond, raised, placed, linked, raised-length, raised-count, placed-length, placed-off, bumped-of, bumped-under, bumped-beyond, added-of, added-under, added-beyond}
-use Rattle.threading_tree.specs.Cells.{Row, Rowed, Sought}
-use Rattle.threading_tree.specs.declared.Place.{Place}
-use Rattle.threading_tree.specs.declared.Place.the-variants.{Here, Gap}
-use Rattle.threading_tree.specs.declared.Reached.{Reached}
-use Rattle.threading_tree.specs.declared.Step.{Step}
-use Rattle.threading_tree.specs.declared.Step.the-variants.{Next, Refused}
+use Rattle.threading_node.specs.Ends.{ends}
+use Rattle.threading_node.specs.Nodes.{Nodes, nil, node, size, takeN, seekN, landed, At, kidsAt, Fields, Links}
+use Rattle.threading_node.specs.Table.{long-not}
+use Rattle.threading_node.specs.Rows.{Bumped, Added, Stopped, head, inside, seek-gap, seekN-lt, seekN-eq, seekN-gt, gap-here, gap-before}
+use Rattle.threading_node.specs.Good.{Good, row-of, row-owned, row-rising, slot-live, mine, child-found, good-bumped, good-added, landed-here, landed-gap, size-take, size-gap}
+use Rattle.threading_node.specs.Slots.{cols, told, Slot, Beyond, raised, placed, linked, raised-length, raised-count, placed-length, placed-off, bumped-of, bumped-under, bumped-beyond, added-of, added-under, added-beyond}
+use Rattle.threading_node.specs.Cells.{Row, Rowed, Sought}
+use Rattle.threading_node.specs.declared.Place.{Place}
+use Rattle.threading_node.specs.declared.Place.the-variants.{Here, Gap}
+use Rattle.threading_node.specs.declared.Reached.{Reached}
+use Rattle.threading_node.specs.declared.Step.{Step}
+use Rattle.threading_node.specs.declared.Step.the-variants.{Next, Refused}
 
 abbrev pub stepRefusal : Step → ℕ
 stepRefusal (Next st) = 0

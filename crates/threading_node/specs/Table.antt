@@ -6,9 +6,9 @@ use mathlib.Core.List.{List, [], _∷_, _++_, append-assoc}
 use native.Mathlib.Omega.{arith}
 use lib.ListN.{length, length-append}
 use Rattle.definition.specs.Threading.{Ends}
-use Rattle.threading_tree.specs.Ends.{lt-ne, eqEnds-self, eqEnds-false}
+use Rattle.threading_node.specs.Ends.{lt-ne, eqEnds-self, eqEnds-false}
 use Rattle.laws.specs.Lists.{isEmpty}
-use Rattle.threading_tree.specs.Nodes.{Nodes, nil, node, reachN, takeN, At, here, down, along, kidsAt, Above, Rising, Fields, Cell, Links, Own, takeN-here, takeN-down, takeN-along}
+use Rattle.threading_node.specs.Nodes.{Nodes, nil, node, reachN, takeN, At, here, down, along, kidsAt, Above, Rising, Fields, Cell, Links, Own, takeN-here, takeN-down, takeN-along}
 
 -- ---- lists
 

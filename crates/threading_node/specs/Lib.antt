@@ -1,0 +1,11 @@
+pub mod Ends
+pub mod Nodes
+pub mod Table
+pub mod Rows
+pub mod Good
+pub mod Slots
+pub mod Cells
+pub mod Take
+pub mod Open
+pub mod Fit
+pub mod Front
