@@ -5,6 +5,8 @@ use graph_work::raise_graph;
 use graph_work::raise_refusal;
 use junction_kbest::Search;
 use junction_kbest::find_junction_best_haplotypes;
+use limits::GraphMaxima;
+use limits::SearchMaxima;
 use list_interface::ListAnswer;
 use list_interface::Settings;
 use list_interface::found_answer;
@@ -69,7 +71,7 @@ fn search_list(
         Sought a (now (reference .entry)) (now (bases .entry)) (now (column .entry)) tables b r outputs written) ⌝ }
 {
     let size = a.k as usize;
-    let most = a.search;
+    let most: SearchMaxima = a.search;
     let stride = most.path_edges as usize;
     let g = search_setting(a, b);
     lay_chains(b, vertices, edges, index, targets);
@@ -161,7 +163,7 @@ pub fn work(
         let written = outputsOf (now («row_scores» .exit)) (now («row_closings» .exit)) (now («row_edges» .exit)) (now («out_bases» .exit)) (now (sequences .exit)) (now (places .exit)) in
         Listed input (found input) r outputs written) ⌝ }
 {
-    let maxima = a.graph;
+    let maxima: GraphMaxima = a.graph;
     let size = maxima.vertices as usize;
     let r = raise_graph(
         a.k,
