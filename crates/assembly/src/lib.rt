@@ -35,7 +35,7 @@ const INS: usize = 9;
 
 const INTO: usize = 10;
 
-// Where the fields of an edge stand: its ends, which others read too,
+// Where the fields of an edge stand: its ends, its support and its mark.
 pub const FROM: usize = 0;
 
 pub const TO: usize = 1;

@@ -8,6 +8,10 @@ use Rattle.laws.specs.Records.{field}
 abbrev pub HasOffer : List ℕ → ℕ → Type 0
 HasOffer out i = i * 4 + 4 ≤ length out
 
+-- the table has the first k rows
+abbrev pub HasOffers : List ℕ → ℕ → Type 0
+HasOffers out k = k * 4 ≤ length out
+
 -- the number of the edge
 abbrev pub offerEdge : List ℕ → ℕ → ℕ
 offerEdge out i = field out 4 i 0

@@ -6,6 +6,7 @@ use native.Mathlib.Omega.{arith}
 use lib.ListN.{length, getD}
 use Rattle.laws.specs.Rows.{rows-none}
 use Rattle.definition.specs.Threading.{numberOf}
+use Rattle.tables.specs.Widths.{kmerNumbers}
 use Rattle.junction_tree_graph.specs.declared.Most.{Most}
 use Rattle.junction_tree_graph.specs.declared.At.{At}
 use Rattle.junction_tree_graph.specs.declared.Step.{Step}
@@ -27,7 +28,7 @@ Keeps k text vs idx most (Refused n) = Unit {0}
 
 -- an index as it is lent: two numbers a vertex, all zero
 pub record Fresh (n : ℕ) (idx : List ℕ) : Type 0 where
-  pub size : length idx ≡ n * 2
+  pub size : length idx ≡ kmerNumbers n
   pub zero : (i : ℕ) → getD idx i 0 ≡ 0
 
 module _ (k : ℕ) (text vs idx : List ℕ) (most : Most) (r : Step) where

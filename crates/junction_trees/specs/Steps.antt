@@ -11,6 +11,7 @@ use lib.ListN.{length}
 use borrow.Author.Tests.{eq-eqb, ne-eqb}
 use Rattle.definition.specs.Threading.{Ends, Graph, leaving}
 use Rattle.definition.specs.Evidence.{Walk, takeEdge, pass, walkBases, nodes}
+use Rattle.tables.specs.Widths.{openNumbers}
 use Rattle.assembly.specs.Fields.{HasVertex, treeRoot, putTreeRoot, HasEdges, HasEdge, edgeFrom, edgeTo}
 use Rattle.assembly.specs.Store.{edgeAt, edgesOf, Good}
 use Rattle.threading_node.specs.Ends.{ends}
@@ -74,7 +75,7 @@ bound-fits p o h q = let a : p * suc p ≤ 33792 * suc p = mul-le-mul-right (suc
 pub record Frame (d : Ground) (vs vs' x x' op op' : List ℕ) : Type 0 where
   pub kept : Kept (d .vertices) vs vs'
   pub beyond : Beyond (told (d .most)) x x'
-  pub beyond-open : Beyond (d .most * 2) op op'
+  pub beyond-open : Beyond (openNumbers (d .most)) op op'
 
 pub frame-self : (d : Ground) (vs x op : List ℕ) → Frame d vs vs x x op op
 frame-self d vs x op = record { kept = kept-self (d .vertices) vs; beyond = λ i h. refl; beyond-open = λ i h. refl }
@@ -256,7 +257,7 @@ EndedTo d v w p vs x op (Refused r) = (r ≡ 9) × (d .most < many (endOf d v w)
 pub record Ended (d : Ground) (s : Way) (x x' op op' : List ℕ) (r : Walked) : Type 0 where
   pub is : (w : Walk) (p : ℕ) (vs : List ℕ) → State d w p (s .nodes) (s .groups) vs x op → EndedTo d (s .here) w p vs x' op' r
   pub beyond : Beyond (told (d .most)) x x'
-  pub beyond-open : Beyond (d .most * 2) op op'
+  pub beyond-open : Beyond (openNumbers (d .most)) op op'
 
 module _ {d : Ground} {s : Way} {x op : List ℕ} (q : Ending d s x op) where
   pub end-stays : (s .here ≡ d .sink → ⊥) → Ended d s x x op op (Next s)
@@ -276,7 +277,7 @@ module _ {d : Ground} {s : Way} {x op : List ℕ} (q : Ending d s x op) where
   end-to-fits = let f = q .few in omega arith
 
   module _ (h : s .here ≡ d .sink) (x' op' : List ℕ) (r : Grown) (t : TookAll (d .most) (s .nodes) (s .groups) (ends (d .sink) (d .vertices)) x x' op op' r) where
-    far : Beyond (d .most * 2) op op'
+    far : Beyond (openNumbers (d .most)) op op'
     far i j =
         let a = held-few (q .walk) (d .most) (s .nodes) (s .groups) (q .steps * suc (q .steps)) (rootOf (q .roots)) x op (q .state .held) (ends (d .sink) (d .vertices)) in
         t .beyond-open i (omega arith)

@@ -18,7 +18,7 @@ use Rattle.definition.specs.Stretch.{stretches}
 use Rattle.definition.specs.Threading.{Graph, threaded, symbolicOf, withSymbolic}
 use Rattle.definition.specs.Evidence.{evidence, nodes}
 use Rattle.assembly.specs.Fields.{HasVertices}
-use Rattle.tables.specs.Widths.{vertexNumbers, edgeNumbers}
+use Rattle.tables.specs.Widths.{vertexNumbers, edgeNumbers, openNumbers}
 use Rattle.assembly.specs.Store.{graphOf}
 use Rattle.assembly.specs.Kmers.{length-of}
 use Rattle.junction_tree_graph.specs.declared.Built.{Built}
@@ -46,7 +46,7 @@ pub record Gathers (s : Sample) (vs es x op : List ℕ) (b : Built) (most : ℕ)
   pub built : BuiltAt s vertices edges vs es (b .vertices) (b .edges) (b .sink)
   pub few : most < 2 ^ 32
   pub room : told most ≤ length x
-  pub room-open : most * 2 ≤ length op
+  pub room-open : openNumbers most ≤ length op
   pub zero-x : (i : ℕ) → i < told most → getD x i 0 ≡ 0
 
 -- the tables hold the definition's trees, with nothing open; field 11 of a vertex's record is the slot of its root
@@ -70,7 +70,7 @@ pub record Gathered (s : Sample) (vs vs' x x' op op' : List ℕ) (b : Built) (mo
   -- the graph's tables have changed in field 11 of the vertices' records alone
   pub kept : Kept (b .vertices) vs vs'
   pub beyond : Beyond (told most) x x'
-  pub beyond-open : Beyond (most * 2) op op'
+  pub beyond-open : Beyond (openNumbers most) op op'
 
 -- so the graph that was built stands there still
 pub built-kept : {s : Sample} {v e : ℕ} {vs vs' es : List ℕ} {n m sink : ℕ} → Kept n vs vs' → BuiltAt s v e vs es n m sink → BuiltAt s v e vs' es n m sink

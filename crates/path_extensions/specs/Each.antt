@@ -15,6 +15,7 @@ use Rattle.definition.specs.Limits.{columnFits}
 use Rattle.definition.specs.Score.{columnScoring}
 use Rattle.definition.specs.Evidence.{Branches}
 use Rattle.definition.specs.Search.{SearchInput, Path, Offer, extend, repeatRule}
+use Rattle.fork_offers.specs.Fields.{HasOffers}
 use Rattle.fork_offers.specs.Rows.{offerAt, offersOf, Few}
 use Rattle.path_store.specs.declared.growth.Taken.{Taken}
 use Rattle.path_store.specs.Cells.{HasPaths, sinceOf}
@@ -48,7 +49,7 @@ pub record OffersStand (g : Setting) (es x index targets : List ℕ) (column : L
   pub rooms : Rooms g t sc ac n
   pub fits : columnFits column ≡ true
   pub few : k ≤ 6
-  pub inside : k * 4 ≤ length out
+  pub inside : HasOffers out k
   pub edges : Few (g .edges) out k
 
 -- the extensions of a fork: each offer's, then those that the repeat rule keeps

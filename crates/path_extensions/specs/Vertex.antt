@@ -22,6 +22,7 @@ use Rattle.assembly.specs.Outs.{Slots, Names, Nexts, outFrom}
 use Rattle.threading_node.specs.Ends.{ends}
 use Rattle.pivotal_edges.specs.Walk.{leaving-from, next-asks, next-is, next-none, next-some, next-in, next-row, next-fits, next-again}
 use Rattle.pivotal_edges.specs.Walk as outs
+use Rattle.fork_offers.specs.Fields.{HasOffers}
 use Rattle.fork_offers.specs.Actives.{Actives}
 use Rattle.fork_offers.specs.Rows.{offerAt, offersOf, Few}
 use Rattle.fork_offers.specs.Offers.{Forks, Offers, smalls-of}
@@ -154,7 +155,7 @@ module _ {g : Setting} {vs es x t : List ℕ} {sc : List Float} {ac out : List �
         small-support : (a : ℕ) → a ≤ 65535 → a < 2 ^ 32
         small-support a h = omega arith
 
-        rowed : (a : ℕ) → a ≤ 6 → a * 4 ≤ length out
+        rowed : (a : ℕ) → a ≤ 6 → HasOffers out a
         rowed a h = let r = L .rows in omega arith
 
     module _ {out′ : List ℕ} {r : ℕ} (O : Offers es (g .edges) (g .cap) (g .nodes) x ac (p * g .active) (p * g .active + k) v (ends (g .sink) (g .symbolic)) (g .least) out′ r) where

@@ -12,6 +12,7 @@ use Rattle.laws.specs.ListLaws.{and-left, and-right}
 use Rattle.laws.specs.Numbers.{within}
 use Rattle.definition.specs.Refusal.{firstBroken}
 use Rattle.definition.specs.Limits.{GraphMaxima, SearchMaxima, kFits, graphMaximaFit, searchMaximaFit, settingsFit, lengthsRules}
+use Rattle.tables.specs.Widths.{queuedNumbers, offerNumbers}
 use Rattle.limits.specs.Rules.{none-broken}
 use Rattle.slice_lengths.specs.Workspaces.{openTrees, pathWalks}
 
@@ -74,8 +75,8 @@ module _ (asked : ℕ) (g : GraphMaxima) (s : SearchMaxima) (most : InLimits ask
 
   pub walk-places : pathWalks asked g s ≤ 524288
   walk-places =
-      max-le (openTrees g) (max (g .edges * 2) (max 32 (asked * s .pathEdges))) 524288 (omega (arith, most .nodes-most))
-      (max-le (g .edges * 2) (max 32 (asked * s .pathEdges)) 524288 (omega (arith, most .edges-most)) (max-le 32 (asked * s .pathEdges) 524288 (omega arith) path-places))
+      max-le (openTrees g) (max (queuedNumbers (g .edges)) (max offerNumbers (asked * s .pathEdges))) 524288 (omega (arith, most .nodes-most))
+      (max-le (queuedNumbers (g .edges)) (max offerNumbers (asked * s .pathEdges)) 524288 (omega (arith, most .edges-most)) (max-le offerNumbers (asked * s .pathEdges) 524288 (omega arith) path-places))
 
   -- so the code's products do not wrap
   pub active-fits : Fits w64 ((s .pushes + asked + 8) * s .active)
