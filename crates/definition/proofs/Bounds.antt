@@ -1,25 +1,24 @@
 -- What an accepted answer stays within: rows, edges of a path, pushes, and the longest waiting list.
-use mathlib.Core.Path.{_≡_, refl, sym, ap, subst, _∙_}
+use mathlib.Core.Path.{_≡_, refl, ap, _∙_}
 use mathlib.Core.Logic.{inl, inr}
-use Prim.Native.Nat.{ℕ, zero, suc, _+_, _≤_, _<_}
+use Prim.Native.Nat.{ℕ, suc, _+_, _≤_, _<_}
 use native.Mathlib.Omega.{arith}
-use mathlib.Core.Bool.{Bool, true, false}
-use mathlib.Core.List.{List, [], _∷_, map}
-use mathlib.Core.Option.{none, some}
-use lib.Dec.{leb, ltb}
+use mathlib.Core.Bool.{Bool}
+use mathlib.Core.List.{List, [], map}
+use mathlib.Core.Option.{some}
 use lib.ListN.{length, length-append, length-map}
-use borrow.Author.Tests.{ltb-true, leb-false}
 use Rattle.laws.specs.Insertion.{length-sorted}
 use Rattle.laws.specs.ListLaws.{All, nil, all-map}
 use Rattle.definition.specs.Score.{Scoring}
 use Rattle.definition.specs.Limits.{Input}
-use Rattle.definition.specs.Search.{SearchInput, Path, State, Made, atEnd, broken, made, Turn, more, ended, failed, full, wait, push, pushAll, advance, pushMade, turn, run, firstState, search}
+use Rattle.definition.specs.Search.{SearchInput, Path, State, made, wait, push, advance, firstState, search}
 use Rattle.definition.specs.Building.{Built}
 use Rattle.definition.specs.Listing.{searchInput, Row, rowOf, above, listOrder}
-use Rattle.definition.proofs.Runs.{length-wait, run-ended, run-failed, run-full}
+use Rattle.definition.proofs.Runs.{length-wait, all-wait}
 use Rattle.definition.proofs.Order.{Keeps}
-use Rattle.definition.proofs.Walks.{GoodState, advance-made}
-use Rattle.definition.proofs.Turns.{lastOf, turn-more, turn-ended, first-good}
+use Rattle.definition.proofs.Walks.{Good, GoodState, advance-made}
+use Rattle.definition.proofs.Turns.{lastOf, first-good}
+use Rattle.definition.proofs.Along.{run-along}
 use Rattle.definition.proofs.Found.{Listing, all-listed, found-good}
 
 -- the waiting list is no longer than it has been, that is no more than the pushes, and they are within the limit; no more have closed than are asked
@@ -30,64 +29,36 @@ pub record Counted {S : Type 0} (asked limit : ℕ) (s : State S) : Type 0 where
   pub closed : length (s .closed) ≤ asked
 
 module _ {S : Type 0} {𝓢 : Scoring S} {Fine : S → Type 0} (K : Keeps 𝓢 Fine) (f : SearchInput) (asked limit : ℕ) where
-  pushed-counted : (ps : List (Path S)) (s s′ : State S) → Counted asked limit s → pushAll 𝓢 limit ps s ≡ more s′ → Counted asked limit s′
-  unfolding pushAll push
-  pushed-counted [] s s′ c t = let e : s ≡ s′ = cc in subst (Counted asked limit) e c
-  pushed-counted (p ∷ ps) s s′ c t = go (ltb (s .pushes) limit) refl (pushed-counted ps (push 𝓢 p s) s′)
-    where
-      go : (b : Bool) → ltb (s .pushes) limit ≡ b → (Counted asked limit (push 𝓢 p s) → pushAll 𝓢 limit ps (push 𝓢 p s) ≡ more s′ → Counted asked limit s′)
-          → Counted asked limit s′
-      go false e ih = let h : full s (p ∷ ps) ≡ more s′ = rw (e, pushAll) at t in let z : _≡_ {A = ℕ} 0 1 = cc in absurd (omega arith)
-      go true e ih =
-          let h : s .pushes < limit = ltb-true (s .pushes) limit e in
-          let l : length (wait 𝓢 p (s .waiting)) ≡ suc (length (s .waiting)) = length-wait 𝓢 p (s .waiting) in
-          let w : length (s .waiting) ≤ s .longest = c .waiting in
-          let m : s .longest ≤ s .pushes = c .longest in
-          ih (record { waiting = omega arith; longest = omega arith; pushes = omega arith; closed = c .closed }) (rw (e, pushAll) at t)
+  push-counted : (p : Path S) (s : State S) → s .pushes < limit → GoodState Fine f s × Counted asked limit s → Good Fine f p → GoodState Fine f (push 𝓢 p s) × Counted asked limit (push 𝓢 p s)
+  unfolding push
+  push-counted p s h (g, c) gp =
+      let l : length (wait 𝓢 p (s .waiting)) ≡ suc (length (s .waiting)) = length-wait 𝓢 p (s .waiting) in
+      let w : length (s .waiting) ≤ s .longest = c .waiting in
+      let m : s .longest ≤ s .pushes = c .longest in (
+        record { waiting = all-wait 𝓢 p gp (g .waiting); closed = g .closed; pivotal = g .pivotal },
+        record { waiting = omega arith; longest = omega arith; pushes = omega arith; closed = c .closed },
+      )
 
-  turn-counted : (s s′ : State S) → GoodState Fine f s → Counted asked limit s → turn 𝓢 f asked limit s ≡ more s′ → Counted asked limit s′
-  unfolding turn pushMade
-  turn-counted s s′ g c t = go (leb asked (length (s .closed))) refl
-    where
-      after : (m : Made S) → length (s .closed) < asked → advance 𝓢 f s (s .waiting) (s .pivotal) ≡ m → pushMade 𝓢 limit s m ≡ more s′ → Counted asked limit s′
-      after atEnd k e h = let z : _≡_ {A = ℕ} 0 1 = cc in absurd (omega arith)
-      after (broken n) k e h = let z : _≡_ {A = ℕ} 0 1 = cc in absurd (omega arith)
-      after (made s₁ ps) k e h =
-          let r = advance-made K f s s₁ (s .waiting) (s .pivotal) ps refl refl g e in
-          let l : length (s₁ .closed) ≡ length (s .closed) + length (r .extra) = ap length (r .closed) ∙ length-append (s .closed) (r .extra) in
-          let x : length (r .extra) ≤ 1 = r .few in
-          let u : s₁ .pushes ≡ s .pushes = r .pushes in
-          let v : s₁ .longest ≡ s .longest = r .longest in
-          let y : length (s₁ .waiting) ≤ length (s .waiting) = r .fewer in
-          let a : length (s .waiting) ≤ s .longest = c .waiting in
-          let b : s .longest ≤ s .pushes = c .longest in
-          let d : s .pushes ≤ limit = c .pushes in
-          pushed-counted ps s₁ s′ (record { waiting = omega arith; longest = omega arith; pushes = omega arith; closed = omega arith }) h
-
-      go : (b : Bool) → leb asked (length (s .closed)) ≡ b → Counted asked limit s′
-      go true e = let h : ended s ≡ more s′ = rw (e, turn) at t in let z : _≡_ {A = ℕ} 0 1 = cc in absurd (omega arith)
-      go false e = after (advance 𝓢 f s (s .waiting) (s .pivotal)) (leb-false asked (length (s .closed)) e) refl (rw (e, turn) at t)
-
-  run-counted : (n : ℕ) (s s′ : State S) → GoodState Fine f s → Counted asked limit s → lastOf (run 𝓢 f asked limit n (more s)) ≡ some s′ → Counted asked limit s′
-  unfolding run
-  run-counted zero s s′ g c t = let e : s ≡ s′ = cc in subst (Counted asked limit) e c
-  run-counted (suc n) s s′ g c t = go (turn 𝓢 f asked limit s) refl t (λ x gx cx h. run-counted n x s′ gx cx h)
-    where
-      go : (u : Turn S) → turn 𝓢 f asked limit s ≡ u → lastOf (run 𝓢 f asked limit n u) ≡ some s′
-          → ((x : State S) → GoodState Fine f x → Counted asked limit x → lastOf (run 𝓢 f asked limit n (more x)) ≡ some s′ → Counted asked limit s′)
-          → Counted asked limit s′
-      go (more x) e h ih = ih x (turn-more K f limit asked s x g e .good) (turn-counted s x g c e) h
-      go (ended x) e h ih =
-          let q : some x ≡ some s′ = ap lastOf (sym (run-ended 𝓢 f asked limit n x)) ∙ h in
-          let w : x ≡ s′ = cc in
-          subst (Counted asked limit) (turn-ended K f limit asked s x e ∙ w) c
-      go (failed m) e h ih = let q : none ≡ some s′ = ap lastOf (sym (run-failed 𝓢 f asked limit n m)) ∙ h in let z : _≡_ {A = ℕ} 0 1 = cc in absurd (omega arith)
-      go (full x ps) e h ih = let q : none ≡ some s′ = ap lastOf (sym (run-full 𝓢 f asked limit n x ps)) ∙ h in let z : _≡_ {A = ℕ} 0 1 = cc in absurd (omega arith)
+  made-counted : (s s₁ : State S) (ps : List (Path S)) → length (s .closed) < asked → GoodState Fine f s × Counted asked limit s
+      → advance 𝓢 f s (s .waiting) (s .pivotal) ≡ made s₁ ps → (GoodState Fine f s₁ × Counted asked limit s₁) × All (Good Fine f) ps
+  made-counted s s₁ ps k (g, c) e =
+      let r = advance-made K f s s₁ (s .waiting) (s .pivotal) ps refl refl g e in
+      let l : length (s₁ .closed) ≡ length (s .closed) + length (r .extra) = ap length (r .closed) ∙ length-append (s .closed) (r .extra) in
+      let x : length (r .extra) ≤ 1 = r .few in
+      let u : s₁ .pushes ≡ s .pushes = r .pushes in
+      let v : s₁ .longest ≡ s .longest = r .longest in
+      let y : length (s₁ .waiting) ≤ length (s .waiting) = r .fewer in
+      let a : length (s .waiting) ≤ s .longest = c .waiting in
+      let b : s .longest ≤ s .pushes = c .longest in
+      let d : s .pushes ≤ limit = c .pushes in
+      ((r .good, record { waiting = omega arith; longest = omega arith; pushes = omega arith; closed = omega arith }), r .paths)
 
   pub search-counted : (recovery : Bool) (s : State S) → 1 ≤ limit → lastOf (search 𝓢 f asked limit recovery) ≡ some s → Counted asked limit s
   unfolding search firstState
   search-counted recovery s h t =
-      run-counted _ _ s (first-good K f recovery) (record { waiting = omega arith; longest = omega arith; pushes = h; closed = omega arith }) t
+      run-along 𝓢 f asked limit {P = λ x. GoodState Fine f x × Counted asked limit x} {Q = Good Fine f} push-counted made-counted _ _ s
+      (first-good K f recovery, record { waiting = omega arith; longest = omega arith; pushes = h; closed = omega arith }) t
+      .1
 
 -- ---- the answer
 

@@ -127,3 +127,8 @@ origin-checked i c =
     let s = i .sample in
     let e : endsFit (s .ends) (s .bases) ≡ true = and-left (endsFit (s .ends) (s .bases)) (eqb (length (s .qualities)) (length (s .bases))) (c .reads-fit) in
     rw (c .k-fits, firstBroken, c .reference-fits, firstBroken, c .reference-bases, firstBroken, e, firstBroken)
+
+-- and so do the sample's
+pub sample-checked : (i : Input) → Checked i → firstBroken (sampleRules (i .sample)) ≡ 0
+unfolding sampleRules firstBroken
+sample-checked i c = rw (c .k-fits, firstBroken, c .reference-fits, firstBroken, c .reference-bases, firstBroken, c .reads-fit, firstBroken)

@@ -2,48 +2,29 @@
 -- not answered where what is lent is as long as told.
 use mathlib.Core.Path.{_≡_, refl, sym, ap, subst, _∙_}
 use mathlib.Core.Logic.{_⊎_, inl, inr}
-use mathlib.Core.Bool.{Bool, true, false, not, cond, _&&_, _||_}
-use mathlib.Core.List.{List, [], _∷_, _++_}
-use mathlib.Core.Option.{Option, none, some}
-use Prim.Native.Nat.{ℕ, zero, suc, _+_, _≤_, _<_}
+use mathlib.Core.Bool.{Bool, true, false}
+use mathlib.Core.List.{List, [], _∷_}
+use Prim.Native.Nat.{ℕ, zero, suc, _≤_, _<_}
 use native.Mathlib.Omega.{arith}
-use lib.Dec.{leb, ltb, eqb}
-use lib.ListN.{length, take}
+use lib.ListN.{length}
 use lib.Ieee.{Float}
-use Rattle.laws.specs.ListLaws.{clash}
-use Rattle.laws.specs.Lists.{keep, any, findLast, position, isEmpty}
-use Rattle.definition.specs.Refusal.{returned, keepsWorkspace, Result, ok, refused, andThen, each, Rule, firstBroken}
+use Rattle.laws.specs.ListLaws.{clash, all-from}
+use Rattle.definition.specs.Refusal.{returned, keepsWorkspace, Result, ok, refused, Rule, firstBroken}
 use Rattle.definition.specs.Score.{Scoring, columnScoring}
 use Rattle.definition.specs.Limits.{Sample, GraphMaxima, Input, longEnough, graphTold, sampleRules, graphRules, listRules}
-use Rattle.definition.specs.Threading.{Ends, eqEnds, Edge, threaded, withSymbolic, leaving}
-use Rattle.definition.specs.Evidence.{Branches, hasBranch, treeAt, nodes, evidence}
-use Rattle.definition.specs.Building.{Built, built, builtOf}
-use Rattle.definition.specs.Search.{SearchInput, Path, Closed, State, Made, atEnd, broken, made, Turn, more, ended, failed, full, Offer, verticesFrom, endFrom, times, chain, offers, hasStoppingEvidence, push, pushAll, lengthen, extend, repeatRule, extensions, joinTree, closeAt, madeOf, extendAt, takePath, greatest, recover, advance, pushMade, turn, run, pivotalEdges, firstState, search}
-use Rattle.definition.specs.Listing.{Answer, refusal, listed, searchInput, listOf, answerOf, afterBuild, afterChecks, answer}
+use Rattle.definition.specs.Threading.{leaving}
+use Rattle.definition.specs.Building.{Built, built}
+use Rattle.definition.specs.Search.{SearchInput, offers, search}
+use Rattle.definition.specs.Listing.{Answer, refusal, listed, searchInput, afterBuild, afterChecks, answer}
 use Rattle.definition.specs.Calls.{graphOf, afterGraphChecks, graphCall}
+use Rattle.definition.proofs.Refuses.{Only, OnlyTurn, OnlyAnswer, search-only, built-only, found-only}
 
 -- a refusal's number, after which the workspace is zero
 abbrev LateNumber : ℕ → Type 0
 LateNumber n = (1 ≤ n) × (keepsWorkspace n ≡ false)
 
-abbrev Late : {A : Type 0} → Result A → Type 0
-Late (ok a) = Unit {0}
-Late (refused n) = LateNumber n
-
-abbrev LateMade : {S : Type 0} → Made S → Type 0
-LateMade atEnd = Unit {0}
-LateMade (broken n) = LateNumber n
-LateMade (made s ps) = Unit {0}
-
-abbrev LateTurn : {S : Type 0} → Turn S → Type 0
-LateTurn (more s) = Unit {0}
-LateTurn (ended s) = Unit {0}
-LateTurn (failed n) = LateNumber n
-LateTurn (full s ps) = Unit {0}
-
 abbrev pub LateAnswer : {S : Type 0} → Answer S → Type 0
-LateAnswer (refusal n) = LateNumber n
-LateAnswer (listed rs pushes longest) = Unit {0}
+LateAnswer = OnlyAnswer LateNumber
 
 -- the numbers of the build and of the search, and 0, which tells of no refusal
 late-8 : LateNumber 8
@@ -70,213 +51,30 @@ pub accepted-zero : keepsWorkspace 0 ≡ false
 unfolding keepsWorkspace returned
 accepted-zero = refl
 
-then-late : {A B : Type 0} (r : Result A) (g : A → Result B) → Late r → ((a : A) → Late (g a)) → Late (andThen r g)
-then-late (ok a) g l h = h a
-then-late (refused n) g l h = l
+-- ---- the build, the search and the answer
 
-each-late : {A B : Type 0} (g : A → Result B) → ((a : A) → Late (g a)) → (xs : List A) → Late (each g xs)
-each-late g h [] = tt
-each-late {A} {B} g h (x ∷ xs) = go (g x) (each g xs) (h x) (each-late g h xs)
-  where
-    go : (r : Result B) (rs : Result (List B)) → Late r → Late rs
-        → Late {A = List B} (elim r [ refused n ↦ refused n | ok y ↦ elim rs [ refused n ↦ refused n | ok ys ↦ ok (y ∷ ys) ] ])
-    go (refused n) rs l ls = l
-    go (ok y) (refused n) l ls = ls
-    go (ok y) (ok ys) l ls = tt
+built-late : (s : Sample) (m : GraphMaxima) → Only LateNumber (built s m)
+built-late = built-only LateNumber late-8 late-9
 
-module _ {S : Type 0} (𝓢 : Scoring S) (f : SearchInput) where
-  -- ---- extensions
-
-  lengthen-late : (p : Path S) (c : List Ends) (e : Ends) (x : S) (g r : Bool) → Late (lengthen f p c e x g r)
-  unfolding lengthen
-  lengthen-late p c e x g r = go (leb (length (p .edges ++ c ++ e ∷ [])) (f .pathEdges)) refl
-    where
-      go : (b : Bool) → leb (length (p .edges ++ c ++ e ∷ [])) (f .pathEdges) ≡ b → Late (lengthen f p c e x g r)
-      go true u = rw (u, lengthen) tt
-      go false u = rw (u, lengthen) late-11
-
-  extend-late : (p : Path S) (c : List Ends) (o : Offer) → Late (extend 𝓢 f p c o)
-  unfolding extend
-  extend-late p c o = go (𝓢 .penalty (o .count) (o .outOf)) refl
-    where
-      go : (d : Option S) → 𝓢 .penalty (o .count) (o .outOf) ≡ d → Late (extend 𝓢 f p c o)
-      go none u = rw (u, extend) late-10
-      go (some d) u = rw (u, extend) (lengthen-late p c (o .ends) (𝓢 .plus (p .score) d) (o .guided) false)
-
-  extensions-late : (p : Path S) (c : List Ends) (v : ℕ) (es : List Edge) → Late (extensions 𝓢 f p c v es)
-  unfolding extensions
-  extensions-late p c v [] = tt
-  extensions-late p c v (e ∷ []) = go (not (isEmpty (p .active)) || leb (times v (verticesFrom (f .source) (p .edges))) 1) refl
-    where
-      go : (b : Bool) → (not (isEmpty (p .active)) || leb (times v (verticesFrom (f .source) (p .edges))) 1) ≡ b → Late (extensions 𝓢 f p c v (e ∷ []))
-      go true u = rw (u, extensions) (then-late (lengthen f p c (e .ends) (p .score) false true) (λ q. ok (q ∷ [])) (lengthen-late p c (e .ends) (p .score) false true) (λ q. tt))
-      go false u = rw (u, extensions) tt
-  extensions-late p c v (e ∷ d ∷ es) =
-      then-late (each (extend 𝓢 f p c) (offers f (e ∷ d ∷ es) [] (p .active))) (λ qs. ok (keep (repeatRule f) qs))
-      (each-late (extend 𝓢 f p c) (extend-late p c) (offers f (e ∷ d ∷ es) [] (p .active))) (λ qs. tt)
-
-  -- ---- a taken path
-
-  join-late : (v : ℕ) (p : Path S) → Late (joinTree f v p)
-  unfolding joinTree
-  join-late v p = go (treeAt (f .trees) v) refl
-    where
-      go : (o : Option Branches) → treeAt (f .trees) v ≡ o → Late (joinTree f v p)
-      go none u = rw (u, joinTree) tt
-      go (some b) u = join (hasBranch b && not (any (eqb v) (p .visited))) refl (ltb (length (p .active)) (f .active)) refl
-        where
-          join : (x : Bool) → (hasBranch b && not (any (eqb v) (p .visited))) ≡ x → (y : Bool) → ltb (length (p .active)) (f .active) ≡ y → Late (joinTree f v p)
-          join false w y z = rw (u, joinTree, w) tt
-          join true w true z = rw (u, joinTree, w, z) tt
-          join true w false z = rw (u, joinTree, w, z) late-11
-
-  close-late : (v : ℕ) (p : Path S) (c : List Ends) (s : State S) → Late (closeAt f v p c s)
-  unfolding closeAt
-  close-late v p c s = go (eqb v (f .sink)) refl (hasStoppingEvidence f (p .active)) refl (leb (length (p .edges ++ c)) (f .pathEdges)) refl
-    where
-      go : (x : Bool) → eqb v (f .sink) ≡ x → (y : Bool) → hasStoppingEvidence f (p .active) ≡ y → (z : Bool) → leb (length (p .edges ++ c)) (f .pathEdges) ≡ z
-          → Late (closeAt f v p c s)
-      go false a y b z d = rw (a, closeAt) tt
-      go true a false b z d = rw (a, closeAt, b) tt
-      go true a true b true d = rw (a, closeAt, b, d) tt
-      go true a true b false d = rw (a, closeAt, b, d) late-11
-
-  made-late : (s : State S) (r : Result (List (Path S))) → Late r → LateMade (madeOf s r)
-  unfolding madeOf
-  made-late s (refused n) l = l
-  made-late s (ok ps) l = tt
-
-  extend-at-late : (p : Path S) (c : List Ends) (v : ℕ) (s : State S) → LateMade (extendAt 𝓢 f p c v s)
-  unfolding extendAt
-  extend-at-late p c v s = go (joinTree f v p) refl (join-late v p)
-    where
-      go : (r : Result (Path S)) → joinTree f v p ≡ r → Late r → LateMade (extendAt 𝓢 f p c v s)
-      go (refused n) u l = rw (u, extendAt) l
-      go (ok q) u l = close (closeAt f v q c s) refl (close-late v q c s)
-        where
-          close : (r : Result (State S)) → closeAt f v q c s ≡ r → Late r → LateMade (extendAt 𝓢 f p c v s)
-          close (refused n) w k = rw (u, extendAt, w) k
-          close (ok s′) w k = rw (u, extendAt, w) (made-late s′ (extensions 𝓢 f q c v (leaving (f .edges) v)) (extensions-late q c v (leaving (f .edges) v)))
-
-  take-late : (p : Path S) (s : State S) → LateMade (takePath 𝓢 f p s)
-  unfolding takePath
-  take-late p s = go (ltb 5 (p .since)) refl
-    where
-      go : (b : Bool) → ltb 5 (p .since) ≡ b → LateMade (takePath 𝓢 f p s)
-      go true u = rw (u, takePath) tt
-      go false u =
-          let v = endFrom (f .source) (p .edges) in
-          rw (u, takePath) (extend-at-late p (chain f v) (endFrom v (chain f v)) s)
-
-  -- ---- recovery
-
-  recover-late : (e : Ends) (s : State S) → LateMade (recover 𝓢 f e s)
-  unfolding recover
-  recover-late e s = go (greatest 𝓢 (keep (λ c. any (eqb (e .from)) (verticesFrom (f .source) (c .edges))) (s .closed))) refl
-    where
-      go : (o : Option (Closed S)) → greatest 𝓢 (keep (λ c. any (eqb (e .from)) (verticesFrom (f .source) (c .edges))) (s .closed)) ≡ o → LateMade (recover 𝓢 f e s)
-      go none u = rw (u, recover) tt
-      go (some b) u = last (findLast (λ d. eqb (d .to) (e .from)) (b .edges)) refl
-        where
-          last : (o : Option Ends) → findLast (λ d. eqb (d .to) (e .from)) (b .edges) ≡ o → LateMade (recover 𝓢 f e s)
-          last none w = rw (u, recover, w) tt
-          last (some d) w = fits (leb (length (take (suc (position (eqEnds d) (b .edges))) (b .edges) ++ e ∷ [])) (f .pathEdges)) refl
-            where
-              fits : (x : Bool) → leb (length (take (suc (position (eqEnds d) (b .edges))) (b .edges) ++ e ∷ [])) (f .pathEdges) ≡ x → LateMade (recover 𝓢 f e s)
-              fits true z = rw (u, recover, w, z) tt
-              fits false z = rw (u, recover, w, z) late-11
-
-  -- ---- turns
-
-  advance-late : (s : State S) (ps : List (Path S)) (es : List Ends) → LateMade (advance 𝓢 f s ps es)
-  unfolding advance
-  advance-late s [] [] = tt
-  advance-late s [] (e ∷ es) = recover-late e (record { waiting = []; closed = s .closed; pivotal = es; pushes = s .pushes; longest = s .longest })
-  advance-late s (p ∷ ps) es = go (ltb (cond (isEmpty (s .closed)) 1000 10000) (length (s .waiting))) refl
-    where
-      go : (b : Bool) → ltb (cond (isEmpty (s .closed)) 1000 10000) (length (s .waiting)) ≡ b → LateMade (advance 𝓢 f s (p ∷ ps) es)
-      go true u = rw (u, advance) tt
-      go false u = rw (u, advance) (take-late p (record { waiting = ps; closed = s .closed; pivotal = s .pivotal; pushes = s .pushes; longest = s .longest }))
-
-  push-late : (limit : ℕ) (ps : List (Path S)) (s : State S) → LateTurn (pushAll 𝓢 limit ps s)
-  unfolding pushAll
-  push-late limit [] s = tt
-  push-late limit (p ∷ ps) s = go (ltb (s .pushes) limit) refl (push-late limit ps (push 𝓢 p s))
-    where
-      go : (b : Bool) → ltb (s .pushes) limit ≡ b → LateTurn (pushAll 𝓢 limit ps (push 𝓢 p s)) → LateTurn (pushAll 𝓢 limit (p ∷ ps) s)
-      go true u ih = rw (u, pushAll) ih
-      go false u ih = rw (u, pushAll) tt
-
-  turn-late : (asked limit : ℕ) (s : State S) → LateTurn (turn 𝓢 f asked limit s)
-  unfolding turn pushMade
-  turn-late asked limit s = go (leb asked (length (s .closed))) refl
-    where
-      after : (m : Made S) → LateMade m → LateTurn (pushMade 𝓢 limit s m)
-      after atEnd l = tt
-      after (broken n) l = l
-      after (made s′ ps) l = push-late limit ps s′
-
-      go : (b : Bool) → leb asked (length (s .closed)) ≡ b → LateTurn (turn 𝓢 f asked limit s)
-      go true u = rw (u, turn) tt
-      go false u = rw (u, turn) (after (advance 𝓢 f s (s .waiting) (s .pivotal)) (advance-late s (s .waiting) (s .pivotal)))
-
-  run-late : (asked limit n : ℕ) (t : Turn S) → LateTurn t → LateTurn (run 𝓢 f asked limit n t)
-  unfolding run
-  run-late asked limit zero t l = l
-  run-late asked limit (suc n) (more s) l = run-late asked limit n (turn 𝓢 f asked limit s) (turn-late asked limit s)
-  run-late asked limit (suc n) (ended s) l = tt
-  run-late asked limit (suc n) (failed m) l = l
-  run-late asked limit (suc n) (full s ps) l = tt
-
-  search-late : (asked limit : ℕ) (recovery : Bool) → LateTurn (search 𝓢 f asked limit recovery)
-  unfolding search
-  search-late asked limit recovery =
-      let pivotal : List Ends = elim recovery [ true ↦ pivotalEdges f | false ↦ [] ] in
-      run-late asked limit (suc (limit + length pivotal)) (more (firstState 𝓢 pivotal)) tt
-
--- ---- the answer
-
-built-late : (s : Sample) (m : GraphMaxima) → Late (built s m)
-unfolding built builtOf
-built-late s m = go (leb (suc (length (threaded s .kmers))) (m .vertices) && leb (length (withSymbolic s (threaded s))) (m .edges)) refl
-    (leb (length (nodes (evidence s (threaded s)))) (m .nodes)) refl
-  where
-    go : (a : Bool) → (leb (suc (length (threaded s .kmers))) (m .vertices) && leb (length (withSymbolic s (threaded s))) (m .edges)) ≡ a
-        → (b : Bool) → leb (length (nodes (evidence s (threaded s)))) (m .nodes) ≡ b → Late (built s m)
-    go false p b q = rw (p, builtOf) late-8
-    go true p false q = rw (p, q, builtOf) late-9
-    go true p true q = rw (p, q, builtOf) tt
+search-late : {S : Type 0} (𝓢 : Scoring S) (f : SearchInput) (asked limit : ℕ) (recovery : Bool) → OnlyTurn LateNumber (search 𝓢 f asked limit recovery)
+search-late 𝓢 f =
+    search-only 𝓢 f LateNumber (λ p. Unit {0}) late-11 (record { bare = λ p e. tt; joins = λ v p q h e. tt; steps = λ p q h e. tt })
+    (λ p h v. all-from (offers f (leaving (f .edges) v) [] (p .active)) (λ o m e. late-10))
 
 -- after the call for edges and trees, once no rule is broken, the workspace is zero
 pub graph-late : (s : Sample) (m : GraphMaxima) (es ns : List ℕ) → keepsWorkspace (graphOf (built s m) es ns .refusal) ≡ false
 unfolding graphOf
 graph-late s m es ns = go (built s m) (built-late s m)
   where
-    go : (r : Result Built) → Late r → keepsWorkspace (graphOf r es ns .refusal) ≡ false
+    go : (r : Result Built) → Only LateNumber r → keepsWorkspace (graphOf r es ns .refusal) ≡ false
     go (ok b) l = accepted-zero
     go (refused n) l = l .1
 
-module _ {S : Type 0} (𝓢 : Scoring S) where
-  answer-late : (b : Built) (t : Turn S) → LateTurn t → LateAnswer (answerOf 𝓢 b t)
-  unfolding answerOf listOf
-  answer-late b (more s) l = tt
-  answer-late b (ended s) l = tt
-  answer-late b (failed n) l = l
-  answer-late b (full s ps) l = late-12
-
-  after-late : (i : Input) (r : Result Built) → Late r → LateAnswer (afterBuild 𝓢 i r)
-  unfolding afterBuild
-  after-late i (refused n) l = l
-  after-late i (ok b) l = go (eqb (i .asked) 0) refl
-    where
-      go : (x : Bool) → eqb (i .asked) 0 ≡ x → LateAnswer (afterBuild 𝓢 i (ok b))
-      go true u = rw (u, afterBuild) tt
-      go false u =
-          rw (u, afterBuild) (answer-late b (search 𝓢 (searchInput i b) (i .asked) (i .searchMaxima .pushes) (i .recovery)) (search-late 𝓢 (searchInput i b) (i .asked) (i .searchMaxima .pushes) (i .recovery)))
-
 -- what is answered once no rule is broken
 pub found-late : (i : Input) → LateAnswer (afterBuild (columnScoring (i .column)) i (built (i .sample) (i .graphMaxima)))
-found-late i = after-late (columnScoring (i .column)) i (built (i .sample) (i .graphMaxima)) (built-late (i .sample) (i .graphMaxima))
+found-late i =
+    found-only (columnScoring (i .column)) LateNumber late-8 late-9 i
+    (λ b e. (search-late (columnScoring (i .column)) (searchInput i b) (i .asked) (i .searchMaxima .pushes) (i .recovery), λ s ps f. late-12))
 
 late-number : (a : Answer Float) (n : ℕ) → LateAnswer a → a ≡ refusal n → LateNumber n
 late-number (refusal m) n l e = let z : m ≡ n = cc in subst LateNumber z l
@@ -367,7 +165,7 @@ graph-not-7 s m workspace lent es ns l t = go (firstBroken rules) refl t
     rules : List Rule
     rules = graphRules s m (graphTold m workspace) (length es ∷ length ns ∷ lent)
 
-    late : (r : Result Built) → Late r → graphOf r es ns .refusal ≡ 7 → ⊥
+    late : (r : Result Built) → Only LateNumber r → graphOf r es ns .refusal ≡ 7 → ⊥
     late (ok b) h e = omega arith
     late (refused n) h e = clash (sym (ap keepsWorkspace e) ∙ h .1)
 

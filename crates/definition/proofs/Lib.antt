@@ -1,7 +1,7 @@
 -- Theorems over the definition, by layer.
 -- Computed: Examples, Cases (the twelve of 01), Borders (the open points), LimitBorders (each limit at its borders), Texts (the program `paths` on case 6).
 -- Threading: Kmers, Spelling, Maximal, Stretches, Tables, Visits, First, Degrees, Sizes, Supports. Trees: Trees, Counts.
--- Search: Order, Column, Penalty, Runs, Walks, Turns, Waiting, Forks, Bounds, Allowance.
+-- Search: Order, Column, Penalty, Runs, Walks, Turns, Along (what holds along a run), TurnParts (a turn taken apart), Waiting, Forks, Bounds, Allowance.
 -- An accepted list: Found, Fewer (fewer paths asked), Origins, Checks, Late (the workspace after a refusal, and what is refused after the checks), Fuel, Demand (demand 3), Rows (the order is total), Twice (no path is listed twice).
 pub mod Examples
 pub mod Cases
@@ -14,6 +14,7 @@ pub mod Column
 pub mod Walks
 pub mod Turns
 pub mod Waiting
+pub mod Along
 pub mod Kmers
 pub mod Spelling
 pub mod Maximal
@@ -39,3 +40,5 @@ pub mod Degrees
 pub mod Forks
 pub mod Rows
 pub mod Twice
+pub mod TurnParts
+pub mod Refuses

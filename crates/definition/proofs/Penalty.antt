@@ -155,7 +155,7 @@ offers-not-above c h f es seen bs = all-mono (λ (o : Offer) p. λ d e. penalty-
 
 -- ---- in a column that is long enough no offer is refused
 
-penalty-there : (c : List Float) (n t : ℕ) → n ≤ t → t < length c → isSome (columnPenalty c n t) ≡ true
+pub penalty-there : (c : List Float) (n t : ℕ) → n ≤ t → t < length c → isSome (columnPenalty c n t) ≡ true
 unfolding columnPenalty
 penalty-there c n zero h l = refl
 penalty-there c n (suc t) h l =

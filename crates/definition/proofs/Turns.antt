@@ -18,12 +18,12 @@ use Rattle.definition.proofs.Runs.{length-wait, all-wait, turn-fewer, t
 use Rattle.definition.proofs.Order.{Keeps}
 use Rattle.definition.proofs.Walks.{Has, leaving-on, Good, GoodState, Numbered, advance-made}
 
--- the state that a run has come to, where it is no refusal
+-- the state that a run has come to, where it is no refusal; one that filled up stands at the push that was not allowed
 abbrev pub lastOf : {S : Type 0} → Turn S → Option (State S)
 lastOf (more s) = some s
 lastOf (ended s) = some s
 lastOf (failed n) = none
-lastOf (full s ps) = none
+lastOf (full s ps) = some s
 
 abbrev pub measure : {S : Type 0} → ℕ → State S → ℕ
 measure limit s = (limit - s .pushes) + length (s .waiting) + length (s .pivotal)
@@ -76,16 +76,14 @@ pub record Reached {S : Type 0} (Fine : S → Type 0) (f : SearchInput) (s s′ 
   pub good : GoodState Fine f s′
 
 module _ {S : Type 0} {𝓢 : Scoring S} {Fine : S → Type 0} (K : Keeps 𝓢 Fine) (f : SearchInput) (limit : ℕ) where
-  pushed : (ps : List (Path S)) (s s′ : State S) → GoodState Fine f s → All (Good Fine f) ps → pushAll 𝓢 limit ps s ≡ more s′ → Pushed Fine f limit s s′
+  pushed : (ps : List (Path S)) (s s′ : State S) → GoodState Fine f s → All (Good Fine f) ps → lastOf (pushAll 𝓢 limit ps s) ≡ some s′ → Pushed Fine f limit s s′
   unfolding pushAll push
-  pushed [] s s′ g a t =
-      let e : s ≡ s′ = cc in
-      subst (Pushed Fine f limit s) e (record { closed = refl; level = refl; good = g })
+  pushed [] s s′ g a t = subst (Pushed Fine f limit s) (same-some t) (record { closed = refl; level = refl; good = g })
   pushed (p ∷ ps) s s′ g a t = go (ltb (s .pushes) limit) refl (λ x gx h. pushed ps x s′ gx (all-tail a) h)
     where
       go : (b : Bool) → ltb (s .pushes) limit ≡ b
-          → ((x : State S) → GoodState Fine f x → pushAll 𝓢 limit ps x ≡ more s′ → Pushed Fine f limit x s′) → Pushed Fine f limit s s′
-      go false e ih = let h : full s (p ∷ ps) ≡ more s′ = rw (e, pushAll) at t in let z : _≡_ {A = ℕ} 0 1 = cc in absurd (omega arith)
+          → ((x : State S) → GoodState Fine f x → lastOf (pushAll 𝓢 limit ps x) ≡ some s′ → Pushed Fine f limit x s′) → Pushed Fine f limit s s′
+      go false e ih = subst (Pushed Fine f limit s) (same-some (rw (e, pushAll) at t)) (record { closed = refl; level = refl; good = g })
       go true e ih =
           let r = ih (push 𝓢 p s) (record { waiting = all-wait 𝓢 p (all-head a) (g .waiting); closed = g .closed; pivotal = g .pivotal }) (rw (e, pushAll) at t) in
           let h : s .pushes < limit = ltb-true (s .pushes) limit e in
@@ -104,16 +102,17 @@ module _ {S : Type 0} {𝓢 : Scoring S} {Fine : S → Type 0} (K : Keeps 𝓢 F
 
   -- ---- a turn
 
-  pub turn-more : (asked : ℕ) (s s′ : State S) → GoodState Fine f s → turn 𝓢 f asked limit s ≡ more s′ → Turned Fine f limit s s′
+  turn-made : (asked : ℕ) (s s′ : State S) (u : Turn S) → (u ≡ ended s → ⊥) → GoodState Fine f s → turn 𝓢 f asked limit s ≡ u → lastOf u ≡ some s′
+      → Turned Fine f limit s s′
   unfolding turn pushMade
-  turn-more asked s s′ g t = go (leb asked (length (s .closed))) refl
+  turn-made asked s s′ u n g t w = go (leb asked (length (s .closed))) refl
     where
-      after : (m : Made S) → advance 𝓢 f s (s .waiting) (s .pivotal) ≡ m → pushMade 𝓢 limit s m ≡ more s′ → Turned Fine f limit s s′
-      after atEnd e h = let z : _≡_ {A = ℕ} 0 1 = cc in absurd (omega arith)
-      after (broken n) e h = let z : _≡_ {A = ℕ} 0 1 = cc in absurd (omega arith)
+      after : (m : Made S) → advance 𝓢 f s (s .waiting) (s .pivotal) ≡ m → pushMade 𝓢 limit s m ≡ u → Turned Fine f limit s s′
+      after atEnd e h = absurd (n (sym h))
+      after (broken m) e h = no-some (ap lastOf h ∙ w)
       after (made s₁ ps) e h =
           let r = advance-made K f s s₁ (s .waiting) (s .pivotal) ps refl refl g e in
-          let q = pushed ps s₁ s′ (r .good) (r .paths) h in
+          let q = pushed ps s₁ s′ (r .good) (r .paths) (ap lastOf h ∙ w) in
           let u : s₁ .pushes ≡ s .pushes = r .pushes in
           let l : length (s₁ .waiting) + length (s₁ .pivotal) < length (s .waiting) + length (s .pivotal) = r .lower in
           let m : measure limit s′ ≡ (limit - s₁ .pushes) + length (s₁ .waiting) + length (s₁ .pivotal) = q .level in
@@ -121,8 +120,14 @@ module _ {S : Type 0} {𝓢 : Scoring S} {Fine : S → Type 0} (K : Keeps 𝓢 F
           record { extra = r .extra; closed = q .closed ∙ r .closed; few = r .few; numbered = r .numbered; lower = rw m′ (omega arith); good = q .good }
 
       go : (b : Bool) → leb asked (length (s .closed)) ≡ b → Turned Fine f limit s s′
-      go true e = let h : ended s ≡ more s′ = rw (e, turn) at t in let z : _≡_ {A = ℕ} 0 1 = cc in absurd (omega arith)
+      go true e = absurd (n (sym (rw (e, turn) at t)))
       go false e = after (advance 𝓢 f s (s .waiting) (s .pivotal)) refl (rw (e, turn) at t)
+
+  pub turn-more : (asked : ℕ) (s s′ : State S) → GoodState Fine f s → turn 𝓢 f asked limit s ≡ more s′ → Turned Fine f limit s s′
+  turn-more asked s s′ g t = turn-made asked s s′ (more s′) (λ e. (let z : _≡_ {A = ℕ} 0 1 = cc in omega arith)) g t refl
+
+  pub turn-full : (asked : ℕ) (s s′ : State S) (ps : List (Path S)) → GoodState Fine f s → turn 𝓢 f asked limit s ≡ full s′ ps → Turned Fine f limit s s′
+  turn-full asked s s′ ps g t = turn-made asked s s′ (full s′ ps) (λ e. (let z : _≡_ {A = ℕ} 0 1 = cc in omega arith)) g t refl
 
   pub turn-ended : (asked : ℕ) (s s′ : State S) → turn 𝓢 f asked limit s ≡ ended s′ → s ≡ s′
   unfolding turn pushMade
@@ -163,7 +168,9 @@ module _ {S : Type 0} {𝓢 : Scoring S} {Fine : S → Type 0} (K : Keeps 𝓢 F
       go (ended x) e h ih =
           reached-self s s′ g (turn-ended asked s x e ∙ same-some (ap lastOf (sym (run-ended 𝓢 f asked limit n x)) ∙ h))
       go (failed m) e h ih = no-some (ap lastOf (sym (run-failed 𝓢 f asked limit n m)) ∙ h)
-      go (full x ps) e h ih = no-some (ap lastOf (sym (run-full 𝓢 f asked limit n x ps)) ∙ h)
+      go (full x ps) e h ih =
+          let r = turn-full asked s x ps g e in
+          reached-on s x s′ r (reached-self x s′ (r .good) (same-some (ap lastOf (sym (run-full 𝓢 f asked limit n x ps)) ∙ h)))
 
   -- (D) a run whose fuel is above the measure never answers `more`
   pub run-enough : (asked n : ℕ) (s s′ : State S) → GoodState Fine f s → measure limit s < n → run 𝓢 f asked limit n (more s) ≡ more s′ → ⊥
@@ -250,7 +257,14 @@ module _ {S : Type 0} {𝓢 : Scoring S} {Fine : S → Type 0} (K : Keeps 𝓢 F
               let em : x ≡ sm = same-some (ap lastOf (sym (run-ended 𝓢 f m limit fuel x)) ∙ (rw (same ∙ t) at tm)) in
               rw (← em, ← en, ← es) (keep-whole n (s .closed) a h)
           after (failed k) t = no-some (ap lastOf (sym (run-failed 𝓢 f n limit fuel k)) ∙ (rw t at tn))
-          after (full x ps) t = no-some (ap lastOf (sym (run-full 𝓢 f n limit fuel x ps)) ∙ (rw t at tn))
+          after (full x ps) t =
+              let r = turn-full n s x ps g t in
+              let l : length (x .closed) ≡ length (s .closed) + length (r .extra) = ap length (r .closed) ∙ length-append (s .closed) (r .extra) in
+              let w : length (r .extra) ≤ 1 = r .few in
+              let z : 0 + length (s .closed) ≡ length (s .closed) = omega arith in
+              let en : x ≡ sn = same-some (ap lastOf (sym (run-full 𝓢 f n limit fuel x ps)) ∙ (rw t at tn)) in
+              let em : x ≡ sm = same-some (ap lastOf (sym (run-full 𝓢 f m limit fuel x ps)) ∙ (rw (same ∙ t) at tm)) in
+              rw (← em, ← en) (keep-whole n (x .closed) (rw (r .closed) (numbered-append 0 (s .closed) (r .extra) a (rw z (r .numbered)))) (omega (arith, lt)))
 
 -- ---- the first state
 

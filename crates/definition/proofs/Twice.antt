@@ -24,7 +24,7 @@ use Rattle.definition.specs.Listing.{searchInput, Row, pathBases, origin
 use Rattle.definition.proofs.Order.{Ordered, Keeps}
 use Rattle.definition.proofs.Runs.{all-wait, run-ended, run-failed, run-full}
 use Rattle.definition.proofs.Walks.{refused-ok, broken-made, end-made, ok-same, made-state, made-paths, and-then-ok, all-crossOff, all-each, Linked, GoodClosed}
-use Rattle.definition.proofs.Turns.{lastOf, same-some, no-some, turn-ended}
+use Rattle.definition.proofs.Turns.{lastOf, same-some, no-some}
 use Rattle.definition.proofs.Tables.{Rises, symbolic-rises}
 use Rattle.definition.proofs.Degrees.{rises-differ}
 use Rattle.definition.proofs.Spelling.{threaded-sound}
@@ -55,7 +55,7 @@ sorted-pairwise before s empty = empty
 sorted-pairwise before s (first {x = x} r p) = insert-pairwise before s x (all-sorted before r) (sorted-pairwise before s p)
 
 -- any scoring keeps a score that need not be anything
-any-keeps : {S : Type 0} (𝓢 : Scoring S) → Keeps 𝓢 (λ x. Unit {0})
+pub any-keeps : {S : Type 0} (𝓢 : Scoring S) → Keeps 𝓢 (λ x. Unit {0})
 any-keeps 𝓢 = record { start-fine = tt; plus-fine = λ x d n t h e. tt }
 
 -- ---- the invariant
@@ -122,13 +122,13 @@ module _ {S : Type 0} (𝓢 : Scoring S) (f : SearchInput) (limit : ℕ) where
   unfolding push
   push-lone p q s h l = record { apart = all-wait 𝓢 p (flip-apart p q h) (l .apart); off = l .off; trees = l .trees }
 
-  pushed-separate : (ps : List (Path S)) (s s′ : State S) → Separate f s → Fresh s ps → pushAll 𝓢 limit ps s ≡ more s′ → Separate f s′
+  pushed-separate : (ps : List (Path S)) (s s′ : State S) → Separate f s → Fresh s ps → lastOf (pushAll 𝓢 limit ps s) ≡ some s′ → Separate f s′
   unfolding pushAll
-  pushed-separate [] s s′ g a t = let e : s ≡ s′ = cc in subst (Separate f) e g
+  pushed-separate [] s s′ g a t = subst (Separate f) (same-some t) g
   pushed-separate (p ∷ ps) s s′ g a t = go (ltb (s .pushes) limit) refl (λ x gx ax h. pushed-separate ps x s′ gx ax h)
     where
-      go : (b : Bool) → ltb (s .pushes) limit ≡ b → ((x : State S) → Separate f x → Fresh x ps → pushAll 𝓢 limit ps x ≡ more s′ → Separate f s′) → Separate f s′
-      go false e ih = let h : full s (p ∷ ps) ≡ more s′ = rw (e, pushAll) at t in let z : _≡_ {A = ℕ} 0 1 = cc in absurd (omega arith)
+      go : (b : Bool) → ltb (s .pushes) limit ≡ b → ((x : State S) → Separate f x → Fresh x ps → lastOf (pushAll 𝓢 limit ps x) ≡ some s′ → Separate f s′) → Separate f s′
+      go false e ih = subst (Separate f) (same-some (rw (e, pushAll) at t)) g
       go true e ih =
           ih (push 𝓢 p s) (push-separate p s g (all-head (a .lone)))
           (record {
@@ -139,7 +139,7 @@ module _ {S : Type 0} (𝓢 : Scoring S) (f : SearchInput) (limit : ℕ) where
 
 -- ---- trees along a path
 
-tree-rising : (v : ℕ) {ts : List Tree} (b : Branches) → AllRising ts → treeAt ts v ≡ some b → Rising b
+pub tree-rising : (v : ℕ) {ts : List Tree} (b : Branches) → AllRising ts → treeAt ts v ≡ some b → Rising b
 unfolding treeAt
 tree-rising v b nil e = no-some e
 tree-rising v b (cons {x = t} {xs = ts} r a) e = go (eqb (t .vertex) v) refl (λ h. tree-rising v b a h)
@@ -157,7 +157,7 @@ child-rising e (branch d c below next) r = go (eqEnds e d) refl (child-rising e 
     go true u ih = rw (u, child) (r .1)
     go false u ih = rw (u, child) ih
 
-walk-rising : (e : Ends) {bs : List Branches} → All Rising bs → All Rising (walkTrees e bs)
+pub walk-rising : (e : Ends) {bs : List Branches} → All Rising bs → All Rising (walkTrees e bs)
 unfolding walkTrees
 walk-rising e a = all-keep hasBranch (all-map (child e) (λ b r. child-rising e b r) a)
 
@@ -470,19 +470,19 @@ module _ {S : Type 0} (𝓢 : Scoring S) (f : SearchInput) where
         go true u = end-made (rw (u, advance) at t)
         go false u = take-separate p s₁ s′ qs g₁ l₁ (rw (u, advance) at t)
 
-    pub turn-separate : (asked limit : ℕ) (s s′ : State S) → Separate f s → turn 𝓢 f asked limit s ≡ more s′ → Separate f s′
+    pub turn-separate : (asked limit : ℕ) (s s′ : State S) → Separate f s → lastOf (turn 𝓢 f asked limit s) ≡ some s′ → Separate f s′
     unfolding turn pushMade
     turn-separate asked limit s s′ g t = go (leb asked (length (s .closed))) refl
       where
-        after : (m : Made S) → advance 𝓢 f s (s .waiting) (s .pivotal) ≡ m → pushMade 𝓢 limit s m ≡ more s′ → Separate f s′
-        after atEnd e h = let z : _≡_ {A = ℕ} 0 1 = cc in absurd (omega arith)
-        after (broken n) e h = let z : _≡_ {A = ℕ} 0 1 = cc in absurd (omega arith)
+        after : (m : Made S) → advance 𝓢 f s (s .waiting) (s .pivotal) ≡ m → lastOf (pushMade 𝓢 limit s m) ≡ some s′ → Separate f s′
+        after atEnd e h = subst (Separate f) (same-some h) g
+        after (broken n) e h = no-some h
         after (made s₁ ps) e h =
             let r = advance-separate s s₁ (s .waiting) (s .pivotal) ps refl refl g e in
             pushed-separate 𝓢 f limit ps s₁ s′ (r .0) (r .1) h
 
         go : (b : Bool) → leb asked (length (s .closed)) ≡ b → Separate f s′
-        go true e = let h : ended s ≡ more s′ = rw (e, turn) at t in let z : _≡_ {A = ℕ} 0 1 = cc in absurd (omega arith)
+        go true e = subst (Separate f) (same-some (rw (e, turn) at t)) g
         go false e = after (advance 𝓢 f s (s .waiting) (s .pivotal)) refl (rw (e, turn) at t)
 
     -- ---- the whole search
@@ -494,11 +494,10 @@ module _ {S : Type 0} (𝓢 : Scoring S) (f : SearchInput) where
       where
         go : (u : Turn S) → turn 𝓢 f asked limit s ≡ u → lastOf (run 𝓢 f asked limit n u) ≡ some s′
             → ((x : State S) → Separate f x → lastOf (run 𝓢 f asked limit n (more x)) ≡ some s′ → Separate f s′) → Separate f s′
-        go (more x) e h ih = ih x (turn-separate asked limit s x g e) h
-        go (ended x) e h ih =
-            subst (Separate f) (turn-ended (any-keeps 𝓢) f limit asked s x e ∙ same-some (ap lastOf (sym (run-ended 𝓢 f asked limit n x)) ∙ h)) g
+        go (more x) e h ih = ih x (turn-separate asked limit s x g (ap lastOf e)) h
+        go (ended x) e h ih = turn-separate asked limit s s′ g (ap lastOf (e ∙ sym (run-ended 𝓢 f asked limit n x)) ∙ h)
         go (failed m) e h ih = no-some (ap lastOf (sym (run-failed 𝓢 f asked limit n m)) ∙ h)
-        go (full x ps) e h ih = no-some (ap lastOf (sym (run-full 𝓢 f asked limit n x ps)) ∙ h)
+        go (full x ps) e h ih = turn-separate asked limit s s′ g (ap lastOf (e ∙ sym (run-full 𝓢 f asked limit n x ps)) ∙ h)
 
     first-separate : (recovery : Bool) → Separate f (firstState 𝓢 (elim recovery as (λ _. List Ends) [ true ↦ pivotalEdges f | false ↦ [] ]))
     unfolding firstState

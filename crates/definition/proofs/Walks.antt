@@ -305,7 +305,7 @@ length-kept t (x ∷ xs) = go (t x) refl (length-kept t xs)
     go true e ih = rw e (omega arith)
     go false e ih = rw e (omega arith)
 
-length-walk : (e : Ends) (bs : List Branches) → length (walkTrees e bs) ≤ length bs
+pub length-walk : (e : Ends) (bs : List Branches) → length (walkTrees e bs) ≤ length bs
 unfolding walkTrees
 length-walk e bs = omega (arith, length-kept hasBranch (map (child e) bs), length-map bs (child e))
 
@@ -506,7 +506,7 @@ module _ {S : Type 0} {𝓢 : Scoring S} {Fine : S → Type 0} (K : Keeps 𝓢 F
         pivotal = λ a. a;
       }
 
-  take-grown : (p : Path S) (s s′ : State S) (qs : List (Path S)) → Good Fine f p → takePath 𝓢 f p s ≡ made s′ qs → Grown Fine f s s′ × All (Good Fine f) qs
+  pub take-grown : (p : Path S) (s s′ : State S) (qs : List (Path S)) → Good Fine f p → takePath 𝓢 f p s ≡ made s′ qs → Grown Fine f s s′ × All (Good Fine f) qs
   unfolding takePath
   take-grown p s s′ qs gp t = go (ltb 5 (p .since)) refl
     where

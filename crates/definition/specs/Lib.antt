@@ -7,6 +7,7 @@ pub mod Score
 pub mod Search
 pub mod Building
 pub mod Listing
+pub mod Enough
 pub mod Origins
 pub mod Calls
 pub mod Text

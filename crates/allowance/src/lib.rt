@@ -1,0 +1,1 @@
+// Request m of document 02, an allowance that always suffices: specs/ only, no code.
