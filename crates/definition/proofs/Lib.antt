@@ -42,3 +42,4 @@ pub mod Rows
 pub mod Twice
 pub mod TurnParts
 pub mod Refuses
+pub mod EnoughCases

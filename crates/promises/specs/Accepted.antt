@@ -1,6 +1,6 @@
 -- An accepted call for the list: the definition has made a list, the slices are long enough for it, and the rows read off them are its rows. Assumes nothing.
 use mathlib.Core.Path.{_≡_, refl, ap, _∙_}
-use Prim.Native.Nat.{ℕ, _≤_}
+use Prim.Native.Nat.{ℕ, suc, _≤_}
 use native.Mathlib.Omega.{arith}
 use mathlib.Core.Bool.{true}
 use mathlib.Core.List.{List}
@@ -36,6 +36,17 @@ made i workspace lent old e = go (answer i (listTold i workspace) (listLent old 
         → Made i (listTold i workspace) (listLent old lent)
     go (refusal n) t h = let k : 1 ≤ n = no-zero i (listTold i workspace) (listLent old lent) n t in absurd (omega arith)
     go (listed rs p q) t h = record { rows = rs; pushes = p; longest = q; is = t }
+
+-- refused, the call has the number that the definition has
+pub refused-is : (i : Input) (workspace lent : List ℕ) (old : ListSlices) (n : ℕ) → listCall i workspace lent old .answer .refusal ≡ suc n
+    → answer i (listTold i workspace) (listLent old lent) ≡ refusal (suc n)
+unfolding listCall listOutcome
+refused-is i workspace lent old n e = go (answer i (listTold i workspace) (listLent old lent)) refl e
+  where
+    go : (a : Answer Float) → answer i (listTold i workspace) (listLent old lent) ≡ a → listOutcome i a old .answer .refusal ≡ suc n
+        → answer i (listTold i workspace) (listLent old lent) ≡ refusal (suc n)
+    go (refusal m) t h = t ∙ ap refusal h
+    go (listed rs p q) t h = absurd (omega arith)
 
 -- ---- the slices are long enough, by rule 7
 

@@ -5,3 +5,4 @@ pub mod Demand
 pub mod Fewer
 pub mod Exported
 pub mod Told
+pub mod Allowed

@@ -1,14 +1,12 @@
 -- What the call for lengths tells is what refusal 7 of the other two calls compares with, slice by slice: who lends that is never refused by 7. Assumes nothing.
-use mathlib.Core.Path.{_≡_, refl, sym, ap, _∙_}
+use mathlib.Core.Path.{_≡_, sym, ap, _∙_}
 use Prim.Native.Nat.{ℕ}
-use native.Mathlib.Omega.{arith}
 use mathlib.Core.Bool.{true}
 use mathlib.Core.List.{List, [], _∷_}
 use lib.ListN.{length}
-use lib.Ieee.{Float}
 use Rattle.definition.specs.Limits.{Sample, GraphMaxima, SearchMaxima, Input, longEnough, listTold, graphTold}
-use Rattle.definition.specs.Listing.{Answer, refusal, listed, answer}
-use Rattle.definition.specs.Calls.{GraphOutcome, ListSlices, listOutcome, listLent, listCall}
+use Rattle.definition.specs.Listing.{refusal, answer}
+use Rattle.definition.specs.Calls.{GraphOutcome, ListSlices, listLent, listCall}
 use Rattle.definition.proofs.Late.{list-not-7, graph-not-7}
 use Rattle.slice_lengths.specs.declared.LengthsTold.{LengthsTold}
 use Rattle.slice_lengths.specs.Lengths.{listSlices, graphSlices, listWorkspaceTold, graphWorkspaceTold, acceptedLengths, Told, accepted-is}
@@ -20,6 +18,7 @@ use Rattle.list_lent.specs.Lent.{workspaceLent, toldOf, lentOf, slices-told}
 use Rattle.list_call.specs.Within.{lengthsOf}
 use Rattle.path_rows.specs.declared.PathRow.{PathRow}
 use Rattle.punelavoh.specs.Records.{slicesOf, ListCalled}
+use Rattle.promises.specs.Accepted.{refused-is}
 use Rattle.promises.specs.Exported.{lent-is}
 
 -- ---- the call for the list
@@ -34,12 +33,7 @@ list-asks i t h e = ap listSlices (accepted-is (i .sample .k) (i .asked) (i .gra
 
 not-7 : (i : Input) (workspace lent : List ℕ) (old : ListSlices) → longEnough (listTold i workspace) (listLent old lent) ≡ true
     → listCall i workspace lent old .answer .refusal ≡ 7 → ⊥
-unfolding listCall listOutcome
-not-7 i workspace lent old l t = go (answer i (listTold i workspace) (listLent old lent)) refl t
-  where
-    go : (a : Answer Float) → answer i (listTold i workspace) (listLent old lent) ≡ a → listOutcome i a old .answer .refusal ≡ 7 → ⊥
-    go (refusal n) e h = list-not-7 i (listTold i workspace) (listLent old lent) l (e ∙ ap refusal h)
-    go (listed rs p q) e h = omega arith
+not-7 i workspace lent old l t = list-not-7 i (listTold i workspace) (listLent old lent) l (refused-is i workspace lent old 6 t)
 
 -- Who lends slices at least as long as told is not refused by 7.
 pub list-never-seven : (i : Input) (t : LengthsTold) (r : ListAnswer) (rs rs′ : List PathRow) (o o′ : Outputs) (w w′ : Tables) → ToldFor i t → t .refusal ≡ 0
