@@ -18,9 +18,9 @@ use Rattle.definition.specs.Threading.{Ends, leaving}
 use Rattle.definition.specs.Evidence.{Branches, hasBranch, treeAt}
 use Rattle.definition.specs.Search.{SearchInput, Path, State, Made, broken, made, joinTree, closeAt, extensions, extendAt}
 use Rattle.tables.specs.Widths.{offerNumbers}
-use Rattle.path_store.specs.declared.growth.Taken.{Taken}
+use Rattle.path_growth.specs.declared.Taken.{Taken}
 use Rattle.path_store.specs.Cells.{HasPaths, sinceOf}
-use Rattle.path_store.specs.Grow.{Following}
+use Rattle.path_growth.specs.Grow.{Following}
 use Rattle.search_state.specs.declared.Setting.{Setting}
 use Rattle.search_state.specs.declared.Progress.{Progress}
 use Rattle.search_state.specs.declared.Step.{Step}

@@ -14,7 +14,7 @@ use Rattle.definition.specs.Search.{SearchInput, State, firstState}
 use Rattle.definition.proofs.Column.{column-keeps}
 use Rattle.definition.proofs.Turns.{measure, turn-more, first-good}
 use Rattle.tables.specs.Widths.{offerNumbers}
-use Rattle.path_store.specs.Cross.{unvisited}
+use Rattle.closed_paths.specs.Cross.{unvisited}
 use Rattle.path_queue.specs.Begin.{Begins, Begun, begunWith}
 use Rattle.search_state.specs.declared.Setting.{Setting}
 use Rattle.search_state.specs.declared.Progress.{Progress}

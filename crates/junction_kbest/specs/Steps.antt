@@ -6,9 +6,9 @@ use lib.ListN.{length}
 use lib.Ieee.{Float}
 use Rattle.definition.specs.Evidence.{Branches}
 use Rattle.definition.specs.Search.{SearchInput, State}
-use Rattle.path_store.specs.declared.growth.PathAnswer.{PathAnswer}
-use Rattle.path_store.specs.declared.growth.PathAnswer.the-variants as path
-use Rattle.path_store.specs.declared.growth.Taken.{Taken}
+use Rattle.path_growth.specs.declared.PathAnswer.{PathAnswer}
+use Rattle.path_growth.specs.declared.PathAnswer.the-variants as path
+use Rattle.path_growth.specs.declared.Taken.{Taken}
 use Rattle.search_state.specs.declared.Setting.{Setting}
 use Rattle.search_state.specs.declared.Progress.{Progress}
 use Rattle.search_state.specs.declared.Step.{Step}
@@ -22,7 +22,7 @@ use Rattle.path_extensions.specs.One.{Answers, Run}
 use Rattle.path_extensions.specs.Vertex.{Extends, Extensions, extensionsAt}
 use Rattle.definition.specs.Refusal.{refused}
 use Rattle.search_state.specs.State.{pathOf}
-use Rattle.path_store.specs.Grow.{pathRefusal}
+use Rattle.path_growth.specs.Grow.{pathRefusal}
 use Rattle.turn_rules.specs.Answers.{extendRefusal}
 use Rattle.junction_kbest.specs.Extend.{Extending, MakesBy, ExtendsTaken, extendedAt, TakenExtended, joins, join-refused, closes, close-refused, takes, extends, extend-refused, all-made}
 

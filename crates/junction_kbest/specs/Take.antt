@@ -13,12 +13,12 @@ use Rattle.definition.specs.Search.{SearchInput, Path, State, Made, made, exten
 use Rattle.definition.specs.Search as defs
 use Rattle.tables.specs.Widths.{offerNumbers}
 use Rattle.path_store.specs.declared.records.PathRecord.{PathRecord}
-use Rattle.path_store.specs.declared.growth.Taken.{Taken}
+use Rattle.path_growth.specs.declared.Taken.{Taken}
 use Rattle.path_store.specs.Cells.{endOf, sinceOf, Inside, pathAt}
-use Rattle.path_store.specs.Path.{Table, edges, inside, table-front}
-use Rattle.path_store.specs.Grow.{Following}
-use Rattle.path_store.specs.Held.{following-own}
-use Rattle.path_store.specs.Link.{chain-same, end-same}
+use Rattle.path_edges.specs.Path.{Table, edges, inside, table-front}
+use Rattle.path_growth.specs.Grow.{Following}
+use Rattle.path_growth.specs.Held.{following-own}
+use Rattle.path_growth.specs.Link.{chain-same, end-same}
 use Rattle.path_store.specs.Walk.{run, end-run}
 use Rattle.search_state.specs.declared.Setting.{Setting}
 use Rattle.search_state.specs.declared.Progress.{Progress}

@@ -1,5 +1,5 @@
 // The form of the data: numbers in text, a list as its length and then its elements.
-use paths_text::numbers::Decimal;
+use text_form::numbers::Decimal;
 ghost use Prim.Native.Nat.{_≤_, _<_};
 ghost use mathlib.Core.Path.{_≡_};
 ghost use lib.ListN.{length};
@@ -88,7 +88,7 @@ pub fn signed(bits: u32) -> i32 {
         negative: true,
         size: 4294967295 - bits + 1,
     };
-    paths_text::numbers::signed(below)
+    text_form::numbers::signed(below)
 }
 
 // The number at a place, and 0 beyond the end: an answer leaves out the zeros behind a refusal.

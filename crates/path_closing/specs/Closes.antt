@@ -21,17 +21,17 @@ use Rattle.definition.specs.Search.{SearchInput, Path, Closed, State, closeAt, 
 use Rattle.definition.specs.Search as defs
 use Rattle.definition.proofs.Counts.{Small}
 use Rattle.path_store.specs.declared.records.PathRecord.{PathRecord}
-use Rattle.path_store.specs.declared.growth.Taken.{Taken}
+use Rattle.path_growth.specs.declared.Taken.{Taken}
 use Rattle.path_store.specs.Cells.{HasPaths, parentOf, countOf, treesOf, scoreOf, Inside, putCells, put-at, put-trees}
-use Rattle.path_store.specs.Path.{Table, edges, table-front}
-use Rattle.path_store.specs.Push.{put-same, edges-kept}
-use Rattle.path_store.specs.Grow.{Following, closedRow}
-use Rattle.path_store.specs.Link.{Agrees}
-use Rattle.path_store.specs.View.{viewOf, closedOf}
-use Rattle.path_store.specs.Held.{Held, held-closed, pushed-view, pushed-closed, following-pushed}
-use Rattle.path_store.specs.Cross.{Distinct, Struck, struck-out}
-use Rattle.path_store.specs.Recover.{edges-in}
-use Rattle.path_store.specs.Close.{close-elsewhere, close-kept, close-over, close-made}
+use Rattle.path_edges.specs.Path.{Table, edges, table-front}
+use Rattle.path_growth.specs.Push.{put-same, edges-kept}
+use Rattle.path_growth.specs.Grow.{Following, closedRow}
+use Rattle.path_growth.specs.Link.{Agrees}
+use Rattle.path_growth.specs.View.{viewOf, closedOf}
+use Rattle.path_growth.specs.Held.{Held, held-closed, pushed-view, pushed-closed, following-pushed}
+use Rattle.closed_paths.specs.Cross.{Distinct, Struck, struck-out}
+use Rattle.closed_paths.specs.Recover.{edges-in}
+use Rattle.closed_paths.specs.Close.{close-elsewhere, close-kept, close-over, close-made}
 use Rattle.fork_offers.specs.Actives.{Actives, actives-none}
 use Rattle.search_state.specs.declared.Setting.{Setting}
 use Rattle.search_state.specs.declared.Progress.{Progress}

@@ -8,12 +8,12 @@ use lib.ListN.{length, set}
 use lib.Ieee.{Float}
 use Rattle.threading_node.specs.Ends.{ends}
 use Rattle.path_store.specs.declared.records.PathRecord.{PathRecord}
-use Rattle.path_store.specs.declared.growth.PathAnswer.{PathAnswer}
-use Rattle.path_store.specs.declared.growth.PathAnswer.the-variants.{Made, Refused}
-use Rattle.path_store.specs.declared.growth.Taken.{Taken}
+use Rattle.path_growth.specs.declared.PathAnswer.{PathAnswer}
+use Rattle.path_growth.specs.declared.PathAnswer.the-variants.{Made, Refused}
+use Rattle.path_growth.specs.declared.Taken.{Taken}
 use Rattle.path_store.specs.Cells.{treesOf, scoreOf, Inside, pathAt, putCells}
-use Rattle.path_store.specs.Grow.{pathRefusal, Growable, Grown, closedRow}
-use Rattle.path_store.specs.Held as held
+use Rattle.path_growth.specs.Grow.{pathRefusal, Growable, Grown, closedRow}
+use Rattle.path_growth.specs.Held as held
 use Rattle.fork_offers.specs.Actives.{Active}
 use Rattle.fork_offers.specs.Stops.{Stops}
 use Rattle.search_state.specs.declared.Setting.{Setting}

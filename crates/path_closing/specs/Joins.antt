@@ -24,19 +24,19 @@ use Rattle.threading_node.specs.Slots.{cols, Slot}
 use Rattle.threading_node.specs.Take.{wide-slot}
 use Rattle.threading_tree.specs.Read.{leads-has}
 use Rattle.path_store.specs.declared.records.PathRecord.{PathRecord}
-use Rattle.path_store.specs.declared.growth.PathAnswer.{PathAnswer}
-use Rattle.path_store.specs.declared.growth.PathAnswer.the-variants.{Made, Refused}
-use Rattle.path_store.specs.declared.growth.Taken.{Taken}
+use Rattle.path_growth.specs.declared.PathAnswer.{PathAnswer}
+use Rattle.path_growth.specs.declared.PathAnswer.the-variants.{Made, Refused}
+use Rattle.path_growth.specs.declared.Taken.{Taken}
 use Rattle.path_store.specs.Steps.{after-low}
 use Rattle.path_store.specs.Cells.{joinedOf, treesOf, scoreOf, Inside, pathAt, putCells, put-other, put-trees}
-use Rattle.path_store.specs.Path.{Table, inside, table-front}
-use Rattle.path_store.specs.Grow.{Following, joinedRow}
-use Rattle.path_store.specs.Visit.{seen, visited, seen-visited}
-use Rattle.path_store.specs.View.{viewOf, hasTree}
-use Rattle.path_store.specs.Join.{Childless, joined-same, joined-scores, join-none, join-bare, join-had, join-over, join-made}
-use Rattle.path_store.specs.Held.{held-joined, following-joined, joined-view, joined-closed}
-use Rattle.path_store.specs.Held as held
-use Rattle.path_store.specs.Grow as grow
+use Rattle.path_edges.specs.Path.{Table, inside, table-front}
+use Rattle.path_growth.specs.Grow.{Following, joinedRow}
+use Rattle.path_edges.specs.Visit.{seen, visited, seen-visited}
+use Rattle.path_growth.specs.View.{viewOf, hasTree}
+use Rattle.path_growth.specs.Join.{Childless, joined-same, joined-scores, join-none, join-bare, join-had, join-over, join-made}
+use Rattle.path_growth.specs.Held.{held-joined, following-joined, joined-view, joined-closed}
+use Rattle.path_growth.specs.Held as held
+use Rattle.path_growth.specs.Grow as grow
 use Rattle.fork_offers.specs.Actives.{Actives, actives-kept, actives-join, actives-many}
 use Rattle.search_state.specs.declared.Setting.{Setting}
 use Rattle.search_state.specs.Ground.{nameOf, TreeIn, Ground}

@@ -1,15 +1,15 @@
 // Two steps of a path that is taken, over the stores: the tree at its vertex joins it, and at the sink it may close. (Rust: junction_kbest.rs)
 use assembly::wide;
+use closed_paths::pivotal::cross_off;
 use fork_offers::has_stopping_evidence;
 use junction_trees::root_slot;
-use path_store::growth::PathAnswer;
-use path_store::growth::Taken;
-use path_store::growth::close_path;
-use path_store::growth::join_tree;
-use path_store::growth::path_refusal;
-use path_store::pivotal::cross_off;
+use path_edges::has_visited;
+use path_growth::PathAnswer;
+use path_growth::Taken;
+use path_growth::close_path;
+use path_growth::join_tree;
+use path_growth::path_refusal;
 use path_store::records::path_at;
-use path_store::walks::has_visited;
 use search_state::Progress;
 use search_state::Setting;
 use search_state::Step;

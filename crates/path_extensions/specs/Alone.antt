@@ -16,13 +16,13 @@ use Rattle.definition.specs.Search.{SearchInput, Path, lengthen, extensions}
 use Rattle.definition.specs.Search as defs
 use Rattle.assembly.specs.Store.{edgeAt}
 use Rattle.fork_offers.specs.Actives.{actives-many}
-use Rattle.path_store.specs.declared.growth.Taken.{Taken}
+use Rattle.path_growth.specs.declared.Taken.{Taken}
 use Rattle.path_store.specs.declared.records.PathRecord.{PathRecord}
 use Rattle.path_store.specs.Walk.{times}
 use Rattle.path_store.specs.Cells.{treesOf, scoreOf, pathAt, Inside}
-use Rattle.path_store.specs.Path.{Table, table-front, edges}
-use Rattle.path_store.specs.Path as paths
-use Rattle.path_store.specs.View.{times-view}
+use Rattle.path_edges.specs.Path.{Table, table-front, edges}
+use Rattle.path_edges.specs.Path as paths
+use Rattle.path_growth.specs.View.{times-view}
 use Rattle.search_state.specs.declared.Setting.{Setting}
 use Rattle.search_state.specs.Ground.{nameOf}
 use Rattle.search_state.specs.State.{pathOf}

@@ -17,7 +17,7 @@ use Rattle.definition.specs.Evidence.{Branches}
 use Rattle.definition.specs.Search.{SearchInput, Path, Offer, extend, repeatRule}
 use Rattle.fork_offers.specs.Fields.{HasOffers}
 use Rattle.fork_offers.specs.Rows.{offerAt, offersOf, Few}
-use Rattle.path_store.specs.declared.growth.Taken.{Taken}
+use Rattle.path_growth.specs.declared.Taken.{Taken}
 use Rattle.path_store.specs.Cells.{HasPaths, sinceOf}
 use Rattle.search_state.specs.declared.Setting.{Setting}
 use Rattle.search_state.specs.State.{pathOf, upFrom}

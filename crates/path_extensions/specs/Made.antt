@@ -8,12 +8,12 @@ use native.Mathlib.Omega.{arith}
 use lib.Ieee.{Float}
 use Rattle.definition.specs.Evidence.{Branches}
 use Rattle.definition.specs.Search.{SearchInput, Path}
-use Rattle.path_store.specs.declared.growth.Taken.{Taken}
+use Rattle.path_growth.specs.declared.Taken.{Taken}
 use Rattle.path_store.specs.Cells.{parentOf, scoreOf, endOf}
-use Rattle.path_store.specs.Path.{Same, table-front}
-use Rattle.path_store.specs.Grow.{Following}
-use Rattle.path_store.specs.Held.{Held}
-use Rattle.path_store.specs.View.{viewOf, view-kept, closed-kept}
+use Rattle.path_edges.specs.Path.{Same, table-front}
+use Rattle.path_growth.specs.Grow.{Following}
+use Rattle.path_growth.specs.Held.{Held}
+use Rattle.path_growth.specs.View.{viewOf, view-kept, closed-kept}
 use Rattle.search_state.specs.declared.Setting.{Setting}
 use Rattle.search_state.specs.Ground.{Ground, nameOf}
 use Rattle.search_state.specs.State.{pathOf, Records, Kept, New, Idle, upFrom}

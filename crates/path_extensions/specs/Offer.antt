@@ -19,11 +19,11 @@ use Rattle.fork_offers.specs.Fields.{HasOffer, offerEdge, offerCount, offerTota
 use Rattle.kbest_haplotype.specs.declared.Penalty.{Penalty}
 use Rattle.kbest_haplotype.specs.Penalties.{penaltyOf, penaltyRefusal, priced}
 use Rattle.fork_offers.specs.Rows.{offerAt}
-use Rattle.path_store.specs.declared.growth.Taken.{Taken}
+use Rattle.path_growth.specs.declared.Taken.{Taken}
 use Rattle.path_store.specs.Cells.{scoreOf}
-use Rattle.path_store.specs.Path.{Table, table-front}
-use Rattle.path_store.specs.Visit.{keeps}
-use Rattle.path_store.specs.View.{keeps-view}
+use Rattle.path_edges.specs.Path.{Table, table-front}
+use Rattle.path_edges.specs.Visit.{keeps}
+use Rattle.path_growth.specs.View.{keeps-view}
 use Rattle.search_state.specs.declared.Setting.{Setting}
 use Rattle.search_state.specs.Ground.{nameOf}
 use Rattle.search_state.specs.State.{pathOf, upFrom}

@@ -26,18 +26,18 @@ use Rattle.assembly.specs.Fields.{HasEdge, edgeFrom, edgeTo}
 use Rattle.threading_node.specs.Ends.{ends}
 use Rattle.fork_offers.specs.Actives.{Actives, actives-kept, actives-many}
 use Rattle.fork_offers.specs.Walks.{Walkable, Walked}
-use Rattle.path_store.specs.declared.growth.PathAnswer.{PathAnswer}
-use Rattle.path_store.specs.declared.growth.PathAnswer.the-variants as answers
-use Rattle.path_store.specs.declared.growth.Taken.{Taken}
-use Rattle.path_store.specs.declared.growth.Extension.{Extension}
+use Rattle.path_growth.specs.declared.PathAnswer.{PathAnswer}
+use Rattle.path_growth.specs.declared.PathAnswer.the-variants as answers
+use Rattle.path_growth.specs.declared.Taken.{Taken}
+use Rattle.path_growth.specs.declared.Extension.{Extension}
 use Rattle.path_store.specs.declared.records.PathRecord.{PathRecord}
 use Rattle.path_store.specs.Cells.{HasPaths, countOf, sinceOf, treesOf, scoreOf, Inside, pathAt, putCells, put-at, put-trees}
-use Rattle.path_store.specs.Path.{Same}
-use Rattle.path_store.specs.Path as paths
-use Rattle.path_store.specs.Push.{put-same}
-use Rattle.path_store.specs.Grow.{pathRefusal, extendedRow, Growable, Grown}
-use Rattle.path_store.specs.Held.{Put, grown-made, grown-refused, held-extended}
-use Rattle.path_store.specs.View.{viewOf, extended-made, extended-full}
+use Rattle.path_edges.specs.Path.{Same}
+use Rattle.path_edges.specs.Path as paths
+use Rattle.path_growth.specs.Push.{put-same}
+use Rattle.path_growth.specs.Grow.{pathRefusal, extendedRow, Growable, Grown}
+use Rattle.path_growth.specs.Held.{Put, grown-made, grown-refused, held-extended}
+use Rattle.path_growth.specs.View.{viewOf, extended-made, extended-full}
 use Rattle.search_state.specs.declared.Setting.{Setting}
 use Rattle.search_state.specs.Ground.{nameOf}
 use Rattle.search_state.specs.State.{pathOf, Records, upFrom}

@@ -26,12 +26,12 @@ use Rattle.fork_offers.specs.Fields.{HasOffers}
 use Rattle.fork_offers.specs.Actives.{Actives}
 use Rattle.fork_offers.specs.Rows.{offerAt, offersOf, Few}
 use Rattle.fork_offers.specs.Offers.{Forks, Offers, smalls-of}
-use Rattle.path_store.specs.declared.growth.Taken.{Taken}
+use Rattle.path_growth.specs.declared.Taken.{Taken}
 use Rattle.path_store.specs.declared.records.PathRecord.{PathRecord}
 use Rattle.path_store.specs.Cells.{endOf, sinceOf, treesOf, pathAt, Inside}
-use Rattle.path_store.specs.Path as paths
+use Rattle.path_edges.specs.Path as paths
 use Rattle.path_store.specs.Steps.{after-low}
-use Rattle.path_store.specs.Grow.{Following}
+use Rattle.path_growth.specs.Grow.{Following}
 use Rattle.search_state.specs.declared.Setting.{Setting}
 use Rattle.search_state.specs.Ground.{Ground}
 use Rattle.search_state.specs.State.{pathOf, Records}

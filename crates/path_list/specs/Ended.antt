@@ -20,8 +20,8 @@ use Rattle.assembly.specs.Table.{Distinct}
 use Rattle.assembly.specs.Store.{edgeAt, edgesOf, graphOf}
 use Rattle.assembly.specs.Moves.{kmers-same}
 use Rattle.junction_tree_graph.specs.Built.{BuiltAt}
-use Rattle.path_store.specs.Path.{Table, edges}
-use Rattle.path_store.specs.Recover.{all-at, edges-in}
+use Rattle.path_edges.specs.Path.{Table, edges}
+use Rattle.closed_paths.specs.Recover.{all-at, edges-in}
 use Rattle.search_state.specs.declared.Setting.{Setting}
 use Rattle.search_state.specs.declared.Progress.{Progress}
 use Rattle.search_state.specs.Ground.{nameOf, Ground}

@@ -20,7 +20,7 @@ use Rattle.assembly.specs.Fields.{HasVertices, HasEdges, edgeTo}
 use Rattle.assembly.specs.Store.{edgeAt}
 use Rattle.assembly.specs.Paths.{Spells}
 use Rattle.path_store.specs.Cells.{countOf}
-use Rattle.path_store.specs.Recover.{all-at}
+use Rattle.closed_paths.specs.Recover.{all-at}
 use Rattle.path_rows.specs.declared.PathRow.{PathRow}
 use Rattle.path_rows.specs.Rows.{told, rowAt, finished-is, Filled}
 use Rattle.path_list.specs.Laid.{Laid, row-low}

@@ -7,7 +7,7 @@ use lib.ListN.{length, getD, take, drop}
 use lib.Seq.{sets}
 use lib.Ieee.{Float}
 use Rattle.path_store.specs.Cells.{countOf, Inside}
-use Rattle.path_store.specs.Path.{Table, edges, inside, table-front}
+use Rattle.path_edges.specs.Path.{Table, edges, inside, table-front}
 use Rattle.path_list.specs.Laid.{Laid, laid-sets, laid-read, row-low}
 
 -- the record of the closed path i

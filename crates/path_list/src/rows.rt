@@ -8,9 +8,9 @@ ghost use Rattle.path_list.specs.Ranks.{lists, Ready};
 ghost use Rattle.path_list.specs.Rows.{Placed, Known, Columns, Filed, basesAt, fieldsAt};
 use assembly::path_bases;
 use assembly::wide;
+use closed_paths::writing::write_field;
 use path_store::chains::at;
 use path_store::records::path_at;
-use path_store::writing::write_field;
 use tables::EDGE;
 
 // Row r tells of the closed path whose number stands at rank r. Closings are numbered from 1.

@@ -2,7 +2,7 @@
 ghost use Prim.Native.Nat.{_+_, _*_, _<_};
 ghost use lib.ListN.{length};
 ghost use Rattle.path_list.specs.Walked.{Walkable, Walked};
-use path_store::walks::write_path;
+use path_edges::write_path;
 
 // The edges of the closed path i from place i * most on, for each of the first `count`.
 pub fn write_walks(

@@ -19,12 +19,12 @@ use Rattle.definition.specs.Search.{SearchInput, Path, endsOf, pivotalEdges, fi
 use Rattle.pivotal_edges.specs.Turns.{Pivots, Pivoted}
 use Rattle.definition.proofs.Tables.{Once}
 use Rattle.pivotal_edges.specs.Once.{edges-once}
-use Rattle.path_store.specs.Pivots.{pivotal-distinct, pivotal-forks}
+use Rattle.closed_paths.specs.Pivots.{pivotal-distinct, pivotal-forks}
 use Rattle.path_store.specs.Cells.{IsPathField, pathField, treesOf, scoreOf, Inside, putCells, Stored, put-at, put-trees}
-use Rattle.path_store.specs.Grow.{startRow}
-use Rattle.path_store.specs.View.{start-view}
-use Rattle.path_store.specs.Held.{held-start}
-use Rattle.path_store.specs.Cross.{unvisited, Distinct, Fork}
+use Rattle.path_growth.specs.Grow.{startRow}
+use Rattle.path_growth.specs.View.{start-view}
+use Rattle.path_growth.specs.Held.{held-start}
+use Rattle.closed_paths.specs.Cross.{unvisited, Distinct, Fork}
 use Rattle.path_heap.specs.Heap.{Pushable, Pushed, waiting, aheadOf, waiting-none, pushed-all}
 use Rattle.search_state.specs.declared.Setting.{Setting}
 use Rattle.search_state.specs.declared.Progress.{Progress}

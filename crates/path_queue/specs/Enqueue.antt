@@ -20,11 +20,11 @@ use Rattle.definition.specs.Search.{SearchInput, Path, State, made, broken, rec
 use Rattle.definition.proofs.Counts.{Small}
 use Rattle.assembly.specs.Fields.{edgeFrom}
 use Rattle.path_store.specs.Cells.{HasPaths, IsPathField, pathField, countOf, joinedOf, treesOf, scoreOf, Inside, putCells, put-at, put-other, put-trees}
-use Rattle.path_store.specs.Grow.{recoveredRow}
-use Rattle.path_store.specs.Held.{Held, held-recovered, pushed-closed}
-use Rattle.path_store.specs.View.{viewOf}
-use Rattle.path_store.specs.Best.{bestOf}
-use Rattle.path_store.specs.Recover.{all-at, recover-none, recover-lost, recover-low, recover-over, recover-made}
+use Rattle.path_growth.specs.Grow.{recoveredRow}
+use Rattle.path_growth.specs.Held.{Held, held-recovered, pushed-closed}
+use Rattle.path_growth.specs.View.{viewOf}
+use Rattle.closed_paths.specs.Best.{bestOf}
+use Rattle.closed_paths.specs.Recover.{all-at, recover-none, recover-lost, recover-low, recover-over, recover-made}
 use Rattle.path_heap.specs.Heap.{waiting, waiting-none}
 use Rattle.threading_node.specs.Take.{Wide}
 use Rattle.fork_offers.specs.Actives.{Actives}

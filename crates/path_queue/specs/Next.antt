@@ -8,8 +8,8 @@ use borrow.Author.Tests.{lt-ltb, le-ltb}
 use lib.ListN.{length, getD, take, drop, drop-of-length-le}
 use lib.Seq.{drop-cons, getD-take, length-take-le}
 use Rattle.laws.specs.ListLaws.{All}
-use Rattle.path_store.specs.Cross.{unvisited}
-use Rattle.path_store.specs.Recover.{all-at}
+use Rattle.closed_paths.specs.Cross.{unvisited}
+use Rattle.closed_paths.specs.Recover.{all-at}
 
 -- the places before n name edges that have a mark
 pub record Marked (order marks : List ℕ) (n : ℕ) : Type 0 where

@@ -8,14 +8,14 @@ use lib.ListN.{length, getD, take, set}
 use lib.Seq.{sets, length-sets, getD-take}
 use lib.Ieee.{Float}
 use Rattle.laws.specs.Stores.{take-sets}
-use Rattle.path_store.specs.declared.growth.PathAnswer.{PathAnswer}
-use Rattle.path_store.specs.declared.growth.PathAnswer.the-variants as answer
+use Rattle.path_growth.specs.declared.PathAnswer.{PathAnswer}
+use Rattle.path_growth.specs.declared.PathAnswer.the-variants as answer
 use Rattle.path_store.specs.Cells.{countOf, scoreOf, Inside, putCells}
-use Rattle.path_store.specs.Path.{Table, edges, table-front}
-use Rattle.path_store.specs.Grow.{pathRefusal, Growable, Grown, recoveredRow}
-use Rattle.path_store.specs.Held.{grown-made, grown-refused}
-use Rattle.path_store.specs.Split.{splitAt}
-use Rattle.path_store.specs.Recover.{edges-in, all-at, split-low}
+use Rattle.path_edges.specs.Path.{Table, edges, table-front}
+use Rattle.path_growth.specs.Grow.{pathRefusal, Growable, Grown, recoveredRow}
+use Rattle.path_growth.specs.Held.{grown-made, grown-refused}
+use Rattle.closed_paths.specs.Split.{splitAt}
+use Rattle.closed_paths.specs.Recover.{edges-in, all-at, split-low}
 use Rattle.search_state.specs.declared.Setting.{Setting}
 use Rattle.search_state.specs.declared.Progress.{Progress}
 use Rattle.path_queue.specs.declared.Recovery.{Recovery}

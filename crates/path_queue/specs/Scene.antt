@@ -9,7 +9,7 @@ use Rattle.laws.specs.Insertion.{insert, insert-past, insert-here, all-insert}
 use mathlib.Core.Bool.{Bool, true, false}
 use Rattle.definition.specs.Evidence.{Branches}
 use Rattle.definition.specs.Search.{SearchInput, Path, State}
-use Rattle.path_store.specs.Cross.{Distinct}
+use Rattle.closed_paths.specs.Cross.{Distinct}
 use Rattle.search_state.specs.declared.Setting.{Setting}
 use Rattle.search_state.specs.declared.Progress.{Progress}
 use Rattle.search_state.specs.State.{pathOf, Holds}

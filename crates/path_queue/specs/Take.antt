@@ -6,7 +6,7 @@ use native.Mathlib.Omega.{arith}
 use lib.Ieee.{Float}
 use Rattle.laws.specs.ListLaws.{all-mono}
 use Rattle.definition.specs.Search.{Path, State}
-use Rattle.path_store.specs.Cross.{Distinct}
+use Rattle.closed_paths.specs.Cross.{Distinct}
 use Rattle.path_heap.specs.Heap.{Popped, waiting, popped-first, popped-all}
 use Rattle.search_state.specs.declared.Setting.{Setting}
 use Rattle.search_state.specs.declared.Progress.{Progress}

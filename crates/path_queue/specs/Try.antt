@@ -16,10 +16,10 @@ use Rattle.definition.specs.Score.{Scoring, columnScoring}
 use Rattle.definition.specs.Search.{SearchInput, Closed, greatest, verticesFrom}
 use Rattle.assembly.specs.Fields.{HasEdge, edgeFrom}
 use Rattle.path_store.specs.Cells.{countOf, scoreOf, Inside}
-use Rattle.path_store.specs.Path.{Table, table-front}
-use Rattle.path_store.specs.Link.{Agrees}
-use Rattle.path_store.specs.Best.{bestOf, ClosedIn, closedAt, foundAt, best-greatest}
-use Rattle.path_store.specs.Recover.{all-at}
+use Rattle.path_edges.specs.Path.{Table, table-front}
+use Rattle.path_growth.specs.Link.{Agrees}
+use Rattle.closed_paths.specs.Best.{bestOf, ClosedIn, closedAt, foundAt, best-greatest}
+use Rattle.closed_paths.specs.Recover.{all-at}
 use Rattle.search_state.specs.declared.Setting.{Setting}
 use Rattle.search_state.specs.declared.Progress.{Progress}
 use Rattle.search_state.specs.Ground.{nameOf}

@@ -22,13 +22,13 @@ use Rattle.list_call.specs.Within.{lengthsOf, Called}
 use Rattle.list_interface.specs.Handed.{inputFor}
 use Rattle.list_interface.specs.declared.ListAnswer.{ListAnswer}
 use Rattle.list_interface.specs.declared.Settings as call
-use Rattle.paths_text.specs.Listing.{Columns, Held, one-more, linesFrom, list-prints, list-most}
-use Rattle.paths_text.specs.Lines.{refused-most}
-use Rattle.paths_text.specs.Parts.{part}
+use Rattle.paths_output.specs.Listing.{Columns, Held, one-more, linesFrom, list-prints, list-most}
+use Rattle.paths_output.specs.Lines.{refused-most}
+use Rattle.text_form.specs.Parts.{part}
 use Rattle.paths_text.specs.Rows.{Sized, held-listed}
 use Rattle.paths_text.specs.Sources.{Ready}
 use Rattle.paths_text.specs.Program.{prints-answer, answer-lent, input-is}
-use Rattle.paths_text.specs.Written.{Wrote}
+use Rattle.paths_output.specs.Written.{Wrote}
 use Rattle.paths_text.specs.declared.column.Column.{Column}
 use Rattle.paths_text.specs.declared.column.Column.the-variants as L
 use Rattle.paths_text.specs.declared.source.Source.{Source}

@@ -20,11 +20,11 @@ use Rattle.list_work.specs.Outcome.{Outputs, Tables}
 use Rattle.list_call.specs.Within.{lengthsOf, Called}
 use Rattle.list_interface.specs.declared.ListAnswer.{ListAnswer}
 use Rattle.list_interface.specs.declared.Settings as call
-use Rattle.paths_text.specs.Numbers.{k-within}
-use Rattle.paths_text.specs.Parts.{part}
+use Rattle.text_form.specs.Numbers.{k-within}
+use Rattle.text_form.specs.Parts.{part}
 use Rattle.paths_text.specs.Sources.{Ready}
 use Rattle.paths_text.specs.Program.{asked-most}
-use Rattle.paths_text.specs.declared.header.Settings as text
+use Rattle.text_form.specs.declared.header.Settings as text
 use Rattle.paths_text.specs.declared.source.Source.{Source}
 use Rattle.paths_input.specs.Checking.{Parted, parted-of}
 use Rattle.paths_input.specs.Asked.{settingsOf}

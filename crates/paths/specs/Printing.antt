@@ -14,8 +14,8 @@ use borrow.Author.Tests.{lt-leb}
 use Rattle.definition.specs.Refusal.{firstBroken}
 use Rattle.definition.specs.Calls.{writtenAt}
 use Rattle.definition.specs.Text.{Text, textOf, columnOf, with, textRules, refusedLine, printed}
-use Rattle.paths_text.specs.Written.{Wrote}
-use Rattle.paths_text.specs.Lines.{refused-most}
+use Rattle.paths_output.specs.Written.{Wrote}
+use Rattle.paths_output.specs.Lines.{refused-most}
 use Rattle.paths_text.specs.Program.{prints-no-text, prints-no-column, prints-refused}
 use Rattle.paths_text.specs.declared.column.Column.{Column}
 use Rattle.paths_text.specs.declared.column.Column.the-variants as L

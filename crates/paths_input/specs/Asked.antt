@@ -1,6 +1,6 @@
 -- The settings of the call for the list.
 use Rattle.list_interface.specs.declared.Settings as call
-use Rattle.paths_text.specs.declared.header.Settings as text
+use Rattle.text_form.specs.declared.header.Settings as text
 
 -- the settings of the text, with the program's maxima
 abbrev pub settingsOf : text.Settings → call.Settings

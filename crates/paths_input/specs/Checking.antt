@@ -12,7 +12,7 @@ use Rattle.definition.specs.Text.{Text, textOf, with, textRules}
 use Rattle.whole_input.specs.Readings.{Within, inputOf}
 use Rattle.whole_input.specs.declared.Reading.{Reading}
 use Rattle.whole_input.specs.declared.Reading.the-variants as W
-use Rattle.paths_text.specs.Parts.{part}
+use Rattle.text_form.specs.Parts.{part}
 use Rattle.paths_text.specs.Checks.{Handed}
 use Rattle.paths_text.specs.Sources.{Ready, TextSays}
 use Rattle.paths_text.specs.declared.source.Source.{Source}

@@ -13,10 +13,10 @@ use Rattle.definition.specs.Limits.{Sample, rising, endsFit, readsFit, sampleRu
 use Rattle.definition.specs.Text.{Text, textRules, sampleOf, sizeOf, evenRead, endsFrom, allBases, allQualities, askedWithin}
 use Rattle.limits.specs.Rules.{rule, referenceRules, broken, holds, all-hold, first-broken, first-hold, reference-numbered, sample-numbered}
 use Rattle.limits.specs.Handed as L
-use Rattle.paths_text.specs.Numbers.{k-within, asked-within}
-use Rattle.paths_text.specs.Headers.{shown}
+use Rattle.text_form.specs.Numbers.{k-within, asked-within}
+use Rattle.text_form.specs.Headers.{shown}
 use Rattle.paths_text.specs.Gather.{length-ends}
-use Rattle.paths_text.specs.declared.header.Settings.{Settings}
+use Rattle.text_form.specs.declared.header.Settings.{Settings}
 
 -- what is handed to `check_text` is the text t
 pub record Handed (s : Settings) (reference ends bases qualities : List ℕ) (count : ℕ) (even : Bool) (t : Text) : Type 0 where

@@ -15,7 +15,7 @@ use borrow.Author.Tests.{le-leb, eq-eqb, ne-eqb, lt-leb}
 use Rattle.definition.specs.Text.{lowestFirst, entries, columnOf}
 use Rattle.laws.specs.Stores.{sets-more}
 use Rattle.definition.specs.Calls.{writtenAt}
-use Rattle.paths_text.specs.Written.{written-sets}
+use Rattle.paths_output.specs.Written.{written-sets}
 use Rattle.paths_text.specs.declared.column.Column.{Column}
 use Rattle.paths_text.specs.declared.column.Column.the-variants.{Entries, Malformed}
 

@@ -14,12 +14,12 @@ use Rattle.laws.specs.ListLaws.{and-left, and-right}
 use Rattle.laws.specs.Stores.{sets-more}
 use Rattle.definition.specs.Text.{ReadLines, values, allBases, allQualities, endsFrom, evenRead, parts, readsOf, with, inFront}
 use Rattle.definition.specs.Calls.{writtenAt}
-use Rattle.paths_text.specs.Written.{written-sets, length-written, written-more}
-use Rattle.paths_text.specs.Reads.{readsFrom, readAt, PairAt, PairSays}
+use Rattle.paths_output.specs.Written.{written-sets, length-written, written-more}
+use Rattle.text_form.specs.Reads.{readsFrom, readAt, PairAt, PairSays}
 use Rattle.paths_text.specs.Moves.{Joins, drop-written, written-over, slice-here}
-use Rattle.paths_text.specs.declared.reads.Lines.{Lines}
-use Rattle.paths_text.specs.declared.reads.Pair.{Pair}
-use Rattle.paths_text.specs.declared.reads.Pair.the-variants as P
+use Rattle.text_form.specs.declared.reads.Lines.{Lines}
+use Rattle.text_form.specs.declared.reads.Pair.{Pair}
+use Rattle.text_form.specs.declared.reads.Pair.the-variants as P
 use Rattle.paths_text.specs.declared.gather.Gathering.{Gathering}
 
 -- what is asked: a text whose reads from place `from` on are even, and a place for the end of each

@@ -16,8 +16,8 @@ use Rattle.definition.specs.Text.{isQuality, values}
 use Rattle.definition.specs.Calls.{writtenAt}
 use Rattle.bytes.specs.Bytes.{rev}
 use Rattle.bytes.specs.Bytes as B
-use Rattle.paths_text.specs.Written.{written-sets, length-written, written-more}
-use Rattle.paths_text.specs.Parts.{take-slice}
+use Rattle.paths_output.specs.Written.{written-sets, length-written, written-more}
+use Rattle.text_form.specs.Parts.{take-slice}
 
 -- ---- bytes moved to a place before them
 

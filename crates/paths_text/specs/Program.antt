@@ -17,10 +17,10 @@ use Rattle.definition.specs.Listing.{Answer, answer}
 use Rattle.definition.specs.Text.{Text, textOf, columnOf, with, textRules, sampleOf, inputOf, sizeOf, evenRead, endsFrom, allBases, askedWithin, graphMaxima, searchMaxima, afterText, answerTo, refusedLine, printedOf, printed}
 use Rattle.limits.specs.Rules.{none-broken}
 use Rattle.limits.specs.Handed as L
-use Rattle.paths_text.specs.Numbers.{askedOf, asked-within, asked-same}
+use Rattle.text_form.specs.Numbers.{askedOf, asked-within, asked-same}
 use Rattle.paths_text.specs.Gather.{length-ends}
 use Rattle.paths_text.specs.Checks.{Handed, sample-is}
-use Rattle.paths_text.specs.declared.header.Settings.{Settings}
+use Rattle.text_form.specs.declared.header.Settings.{Settings}
 
 -- ---- 14
 

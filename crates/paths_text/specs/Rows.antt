@@ -11,10 +11,10 @@ use lib.Ieee.{Float, nan}
 use Rattle.laws.specs.ListLaws.{All, nil, cons}
 use Rattle.definition.specs.Listing.{Row}
 use Rattle.definition.specs.Calls.{writtenAt, writtenRows}
-use Rattle.paths_text.specs.Written.{length-written}
-use Rattle.paths_text.specs.Parts.{part-slice}
+use Rattle.paths_output.specs.Written.{length-written}
+use Rattle.text_form.specs.Parts.{part-slice}
 use Rattle.paths_text.specs.Moves.{take-written, slice-here}
-use Rattle.paths_text.specs.Listing.{Held, none-left, one-more}
+use Rattle.paths_output.specs.Listing.{Held, none-left, one-more}
 
 -- ---- rows of bases, each a stride behind the one before
 

@@ -10,14 +10,14 @@ use lib.Seq.{slice, take-append-seam, drop-append-seam, drop-drop}
 use Rattle.laws.specs.ListLaws.{clash}
 use Rattle.definition.specs.Text.{Text, ReadLines, textOf, allBases, allQualities, endsFrom}
 use Rattle.definition.specs.Calls.{writtenAt}
-use Rattle.paths_text.specs.Parts.{take-slice, part, part-slice}
-use Rattle.paths_text.specs.Reads.{readsFrom, Laid, FormSays}
+use Rattle.text_form.specs.Parts.{take-slice, part, part-slice}
+use Rattle.text_form.specs.Reads.{readsFrom, Laid, FormSays}
 use Rattle.paths_text.specs.Moves.{drop-here, slice-before}
 use Rattle.paths_text.specs.Gather.{Gathers, Gathered, length-ends}
 use Rattle.paths_text.specs.Checks.{Handed}
-use Rattle.paths_text.specs.declared.reads.Layout.{Layout}
-use Rattle.paths_text.specs.declared.reads.Form.{Form}
-use Rattle.paths_text.specs.declared.reads.Form.the-variants as F
+use Rattle.text_form.specs.declared.reads.Layout.{Layout}
+use Rattle.text_form.specs.declared.reads.Form.{Form}
+use Rattle.text_form.specs.declared.reads.Form.the-variants as F
 use Rattle.paths_text.specs.declared.source.Source.{Source}
 use Rattle.paths_text.specs.declared.source.Read.{Read}
 use Rattle.paths_text.specs.declared.source.Read.the-variants as R

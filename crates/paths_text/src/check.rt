@@ -1,6 +1,6 @@
 // 1 to 5 as the program meets them: 4 also where a read's two lines are of unequal length, 5 also above 8 paths.
-use crate::header::Settings;
 use refusals::MAXIMUM;
+use text_form::header::Settings;
 ghost use mathlib.Core.Path.{_≡_};
 ghost use mathlib.Core.List.{List, _∷_, _++_};
 ghost use mathlib.Core.Bool.{false};

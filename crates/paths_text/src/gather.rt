@@ -1,8 +1,8 @@
 // The reads brought together where they stand: all bases one behind the other from the place where the reads begin, and all qualities behind them. So no
 // second buffer is needed.
-use crate::reads::Pair;
-use crate::reads::read_pair;
 use bytes::reverse;
+use text_form::reads::Pair;
+use text_form::reads::read_pair;
 ghost use mathlib.Core.Path.{_≡_};
 ghost use mathlib.Core.List.{List, _++_};
 ghost use mathlib.Core.Option.{some};
@@ -11,7 +11,7 @@ ghost use lib.ListN.{length, take, drop};
 ghost use lib.Seq.{slice};
 ghost use Rattle.definition.specs.Text.{ReadLines, values};
 ghost use Rattle.definition.specs.Calls.{writtenAt};
-ghost use Rattle.paths_text.specs.Reads.{readsFrom};
+ghost use Rattle.text_form.specs.Reads.{readsFrom};
 ghost use Rattle.paths_text.specs.Moves.{Moves, lessened, Joins};
 ghost use Rattle.paths_text.specs.Gather.{Gathers, Gathered, Nexts, Nexted};
 

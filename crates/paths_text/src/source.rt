@@ -1,9 +1,9 @@
 // The whole text, read: what the calls are handed stands in parts of the buffer that it was read into.
 use crate::gather::gather;
-use crate::header::Settings;
-use crate::reads::Form;
-use crate::reads::Layout;
-use crate::reads::read_form;
+use text_form::header::Settings;
+use text_form::reads::Form;
+use text_form::reads::Layout;
+use text_form::reads::read_form;
 ghost use mathlib.Core.Path.{_≡_};
 ghost use Prim.Native.Nat.{_≤_};
 ghost use lib.ListN.{length};

@@ -40,7 +40,7 @@ use Rattle.junction_trees.specs.Stretches.{begun}
 use Rattle.junction_trees.specs.Trees.{Evident}
 use Rattle.pivotal_edges.specs.Walk.{Linked, leaving-from}
 use Rattle.pivotal_edges.specs.Links.{linked-of}
-use Rattle.path_store.specs.Link.{Agrees}
+use Rattle.path_growth.specs.Link.{Agrees}
 use Rattle.fork_offers.specs.Actives.{Least}
 use Rattle.search_state.specs.declared.Setting.{Setting}
 use Rattle.search_state.specs.Ground.{Ground, nameOf}

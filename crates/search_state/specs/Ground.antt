@@ -16,7 +16,7 @@ use Rattle.threading_node.specs.Slots.{cols}
 use Rattle.threading_node.specs.Take.{Wide}
 use Rattle.threading_tree.specs.Read.{Leads}
 use Rattle.pivotal_edges.specs.Walk.{Linked}
-use Rattle.path_store.specs.Link.{Agrees}
+use Rattle.path_growth.specs.Link.{Agrees}
 use Rattle.fork_offers.specs.Offers.{Settings}
 use Rattle.search_state.specs.declared.Setting.{Setting}
 

@@ -15,8 +15,8 @@ use Rattle.laws.specs.Heaps.{nth, above}
 use Rattle.definition.specs.Evidence.{Branches}
 use Rattle.definition.specs.Search.{SearchInput, State}
 use Rattle.path_store.specs.Cells.{parentOf}
-use Rattle.path_store.specs.Join.{Childless}
-use Rattle.path_store.specs.Cross.{Distinct}
+use Rattle.path_growth.specs.Join.{Childless}
+use Rattle.closed_paths.specs.Cross.{Distinct}
 use Rattle.path_heap.specs.First.{leads-same}
 use Rattle.path_heap.specs.Heap.{ScoreHeap, waiting, waiting-scores, waiting-all, all-waiting}
 use Rattle.search_state.specs.declared.Setting.{Setting}

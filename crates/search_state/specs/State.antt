@@ -13,10 +13,10 @@ use Rattle.definition.specs.Evidence.{Branches}
 use Rattle.definition.specs.Search.{SearchInput, Path, Closed, State}
 use Rattle.definition.proofs.Counts.{Small}
 use Rattle.path_store.specs.Cells.{HasPaths, parentOf, countOf, joinedOf, treesOf, scoreOf}
-use Rattle.path_store.specs.Join.{Childless}
-use Rattle.path_store.specs.View.{viewOf, closedOf}
-use Rattle.path_store.specs.Held.{Held}
-use Rattle.path_store.specs.Cross.{unvisited, Distinct, Fork}
+use Rattle.path_growth.specs.Join.{Childless}
+use Rattle.path_growth.specs.View.{viewOf, closedOf}
+use Rattle.path_growth.specs.Held.{Held}
+use Rattle.closed_paths.specs.Cross.{unvisited, Distinct, Fork}
 use Rattle.path_heap.specs.Heap.{ScoreHeap, waiting}
 use Rattle.fork_offers.specs.Actives.{Actives}
 use Rattle.search_state.specs.declared.Setting.{Setting}

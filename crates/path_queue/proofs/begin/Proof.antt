@@ -5,7 +5,7 @@ use Rattle.path_queue.proofs.begin.Reads as reads
 use Rattle.path_queue.proofs.begin.Lts as lts
 use Rattle.path_heap.proofs.heap_push.Reads as heap-push-reads
 use Rattle.path_queue.proofs.list_pivotal.Reads as list-pivotal-reads
-use Rattle.path_store.proofs.growth.start_path.Reads as start-path-reads
+use Rattle.path_growth.proofs.start_path.Reads as start-path-reads
 use Rattle.path_queue.specs.Begin.{begin-inside, begin-heap, begun}
 
 start-path-requires : tie.Need-start-path-requires

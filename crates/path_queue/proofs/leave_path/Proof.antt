@@ -4,7 +4,7 @@ use Rattle.path_queue.proofs.leave_path.Tie as tie
 use Rattle.path_queue.proofs.leave_path.Reads as reads
 use Rattle.path_queue.proofs.leave_path.Lts as lts
 use Rattle.path_queue.proofs.split_at.Reads as split-at-reads
-use Rattle.path_store.proofs.growth.recover_path.Reads as recover-path-reads
+use Rattle.path_growth.proofs.recover_path.Reads as recover-path-reads
 use mathlib.Core.Path.{refl}
 use Rattle.path_queue.specs.Recover.{leave-splits, leave-none, leave-fits, leave-asks, leave-over, leave-made}
 use native.Mathlib.Omega.{arith}

@@ -4,9 +4,9 @@ use Rattle.path_queue.proofs.split_at.Tie as tie
 use Rattle.path_queue.proofs.split_at.Reads as reads
 use Rattle.path_queue.proofs.split_at.Lts as lts
 use Rattle.path_store.proofs.chains.wide.Reads as wide-reads
-use Rattle.path_store.proofs.pivotal.split_place.Reads as split-place-reads
+use Rattle.closed_paths.proofs.pivotal.split_place.Reads as split-place-reads
 use Rattle.path_store.proofs.records.path_at.Reads as path-at-reads
-use Rattle.path_store.proofs.walks.write_path.Reads as write-path-reads
+use Rattle.path_edges.proofs.write_path.Reads as write-path-reads
 use mathlib.Core.Path.{ap, _∙_}
 use Rattle.path_store.specs.declared.records.PathRecord.{PathRecord}
 use Rattle.path_queue.specs.Recover.{split-inside, split-room, split-asks, split-is}

@@ -7,7 +7,7 @@ use Rattle.path_queue.proofs.try_edge.Lts as lts
 use Rattle.assembly.proofs.edge_from.Reads as edge-from-reads
 use Rattle.path_queue.proofs.leave_path.Reads as leave-path-reads
 use Rattle.path_store.proofs.chains.wide.Reads as wide-reads
-use Rattle.path_store.proofs.pivotal.best_through.Reads as best-through-reads
+use Rattle.closed_paths.proofs.pivotal.best_through.Reads as best-through-reads
 use Rattle.assembly.specs.Fields.{fromField, edgeCell}
 use Rattle.path_queue.specs.Try.{try-closed, try-none, try-leaves, try-left, edge-row, edge-from-is}
 use native.Mathlib.Omega.{arith}

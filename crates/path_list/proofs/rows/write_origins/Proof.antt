@@ -5,7 +5,7 @@ use Rattle.path_list.proofs.rows.write_origins.Lts as lts
 use Rattle.assembly.proofs.wide.Reads as wide-reads
 use Rattle.path_store.proofs.chains.at.Reads as at-reads
 use Rattle.path_store.proofs.records.path_at.Reads as path-at-reads
-use Rattle.path_store.proofs.writing.write_field.Reads as write-field-reads
+use Rattle.closed_paths.proofs.writing.write_field.Reads as write-field-reads
 use mathlib.Core.Path.{ap, _∙_}
 use Prim.Native.Nat.{_-_, _≤_}
 use native.Mathlib.Omega.{arith}

@@ -2,7 +2,7 @@ use Rattle.path_list.proofs.walks.write_walks.Statement.{statement}
 use Rattle.path_list.proofs.walks.write_walks.Tie as tie
 use Rattle.path_list.proofs.walks.write_walks.Reads as reads
 use Rattle.path_list.proofs.walks.write_walks.Lts as lts
-use Rattle.path_store.proofs.walks.write_path.Reads as write-path-reads
+use Rattle.path_edges.proofs.write_path.Reads as write-path-reads
 use mathlib.Core.Path.{refl}
 use Prim.Native.Nat.{_-_, _≤_}
 use native.Mathlib.Omega.{arith}

@@ -1,0 +1,3 @@
+pub mod Path
+pub mod Stop
+pub mod Visit

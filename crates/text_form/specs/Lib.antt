@@ -1,0 +1,4 @@
+pub mod Parts
+pub mod Numbers
+pub mod Headers
+pub mod Reads
