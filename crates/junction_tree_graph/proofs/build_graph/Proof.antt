@@ -1,5 +1,5 @@
 use Rattle.assembly.specs.Index.{finding-finds}
-use Rattle.junction_tree_graph.specs.Indexes.{fresh-one, index-finding}
+use Rattle.kmer_threading.specs.Indexes.{fresh-one, index-finding}
 use mathlib.Core.Path.{_∙_}
 use Rattle.junction_tree_graph.specs.Built.{low-v, low-e, fits-s, build-begins}
 use Rattle.junction_tree_graph.specs.Answers.{answer-stop, answer-asks, answer-symbolic, answer-done}
