@@ -14,7 +14,7 @@ use Rattle.definition.specs.Limits.{Sample, GraphMaxima, graphMaximaFit, sample
 use Rattle.definition.specs.Threading.{threaded, withSymbolic}
 use Rattle.definition.specs.Evidence.{evidence}
 use Rattle.definition.specs.Building.{built}
-use Rattle.assembly.specs.Index.{Finding}
+use Rattle.graph_kmers.specs.Index.{Finding}
 use Rattle.junction_tree_graph.specs.declared.Built as tables
 use Rattle.junction_tree_graph.specs.declared.Answer.{Answer}
 use Rattle.junction_tree_graph.specs.declared.Answer.the-variants as answer

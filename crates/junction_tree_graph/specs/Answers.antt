@@ -17,7 +17,7 @@ use Rattle.assembly.specs.Fields.{HasVertices, kmerPlace, HasEdge}
 use Rattle.assembly.specs.Store.{kmersOf}
 use Rattle.assembly.specs.Moves.{addedE}
 use Rattle.assembly.specs.Kmers.{part}
-use Rattle.assembly.specs.Index.{Finding}
+use Rattle.graph_kmers.specs.Index.{Finding}
 use Rattle.assembly.specs.Symbolic.{symbolic}
 use Rattle.kmer_threading.specs.declared.At.{At}
 use Rattle.kmer_threading.specs.declared.Step.{Step}

@@ -1,6 +1,6 @@
 // The graph of a sample: the reference is threaded first, then the reads; the symbolic vertex and edge come last.
 use assembly::add_symbolic_edge;
-use assembly::find_kmer;
+use graph_kmers::find_kmer;
 use kmer_threading::At;
 use kmer_threading::Most;
 use kmer_threading::Step;

@@ -2,12 +2,12 @@
 // has opened. The trees and the active trees of a walk are the tables of `threading_tree`; the slot of a vertex's root is field 11 of its record, which
 // the graph does not use.
 use assembly::ROOT;
-use assembly::byte_at;
 use assembly::edge_to;
-use assembly::find_kmer;
 use assembly::incoming_count;
 use assembly::out_edge;
 use assembly::wide;
+use graph_kmers::byte_at;
+use graph_kmers::find_kmer;
 use junction_tree_graph::Built;
 use kmer_threading::wide_byte;
 use tables::VERTEX;
@@ -28,7 +28,7 @@ ghost use Rattle.assembly.specs.Fields.{HasVertices, HasVertex, outEdge, treeRo
 ghost use Rattle.assembly.specs.Store.{code};
 ghost use Rattle.read_threading.specs.Reads.{readOf, readsOf};
 ghost use Rattle.junction_tree_graph.specs.Built.{sampleOf};
-ghost use Rattle.assembly.specs.Index.{Finding};
+ghost use Rattle.graph_kmers.specs.Index.{Finding};
 ghost use Rattle.junction_trees.specs.Degrees.{OutDegree, Warrants};
 ghost use Rattle.junction_trees.specs.Roots.{Cleared};
 ghost use Rattle.junction_trees.specs.Steps.{walkedRefusal, Passing, Passed, Ending, Ended};

@@ -14,7 +14,7 @@ use Rattle.kmer_threading.specs.declared.Step.the-variants.{Next, Refuse
 use Rattle.assembly.specs.Store.{kmersOf, code, code-lt}
 use Rattle.assembly.specs.Moves.{addedV, kmers-added}
 use Rattle.assembly.specs.Kmers.{part, born, kmers-born, length-of}
-use Rattle.assembly.specs.Index.{sizeOf, Indexed, Finds, Finding, bucketOf, bucket-lt, entered, length-entered, entered-at, index-empty}
+use Rattle.graph_kmers.specs.Index.{sizeOf, Indexed, Finds, Finding, bucketOf, bucket-lt, entered, length-entered, entered-at, index-empty}
 use Rattle.kmer_threading.specs.Steps.{Gets}
 
 pub record Indexes (k : ℕ) (text vs idx : List ℕ) (most : Most) (n : ℕ) : Type 0 where

@@ -1,13 +1,13 @@
 // Threading, one kmer at a time: the vertex of a kmer, and the step to it from the vertex reached.
 use assembly::add_edge;
-use assembly::byte_at;
 use assembly::create_vertex;
 use assembly::edge_to;
-use assembly::enter_kmer;
-use assembly::find_in_bucket;
 use assembly::inc_edge;
-use assembly::kmer_bucket;
 use assembly::out_edge;
+use graph_kmers::byte_at;
+use graph_kmers::enter_kmer;
+use graph_kmers::find_in_bucket;
+use graph_kmers::kmer_bucket;
 use refusals::GRAPH_SIZE;
 ghost use mathlib.Core.Path.{_≡_};
 ghost use mathlib.Core.Bool.{not};

@@ -11,7 +11,7 @@ use Rattle.kmer_threading.proofs.extend_chain_by_one.Tie as tie
 use Rattle.kmer_threading.proofs.extend_chain_by_one.Reads as reads
 use Rattle.kmer_threading.proofs.extend_chain_by_one.Lts as lts
 use Rattle.assembly.proofs.add_edge.Reads as add-edge-reads
-use Rattle.assembly.proofs.byte_at.Reads as byte-at-reads
+use Rattle.graph_kmers.proofs.byte_at.Reads as byte-at-reads
 use Rattle.assembly.proofs.edge_to.Reads as edge-to-reads
 use Rattle.assembly.proofs.inc_edge.Reads as inc-edge-reads
 use Rattle.assembly.proofs.out_edge.Reads as out-edge-reads

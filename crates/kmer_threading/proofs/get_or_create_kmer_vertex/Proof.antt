@@ -1,16 +1,16 @@
 use Rattle.kmer_threading.specs.Indexes.{index-some, index-finds, enter-asks, index-more}
 use Rattle.kmer_threading.specs.Steps.{got-old, no-vertex, got-new, new-room}
 use native.Mathlib.Omega.{arith}
-use Rattle.assembly.proofs.find_kmer.Reads as find-kmer-reads
+use Rattle.graph_kmers.proofs.find_kmer.Reads as find-kmer-reads
 use borrow.Author.Needs.{needs}
 use Rattle.kmer_threading.proofs.get_or_create_kmer_vertex.Statement.{statement}
 use Rattle.kmer_threading.proofs.get_or_create_kmer_vertex.Tie as tie
 use Rattle.kmer_threading.proofs.get_or_create_kmer_vertex.Reads as reads
 use Rattle.kmer_threading.proofs.get_or_create_kmer_vertex.Lts as lts
 use Rattle.assembly.proofs.create_vertex.Reads as create-vertex-reads
-use Rattle.assembly.proofs.enter_kmer.Reads as enter-kmer-reads
-use Rattle.assembly.proofs.find_in_bucket.Reads as find-in-bucket-reads
-use Rattle.assembly.proofs.kmer_bucket.Reads as kmer-bucket-reads
+use Rattle.graph_kmers.proofs.enter_kmer.Reads as enter-kmer-reads
+use Rattle.graph_kmers.proofs.find_in_bucket.Reads as find-in-bucket-reads
+use Rattle.graph_kmers.proofs.kmer_bucket.Reads as kmer-bucket-reads
 
 kmer-bucket-requires : tie.Need-kmer-bucket-requires
 kmer-bucket-requires c κs = (c .before .before .before .before .pre .0 .inside, index-some (c .before .before .before .before .pre .0) (c .before .before .before .before .pre .1))
