@@ -4,10 +4,5 @@ pub mod Table
 pub mod Fields
 pub mod Store
 pub mod Moves
-pub mod Kmers
-pub mod Index
-pub mod Outs
-pub mod Sorted
 pub mod Symbolic
-pub mod Paths
-pub mod Degrees
+pub mod Kmers

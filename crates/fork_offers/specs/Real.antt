@@ -13,7 +13,7 @@ use Rattle.definition.specs.Search.{among}
 use Rattle.assembly.specs.Fields.{HasVertex, outEdge, HasEdges, HasEdge, edgeFrom, edgeTo}
 use Rattle.assembly.specs.Store.{edgeAt, edgesOf}
 use Rattle.assembly.specs.Table.{Distinct}
-use Rattle.assembly.specs.Outs.{Names, Slots, Nexts, outFrom, nexts-none, nexts-some, slots-names}
+use Rattle.out_edges.specs.Outs.{Names, Slots, Nexts, outFrom, nexts-none, nexts-some, slots-names}
 use Rattle.threading_node.specs.Ends.{ends, eqEnds-true, eqEnds-self, eqEnds-ne}
 use Rattle.threading_node.specs.Slots.{cols}
 

@@ -12,7 +12,7 @@ use Rattle.definition.specs.Threading.{Ends, Edge, supportOf, leaving}
 use Rattle.definition.specs.Search.{Offer, among, unseen, bySupport}
 use Rattle.assembly.specs.Fields.{HasEdge, edgeTo, edgeSupport}
 use Rattle.assembly.specs.Store.{edgeAt, edgesOf}
-use Rattle.assembly.specs.Outs.{Slots, Nexts, outFrom, nexts-none, nexts-some}
+use Rattle.out_edges.specs.Outs.{Slots, Nexts, outFrom, nexts-none, nexts-some}
 use Rattle.fork_offers.specs.Fields.{HasOffer}
 use Rattle.fork_offers.specs.Real.{Fork}
 use Rattle.fork_offers.specs.Rows.{Few, seenOf, Offered, Grown, rowPut, append-nil, grown-none, grown-one, grown-trans, grown-seen, grown-many, unseen-none, unseen-yes, unseen-no, unseen-split}

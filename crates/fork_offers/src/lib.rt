@@ -2,8 +2,8 @@
 // (Rust: JtPath, junction_kbest.rs)
 use assembly::edge_is_ref;
 use assembly::edge_support;
-use assembly::next_out;
 use assembly::wide;
+use out_edges::next_out;
 use tables::OFFER;
 use threading_node::edge_from;
 use threading_node::edge_to;

@@ -14,8 +14,9 @@ use Rattle.assembly.specs.Fields.{HasVertex, HasVertices}
 use Rattle.tables.specs.Widths.{edgeNumbers, openNumbers}
 use Rattle.assembly.specs.Table.{length-table}
 use Rattle.assembly.specs.Store.{edgeAt, edgesOf}
-use Rattle.assembly.specs.Sorted.{Orders}
-use Rattle.assembly.specs.Symbolic.{linked, linked-distinct, linked-orders}
+use Rattle.out_edges.specs.Sorted.{Orders}
+use Rattle.assembly.specs.Symbolic.{linked}
+use Rattle.out_edges.specs.Linked.{linked-distinct, linked-orders}
 use Rattle.threading_tree.specs.Write.{Writable, Written, held-writable, held-written}
 use Rattle.junction_trees.specs.Roots.{rootOf}
 use Rattle.junction_trees.specs.Stretches.{begun}

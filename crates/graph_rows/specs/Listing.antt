@@ -13,8 +13,8 @@ use Rattle.definition.specs.Calls.{writtenAt, flat, edgeRow}
 use Rattle.assembly.specs.Fields.{HasVertex, vertexEnd, outEdge, HasEdges, HasEdge, edgeTo}
 use Rattle.assembly.specs.Table.{length-table}
 use Rattle.assembly.specs.Store.{edgeAt, edgesOf}
-use Rattle.assembly.specs.Outs.{Nexts, Slots, Names}
-use Rattle.assembly.specs.Sorted.{Orders, rest, rest-start, rest-skip, rest-take, rest-end}
+use Rattle.out_edges.specs.Outs.{Nexts, Slots, Names}
+use Rattle.out_edges.specs.Sorted.{Orders, rest, rest-start, rest-skip, rest-take, rest-end}
 use Rattle.threading_node.specs.Front.{front, front-row, written-front, flat-last, flat-many}
 
 -- p rows are written, and the edges from (v, t) on are left

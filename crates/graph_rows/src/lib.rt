@@ -6,7 +6,7 @@ use assembly::SEQUENCE;
 use assembly::SUPPORT;
 use assembly::TO;
 use assembly::edge_to;
-use assembly::next_out;
+use out_edges::next_out;
 use tables::EDGE;
 ghost use mathlib.Core.Path.{_≡_};
 ghost use mathlib.Core.Bool.{not, cond};
@@ -17,7 +17,7 @@ ghost use Rattle.laws.specs.Records.{putFrom};
 ghost use Rattle.definition.specs.Calls.{writtenAt, flat, edgeRow};
 ghost use Rattle.assembly.specs.Fields.{HasEdges, HasEdge};
 ghost use Rattle.assembly.specs.Store.{edgeAt, edgesOf};
-ghost use Rattle.assembly.specs.Sorted.{Orders};
+ghost use Rattle.out_edges.specs.Sorted.{Orders};
 
 // The mark as a row has it: 1 for any that is set.
 fn flag(mark: u32) -> u32

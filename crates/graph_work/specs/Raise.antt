@@ -14,11 +14,11 @@ use Rattle.definition.specs.Limits.{Sample, GraphMaxima, graphMaximaFit, sample
 use Rattle.definition.specs.Threading.{threaded, withSymbolic}
 use Rattle.definition.specs.Evidence.{evidence}
 use Rattle.definition.specs.Building.{built}
-use Rattle.assembly.specs.Index.{Finding}
+use Rattle.graph_kmers.specs.Index.{Finding}
 use Rattle.junction_tree_graph.specs.declared.Built as tables
 use Rattle.junction_tree_graph.specs.declared.Answer.{Answer}
 use Rattle.junction_tree_graph.specs.declared.Answer.the-variants as answer
-use Rattle.junction_tree_graph.specs.Indexes.{Fresh}
+use Rattle.kmer_threading.specs.Indexes.{Fresh}
 use Rattle.junction_tree_graph.specs.Built.{Builds, BuiltAt, NotBuilt}
 use Rattle.junction_tree_graph.specs.Answers.{BuiltOf, FoundOf, maxima-in, not-built}
 use Rattle.junction_trees.specs.declared.Evidence.{Evidence}

@@ -1,10 +1,10 @@
 // The graph and its trees, over tables of just the lengths told: the work that the call for edges and trees and the call for the list both begin with.
 use graph_rows::clear;
 use junction_tree_graph::Answer;
-use junction_tree_graph::Most;
 use junction_tree_graph::build_graph;
 use junction_trees::Evidence;
 use junction_trees::build_trees;
+use kmer_threading::Most;
 use limits::GraphMaxima;
 ghost use mathlib.Core.Path.{_≡_};
 ghost use Rattle.limits.specs.Handed.{sampleOf, graphMaximaOf};

@@ -17,14 +17,14 @@ use Rattle.assembly.specs.Fields.{HasVertices, kmerPlace, HasEdge}
 use Rattle.assembly.specs.Store.{kmersOf}
 use Rattle.assembly.specs.Moves.{addedE}
 use Rattle.assembly.specs.Kmers.{part}
-use Rattle.assembly.specs.Index.{Finding}
+use Rattle.graph_kmers.specs.Index.{Finding}
 use Rattle.assembly.specs.Symbolic.{symbolic}
-use Rattle.junction_tree_graph.specs.declared.At.{At}
-use Rattle.junction_tree_graph.specs.declared.Step.{Step}
-use Rattle.junction_tree_graph.specs.declared.Step.the-variants.{Next, Refused}
+use Rattle.kmer_threading.specs.declared.At.{At}
+use Rattle.kmer_threading.specs.declared.Step.{Step}
+use Rattle.kmer_threading.specs.declared.Step.the-variants.{Next, Refused}
 use Rattle.junction_tree_graph.specs.declared.Answer.{Answer}
 use Rattle.junction_tree_graph.specs.declared.Answer.the-variants as answer
-use Rattle.junction_tree_graph.specs.Stretches.{OverG, CameG, Threaded}
+use Rattle.sequence_threading.specs.Stretches.{OverG, CameG, Threaded}
 use Rattle.junction_tree_graph.specs.Built.{Builds, graphFits, BuiltAt, NotBuilt, mostOf, textOf, build-stop, sink-asks, symbolic-asks, built-at}
 
 abbrev pub refusalOf : Step → ℕ

@@ -25,14 +25,14 @@ use Rattle.assembly.specs.Store.{edgeAt, edgesOf, kmersOf, graphOf, Good, good-
 use Rattle.assembly.specs.Moves.{addedE, addedE-row}
 use Rattle.assembly.specs.Kmers.{part, length-of}
 use Rattle.assembly.specs.Symbolic.{symbolic, symbolic-put, symbolic-front, symbolic-from, symbolic-to, symbolic-good}
-use Rattle.junction_tree_graph.specs.declared.Most.{Most}
-use Rattle.junction_tree_graph.specs.declared.At.{At}
-use Rattle.junction_tree_graph.specs.declared.Step.{Step}
-use Rattle.junction_tree_graph.specs.declared.Step.the-variants.{Next, Refused}
-use Rattle.junction_tree_graph.specs.Starts.{good-empty}
-use Rattle.junction_tree_graph.specs.Stretches.{CameG, OverG, Threaded, Threads, stretchAt}
+use Rattle.kmer_threading.specs.declared.Most.{Most}
+use Rattle.kmer_threading.specs.declared.At.{At}
+use Rattle.kmer_threading.specs.declared.Step.{Step}
+use Rattle.kmer_threading.specs.declared.Step.the-variants.{Next, Refused}
+use Rattle.sequence_threading.specs.Starts.{good-empty}
+use Rattle.sequence_threading.specs.Stretches.{CameG, OverG, Threaded, Threads, stretchAt}
 use Rattle.junction_tree_graph.specs.Spelling.{Has, spelled-empty, thread-has, threadAll-has, number-in, last-kmer}
-use Rattle.junction_tree_graph.specs.Reads.{ReadsThread, readsOf, all-grow, over-on}
+use Rattle.read_threading.specs.Reads.{ReadsThread, readsOf, all-grow, over-on}
 use Rattle.junction_tree_graph.specs.Bounds.{threaded-inside, length-symbolic}
 
 abbrev pub sampleOf : ℕ → ℕ → List ℕ → List ℕ → List ℕ → List ℕ → Sample

@@ -1,13 +1,4 @@
-pub mod Steps
-pub mod Indexes
-pub mod Backs
-pub mod Starts
-pub mod Stretches
 pub mod Spelling
-pub mod Runs
-pub mod Ahead
-pub mod Reads
-pub mod Usable
 pub mod Bounds
 pub mod Built
 pub mod Answers

@@ -16,11 +16,11 @@ use Rattle.laws.specs.ListLaws.{All, nil, cons, all-mono, all-zip, all-keep, al
 use Rattle.laws.specs.Numbers.{eqList, eqList-true, eqList-self}
 use Rattle.definition.specs.Stretch.{Stretch, kmers}
 use Rattle.definition.specs.Threading.{Ends, Origin, Edge, Graph, Threading, compareEnds, leaving, entering, lastBase, oneStep, merge, put, numberOf, withKmer, follow, stepTo, step, steps, backward, startAt, threadKmers, thread, threadAll}
-use Rattle.assembly.specs.Index.{position-first}
+use Rattle.graph_kmers.specs.Index.{position-first}
 use Rattle.assembly.specs.Puts.{put-nil, put-lt, put-eq, put-gt, merge-ends}
 use Rattle.assembly.specs.Kmers.{part, length-part, with-yes, with-no, position-true, position-le}
-use Rattle.junction_tree_graph.specs.Steps.{originOf}
-use Rattle.junction_tree_graph.specs.Stretches.{pieces, pieces-0, pieces-suc, steps-cons, steps-nil, kmers-is, thread-is, stretchAt}
+use Rattle.kmer_threading.specs.Steps.{originOf}
+use Rattle.sequence_threading.specs.Stretches.{pieces, pieces-0, pieces-suc, steps-cons, steps-nil, kmers-is, thread-is, stretchAt}
 
 -- ---- kmers that overlap
 split-last : (l : List ℕ) (n d : ℕ) → length l ≡ suc n → l ≡ take n l ++ (lastOr d l ∷ [])

@@ -13,10 +13,10 @@ use Rattle.definition.specs.Limits.{rising}
 use Rattle.definition.specs.Stretch.{Stretch, usable, runs, stretchesFrom}
 use Rattle.definition.specs.Threading.{Ends, Graph}
 use Rattle.definition.specs.Evidence.{Tree, walkStretch, walkAll, nodes}
-use Rattle.junction_tree_graph.specs.Stretches.{stretchAt}
-use Rattle.junction_tree_graph.specs.Runs.{longOf, runsAt, runsAt-start, RunEnd, run-ahead}
-use Rattle.junction_tree_graph.specs.Reads.{readOf, readsOf}
-use Rattle.junction_tree_graph.specs.Ahead.{from-nil, from-cons, NextEnd, next-end, later, run-inside, run-base}
+use Rattle.sequence_threading.specs.Stretches.{stretchAt}
+use Rattle.usable_stretches.specs.Runs.{longOf, runsAt, runsAt-start, RunEnd, run-ahead}
+use Rattle.read_threading.specs.Reads.{readOf, readsOf}
+use Rattle.usable_stretches.specs.Ahead.{from-nil, from-cons, NextEnd, next-end, later, run-inside, run-base}
 use Rattle.threading_tree.specs.Grows.{all-grows}
 use Rattle.junction_trees.specs.declared.Ground.{Ground}
 use Rattle.junction_trees.specs.declared.Evidence.{Evidence}

@@ -7,7 +7,7 @@ use native.Mathlib.Decide.{ℕ-discrete, decLt}
 use lib.ListN.{length, length-set}
 use Rattle.laws.specs.Records.{field-same, field-other, row-other}
 use Rattle.assembly.specs.Fields.{HasVertices, HasVertex, outEdge, treeRoot, rootCell, putTreeRoot, edgeFrom, edgeTo}
-use Rattle.assembly.specs.Index.{Finding}
+use Rattle.graph_kmers.specs.Index.{Finding}
 use Rattle.assembly.specs.Store.{graphOf, kmersOf, lastOf, code, code-lt, Good}
 use Rattle.assembly.specs.Moves.{kmers-same}
 

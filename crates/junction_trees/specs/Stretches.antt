@@ -17,7 +17,7 @@ use Rattle.definition.specs.Evidence.{Tree, Walk, pass, walkBases, walkStretch,
 use Rattle.assembly.specs.Fields.{HasVertices, HasVertex, outEdge, kmerPlace, edgeFrom, edgeTo}
 use Rattle.assembly.specs.Store.{edgeAt, kmersOf, graphOf, code, code-lt, follow-none, follow-some}
 use Rattle.assembly.specs.Kmers.{part, number-le}
-use Rattle.junction_tree_graph.specs.Stretches.{stretchAt}
+use Rattle.sequence_threading.specs.Stretches.{stretchAt}
 use Rattle.threading_node.specs.Ends.{ends}
 use Rattle.threading_tree.specs.Held.{held-again}
 use Rattle.threading_tree.specs.Grows.{many, walk-grows}

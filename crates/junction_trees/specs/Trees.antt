@@ -23,7 +23,7 @@ use Rattle.assembly.specs.Store.{graphOf}
 use Rattle.assembly.specs.Kmers.{length-of}
 use Rattle.junction_tree_graph.specs.declared.Built.{Built}
 use Rattle.junction_tree_graph.specs.Built.{Fits, fits-of, BuiltAt}
-use Rattle.junction_tree_graph.specs.Reads.{readsOf}
+use Rattle.read_threading.specs.Reads.{readsOf}
 use Rattle.threading_node.specs.Ends.{ends}
 use Rattle.threading_node.specs.Slots.{told, Beyond}
 use Rattle.threading_tree.specs.Held.{HeldWalk, held-start, held-under, held-nodes, held-room}

@@ -2,15 +2,14 @@
 // has opened. The trees and the active trees of a walk are the tables of `threading_tree`; the slot of a vertex's root is field 11 of its record, which
 // the graph does not use.
 use assembly::ROOT;
-use assembly::byte_at;
 use assembly::edge_to;
-use assembly::find_kmer;
 use assembly::incoming_count;
 use assembly::out_edge;
 use assembly::wide;
+use graph_kmers::byte_at;
+use graph_kmers::find_kmer;
 use junction_tree_graph::Built;
-use junction_tree_graph::run_end;
-use junction_tree_graph::wide_byte;
+use kmer_threading::wide_byte;
 use tables::VERTEX;
 use threading_tree::Grown;
 use threading_tree::Joined;
@@ -19,6 +18,7 @@ use threading_tree::add_edge_to_junction_tree_nodes;
 use threading_tree::grown_refusal;
 use threading_tree::joined_refusal;
 use threading_tree::pass_edge;
+use usable_stretches::run_end;
 ghost use mathlib.Core.Path.{_≡_};
 ghost use mathlib.Core.List.{_++_};
 ghost use Prim.Native.Nat.{ℕ, _+_, _*_, _^_, _<_};
@@ -26,9 +26,9 @@ ghost use lib.ListN.{length, getD};
 ghost use Rattle.laws.specs.Records.{field};
 ghost use Rattle.assembly.specs.Fields.{HasVertices, HasVertex, outEdge, treeRoot, putTreeRoot};
 ghost use Rattle.assembly.specs.Store.{code};
-ghost use Rattle.junction_tree_graph.specs.Reads.{readOf, readsOf};
+ghost use Rattle.read_threading.specs.Reads.{readOf, readsOf};
 ghost use Rattle.junction_tree_graph.specs.Built.{sampleOf};
-ghost use Rattle.assembly.specs.Index.{Finding};
+ghost use Rattle.graph_kmers.specs.Index.{Finding};
 ghost use Rattle.junction_trees.specs.Degrees.{OutDegree, Warrants};
 ghost use Rattle.junction_trees.specs.Roots.{Cleared};
 ghost use Rattle.junction_trees.specs.Steps.{walkedRefusal, Passing, Passed, Ending, Ended};

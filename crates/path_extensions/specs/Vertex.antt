@@ -18,7 +18,7 @@ use Rattle.definition.specs.Search.{SearchInput, Path, Offer, offers, extend, r
 use Rattle.tables.specs.Widths.{offerNumbers}
 use Rattle.assembly.specs.Fields.{HasVertex, outEdge, HasEdge, edgeTo}
 use Rattle.assembly.specs.Store.{edgeAt, edgesOf}
-use Rattle.assembly.specs.Outs.{Slots, Names, Nexts, outFrom}
+use Rattle.out_edges.specs.Outs.{Slots, Names, Nexts, outFrom}
 use Rattle.threading_node.specs.Ends.{ends}
 use Rattle.pivotal_edges.specs.Walk.{leaving-from, next-asks, next-is, next-none, next-some, next-in, next-row, next-fits, next-again}
 use Rattle.pivotal_edges.specs.Walk as outs

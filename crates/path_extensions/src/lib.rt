@@ -2,7 +2,6 @@
 use assembly::FROM;
 use assembly::TO;
 use assembly::edge_to;
-use assembly::next_out;
 use fork_offers::OFFER_COUNT;
 use fork_offers::OFFER_EDGE;
 use fork_offers::OFFER_GUIDED;
@@ -12,6 +11,7 @@ use fork_offers::walk_trees;
 use kbest_haplotype::Penalty;
 use kbest_haplotype::log_penalty;
 use kbest_haplotype::penalty_refusal;
+use out_edges::next_out;
 use path_edges::count_in_path;
 use path_edges::repeat_rule;
 use path_growth::Extension;

@@ -18,7 +18,7 @@ use Rattle.definition.specs.Calls.{pathRow, writtenAt, writtenRows, ListSlices,
 use Rattle.definition.specs.Calls as defs
 use Rattle.assembly.specs.Fields.{HasVertices, HasEdges, edgeTo}
 use Rattle.assembly.specs.Store.{edgeAt}
-use Rattle.assembly.specs.Paths.{Spells}
+use Rattle.graph_kmers.specs.Paths.{Spells}
 use Rattle.path_store.specs.Cells.{countOf}
 use Rattle.closed_paths.specs.Recover.{all-at}
 use Rattle.path_rows.specs.declared.PathRow.{PathRow}

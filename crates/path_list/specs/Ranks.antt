@@ -11,7 +11,7 @@ use Rattle.laws.specs.ListLaws.{All, nil, cons, all-append}
 use Rattle.laws.specs.Numbers.{compareList, isGt}
 use Rattle.laws.specs.Insertion.{insert, sorted, insert-past, insert-here, all-sorted}
 use Rattle.laws.specs.Sorting.{insert-nil}
-use Rattle.assembly.specs.Paths.{endBase, Spells}
+use Rattle.graph_kmers.specs.Paths.{endBase, Spells}
 use Rattle.path_store.specs.Cells.{countOf, scoreOf, Inside}
 use Rattle.search_state.specs.State.{upFrom}
 use Rattle.path_list.specs.Laid.{row-low}

@@ -13,7 +13,7 @@ use Rattle.laws.specs.Rows.{rows, length-rows, getD-rows}
 use Rattle.laws.specs.Sorting.{same-or}
 use Rattle.definition.specs.Calls.{writtenAt}
 use Rattle.assembly.specs.Fields.{HasEdge, IsEdgeField, edgeCell, edgeField}
-use Rattle.assembly.specs.Paths.{Spells, basesOf, bases-length}
+use Rattle.graph_kmers.specs.Paths.{Spells, basesOf, bases-length}
 use Rattle.path_store.specs.Cells.{countOf, scoreOf, Inside}
 use Rattle.path_list.specs.Laid.{Laid, row-low, laid-next, laid-sets}
 use Rattle.path_list.specs.Walked.{recordAt}

@@ -14,7 +14,7 @@ use Rattle.laws.specs.Numbers.{compareList, isGt, then, compare-eq, lt-compare,
 use Rattle.assembly.specs.Fields.{HasVertex, kmerPlace, HasEdge, edgeTo}
 use Rattle.assembly.specs.Store.{kmerAt}
 use Rattle.assembly.specs.Kmers.{last-part}
-use Rattle.assembly.specs.Paths.{endBase, Spells}
+use Rattle.graph_kmers.specs.Paths.{endBase, Spells}
 
 -- ---- the base that an edge adds
 

@@ -24,7 +24,7 @@ use Rattle.definition.proofs.Walks.{Numbered, eqEnds-true}
 use Rattle.assembly.specs.Fields.{kmerPlace, edgeFrom, edgeTo}
 use Rattle.assembly.specs.Table.{table, Distinct, find-table-some}
 use Rattle.assembly.specs.Store.{edgeAt, edgesOf, kmerAt, graphOf}
-use Rattle.assembly.specs.Paths.{basesOf, bases-is}
+use Rattle.graph_kmers.specs.Paths.{basesOf, bases-is}
 use Rattle.path_rows.specs.Rows.{finished}
 use Rattle.search_state.specs.Ground.{nameOf}
 use Rattle.search_state.specs.State.{closedRecord, upFrom}

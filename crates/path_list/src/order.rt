@@ -4,13 +4,13 @@ ghost use mathlib.Core.List.{_++_, map};
 ghost use Prim.Native.Nat.{_+_, _-_, _*_, _<_, _≤_};
 ghost use lib.ListN.{length, take};
 ghost use Rattle.laws.specs.Numbers.{compareList, isGt};
-ghost use Rattle.assembly.specs.Paths.{endBase, Spells};
+ghost use Rattle.graph_kmers.specs.Paths.{endBase, Spells};
 ghost use Rattle.path_list.specs.Tails.{Spelt};
 ghost use Rattle.path_list.specs.Ranks.{lists, Ready, aboveAt, Inserts, Inserted, Ranked};
-use assembly::byte_at;
 use assembly::edge_to;
 use assembly::kmer_place;
 use assembly::wide;
+use graph_kmers::byte_at;
 use path_store::records::path_at;
 
 // The base that an edge adds to a path: the last of its target's kmer.

@@ -6,7 +6,8 @@ use native.Mathlib.Omega.{arith}
 use native.Mathlib.Decide.{ℕ-discrete}
 use Rattle.assembly.specs.Fields.{HasVertex, HasEdges, edgeFrom, edgeTo}
 use Rattle.assembly.specs.Store.{Good}
-use Rattle.assembly.specs.Symbolic.{linked, length-linked, linked-distinct, linked-slots}
+use Rattle.assembly.specs.Symbolic.{linked, length-linked}
+use Rattle.out_edges.specs.Linked.{linked-distinct, linked-slots}
 use Rattle.pivotal_edges.specs.Walk.{Linked}
 
 pub linked-of : {k : ℕ} {text vs : List ℕ} {n : ℕ} {es : List ℕ} {m : ℕ} → Good k text vs n es m → (sink : ℕ) → sink < n → edgeFrom es m ≡ sink → edgeTo es m ≡ n

@@ -16,7 +16,7 @@ use Rattle.definition.specs.Search.{among, endsOf, pivotalOf}
 use Rattle.definition.proofs.Walks.{length-kept}
 use Rattle.assembly.specs.Fields.{edgeTo, edgeSupport}
 use Rattle.assembly.specs.Store.{edgeAt, edgesOf}
-use Rattle.assembly.specs.Outs.{Slots, Nexts, outFrom}
+use Rattle.out_edges.specs.Outs.{Slots, Nexts, outFrom}
 use Rattle.pivotal_edges.specs.Queue.{endsAt}
 use Rattle.pivotal_edges.specs.Walk.{Here, Seen, fresh, leaving-from, next-is, next-none, next-some, next-in}
 

@@ -17,7 +17,7 @@ use Rattle.definition.proofs.Fuel.{among-append}
 use Rattle.assembly.specs.Fields.{edgeFrom, edgeTo}
 use Rattle.assembly.specs.Table.{Distinct, table}
 use Rattle.assembly.specs.Store.{edgeAt, edgesOf}
-use Rattle.assembly.specs.Outs.{Slots, Nexts, has-table}
+use Rattle.out_edges.specs.Outs.{Slots, Nexts, has-table}
 use Rattle.pivotal_edges.specs.Queue.{endsAt}
 use Rattle.pivotal_edges.specs.Walk.{Here, Seen, fresh, next-is, next-in}
 

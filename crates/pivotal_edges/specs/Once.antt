@@ -13,7 +13,7 @@ use Rattle.definition.proofs.Tables.{Once}
 use Rattle.assembly.specs.Ends.{Below, is-below}
 use Rattle.assembly.specs.Table.{table}
 use Rattle.assembly.specs.Store.{edgeAt, edgesOf}
-use Rattle.assembly.specs.Outs.{Rising, rising-table}
+use Rattle.out_edges.specs.Outs.{Rising, rising-table}
 
 -- every edge is above these ends
 abbrev Above : Ends → List Edge → Type 0

@@ -13,7 +13,7 @@ use Rattle.definition.specs.Threading.{Ends, Edge, leaving}
 use Rattle.definition.specs.Search.{among, Queued, earlier, enqueue, enqueueAll}
 use Rattle.assembly.specs.Fields.{HasEdges, edgeTo}
 use Rattle.assembly.specs.Store.{edgeAt, edgesOf}
-use Rattle.assembly.specs.Outs.{Slots, Nexts, outFrom}
+use Rattle.out_edges.specs.Outs.{Slots, Nexts, outFrom}
 use Rattle.pivotal_edges.specs.Queue.{endsAt, queuedAt, before, part, Known, Enqueued}
 use Rattle.pivotal_edges.specs.Walk.{Here, Seen, fresh, leaving-from, next-is, next-none, next-some, next-in}
 

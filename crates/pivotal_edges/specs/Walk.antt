@@ -14,7 +14,7 @@ use Rattle.definition.specs.Search.{among}
 use Rattle.assembly.specs.Fields.{HasVertex, outEdge, HasEdges, HasEdge, edgeTo}
 use Rattle.assembly.specs.Table.{Distinct}
 use Rattle.assembly.specs.Store.{edgeAt, edgesOf}
-use Rattle.assembly.specs.Outs.{Slots, Names, Nexts, outFrom, nexts-none, nexts-some, slots-names}
+use Rattle.out_edges.specs.Outs.{Slots, Names, Nexts, outFrom, nexts-none, nexts-some, slots-names}
 use Rattle.pivotal_edges.specs.Queue.{endsAt}
 
 -- m edges, all of them named by the slots of their sources; every target has a record

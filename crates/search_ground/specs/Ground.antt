@@ -30,7 +30,7 @@ use Rattle.tables.specs.Widths.{edgeNumbers}
 use Rattle.assembly.specs.Table.{length-table}
 use Rattle.assembly.specs.Store.{edgeAt, edgesOf, graphOf}
 use Rattle.assembly.specs.Kmers.{length-of}
-use Rattle.assembly.specs.Outs.{nexts-none}
+use Rattle.out_edges.specs.Outs.{nexts-none}
 use Rattle.assembly.specs.Symbolic.{linked, length-linked}
 use Rattle.junction_tree_graph.specs.Built.{fits-of, BuiltAt}
 use Rattle.threading_node.specs.Ends.{eqEnds-self, eqEnds-ne}

@@ -15,7 +15,7 @@ use Rattle.definition.proofs.Forks.{offers-differ, leaving-differ}
 use Rattle.definition.proofs.Walks.{offers-on}
 use Rattle.assembly.specs.Store.{edgeAt, edgesOf}
 use Rattle.assembly.specs.Table.{table}
-use Rattle.assembly.specs.Outs as outs
+use Rattle.out_edges.specs.Outs as outs
 use Rattle.threading_node.specs.Nodes.{Nodes, node, erase, Above}
 use Rattle.threading_node.specs.Nodes as nodes
 use Rattle.threading_node.specs.Slots.{cols}

@@ -13,7 +13,7 @@ use Rattle.laws.specs.Lists.{sole}
 use Rattle.definition.specs.Threading.{Edge, leaving}
 use Rattle.assembly.specs.Fields.{HasVertices, treeRoot, HasEdge, edgeTo}
 use Rattle.assembly.specs.Store.{edgeAt, edgesOf}
-use Rattle.assembly.specs.Outs.{Slots, Nexts, outFrom}
+use Rattle.out_edges.specs.Outs.{Slots, Nexts, outFrom}
 use Rattle.pivotal_edges.specs.Walk.{Linked, Here, leaving-from, next-is, next-none, next-some, next-in, next-row, next-fits, next-again}
 
 -- ---- one vertex

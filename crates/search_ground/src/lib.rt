@@ -1,8 +1,8 @@
 // What the search stands on. Where a vertex has no tree, is not the sink and one edge leaves it, a path goes on without a decision: the two tables here
 // tell that edge, and where an edge leads.
 use assembly::edge_to;
-use assembly::next_out;
 use junction_trees::root_slot;
+use out_edges::next_out;
 ghost use lib.ListN.{length};
 ghost use Rattle.assembly.specs.Fields.{HasVertices, HasEdges};
 ghost use Rattle.pivotal_edges.specs.Walk.{Here, Linked};

@@ -1,4 +1,4 @@
-use Rattle.junction_tree_graph.specs.Indexes.{index-start, keeps-stop, keeps-next}
+use Rattle.kmer_threading.specs.Indexes.{index-start, keeps-stop, keeps-next}
 use mathlib.Core.Path.{_∙_}
 use Rattle.junction_tree_graph.specs.Built.{begin-threads, begin-stop, begin-reads, begin-done}
 use borrow.Author.Needs.{needs}
@@ -6,8 +6,8 @@ use Rattle.junction_tree_graph.proofs.build.Statement.{statement}
 use Rattle.junction_tree_graph.proofs.build.Tie as tie
 use Rattle.junction_tree_graph.proofs.build.Reads as reads
 use Rattle.junction_tree_graph.proofs.build.Lts as lts
-use Rattle.junction_tree_graph.proofs.thread_reads.Reads as thread-reads-reads
-use Rattle.junction_tree_graph.proofs.thread_sequence.Reads as thread-sequence-reads
+use Rattle.read_threading.proofs.thread_reads.Reads as thread-reads-reads
+use Rattle.sequence_threading.proofs.thread_sequence.Reads as thread-sequence-reads
 
 thread-sequence-requires : tie.Need-thread-sequence-requires
 thread-sequence-requires c κs = ((begin-threads (c .before .before .before .before .before .before .before .before .before .before .pre .0)), index-start _ _ _ _ _ (c .before .before .before .before .before .before .before .before .before .before .pre .1))

@@ -1,5 +1,5 @@
-use Rattle.assembly.specs.Index.{finding-finds}
-use Rattle.junction_tree_graph.specs.Indexes.{fresh-one, index-finding}
+use Rattle.graph_kmers.specs.Index.{finding-finds}
+use Rattle.kmer_threading.specs.Indexes.{fresh-one, index-finding}
 use mathlib.Core.Path.{_∙_}
 use Rattle.junction_tree_graph.specs.Built.{low-v, low-e, fits-s, build-begins}
 use Rattle.junction_tree_graph.specs.Answers.{answer-stop, answer-asks, answer-symbolic, answer-done}
@@ -9,7 +9,7 @@ use Rattle.junction_tree_graph.proofs.build_graph.Tie as tie
 use Rattle.junction_tree_graph.proofs.build_graph.Reads as reads
 use Rattle.junction_tree_graph.proofs.build_graph.Lts as lts
 use Rattle.assembly.proofs.add_symbolic_edge.Reads as add-symbolic-edge-reads
-use Rattle.assembly.proofs.find_kmer.Reads as find-kmer-reads
+use Rattle.graph_kmers.proofs.find_kmer.Reads as find-kmer-reads
 use Rattle.junction_tree_graph.proofs.build.Reads as build-reads
 use Rattle.junction_tree_graph.proofs.refusal.Reads as refusal-reads
 

@@ -1,4 +1,4 @@
-use Rattle.assembly.specs.Index.{finding-finds}
+use Rattle.graph_kmers.specs.Index.{finding-finds}
 use mathlib.Core.Path.{refl, _∙_}
 use mathlib.Core.List.{_++_}
 use Prim.Native.Nat.{_-_}

@@ -7,7 +7,7 @@ use Rattle.pivotal_edges.proofs.forks.Tie as tie
 use Rattle.pivotal_edges.proofs.forks.Reads as reads
 use Rattle.pivotal_edges.proofs.forks.Lts as lts
 use Rattle.assembly.proofs.edge_to.Reads as edge-to-reads
-use Rattle.assembly.proofs.next_out.Reads as next-out-reads
+use Rattle.out_edges.proofs.next_out.Reads as next-out-reads
 
 next-out-requires : tie.Need-next-out-requires
 next-out-requires c κs = next-asks (c .before .before .pre)

@@ -10,7 +10,7 @@ use Rattle.pivotal_edges.proofs.list_out.Tie as tie
 use Rattle.pivotal_edges.proofs.list_out.Reads as reads
 use Rattle.pivotal_edges.proofs.list_out.Lts as lts
 use Rattle.assembly.proofs.edge_to.Reads as edge-to-reads
-use Rattle.assembly.proofs.next_out.Reads as next-out-reads
+use Rattle.out_edges.proofs.next_out.Reads as next-out-reads
 use Rattle.pivotal_edges.proofs.forks.Reads as forks-reads
 use Rattle.pivotal_edges.proofs.list_edge.Reads as list-edge-reads
 

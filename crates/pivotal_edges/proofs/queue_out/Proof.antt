@@ -8,7 +8,7 @@ use Rattle.pivotal_edges.proofs.queue_out.Tie as tie
 use Rattle.pivotal_edges.proofs.queue_out.Reads as reads
 use Rattle.pivotal_edges.proofs.queue_out.Lts as lts
 use Rattle.assembly.proofs.edge_to.Reads as edge-to-reads
-use Rattle.assembly.proofs.next_out.Reads as next-out-reads
+use Rattle.out_edges.proofs.next_out.Reads as next-out-reads
 use Rattle.pivotal_edges.proofs.queue_edge.Reads as queue-edge-reads
 
 abbrev Inv-loop : tie.InvT-loop

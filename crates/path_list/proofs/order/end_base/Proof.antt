@@ -3,7 +3,7 @@ use Rattle.path_list.proofs.order.end_base.Statement.{statement}
 use Rattle.path_list.proofs.order.end_base.Tie as tie
 use Rattle.path_list.proofs.order.end_base.Reads as reads
 use Rattle.path_list.proofs.order.end_base.Lts as lts
-use Rattle.assembly.proofs.byte_at.Reads as byte-at-reads
+use Rattle.graph_kmers.proofs.byte_at.Reads as byte-at-reads
 use Rattle.assembly.proofs.edge_to.Reads as edge-to-reads
 use Rattle.assembly.proofs.kmer_place.Reads as kmer-place-reads
 use Rattle.assembly.proofs.wide.Reads as wide-reads

@@ -6,7 +6,7 @@ use Rattle.path_list.proofs.order.end_base.Reads as end-base-reads
 use Prim.Native.Nat.{_-_}
 use mathlib.Core.List.{_++_}
 use native.Mathlib.Omega.{arith}
-use Rattle.assembly.specs.Paths.{endBase}
+use Rattle.graph_kmers.specs.Paths.{endBase}
 use Rattle.path_list.specs.Tails.{spelt-at, Comparing, comparing-start, comparing-end, comparing-longer, comparing-differ, comparing-next}
 
 abbrev Inv-loop : tie.InvT-loop

@@ -2,7 +2,7 @@ use Rattle.path_list.proofs.rows.write_spellings.Statement.{statement}
 use Rattle.path_list.proofs.rows.write_spellings.Tie as tie
 use Rattle.path_list.proofs.rows.write_spellings.Reads as reads
 use Rattle.path_list.proofs.rows.write_spellings.Lts as lts
-use Rattle.assembly.proofs.path_bases.Reads as path-bases-reads
+use Rattle.graph_kmers.proofs.path_bases.Reads as path-bases-reads
 use Rattle.assembly.proofs.wide.Reads as wide-reads
 use Rattle.path_store.proofs.chains.at.Reads as at-reads
 use Rattle.path_store.proofs.records.path_at.Reads as path-at-reads

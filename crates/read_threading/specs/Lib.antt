@@ -1,0 +1,2 @@
+pub mod ThreadRuns
+pub mod Reads

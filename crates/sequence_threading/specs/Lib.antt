@@ -1,0 +1,3 @@
+pub mod Backs
+pub mod Starts
+pub mod Stretches

@@ -1,0 +1,4 @@
+pub mod Runs
+pub mod Scan
+pub mod Ahead
+pub mod Usable
