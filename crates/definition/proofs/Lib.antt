@@ -1,8 +1,8 @@
 -- Theorems over the definition, by layer.
--- Computed: Examples, Cases (the twelve of 01), Borders (the open points), LimitBorders (each limit at its borders), Texts (the program `paths` on case 6).
+-- Computed: Examples, Cases (the twelve of 01), Borders (the open points), LimitBorders (each limit at its borders), Texts (the program `paths` on case 6), EnoughCases (runs within the formula of 02 m).
 -- Threading: Kmers, Spelling, Maximal, Stretches, Tables, Visits, First, Degrees, Sizes, Supports. Trees: Trees, Counts.
 -- Search: Order, Column, Penalty, Runs, Walks, Turns, Along (what holds along a run), TurnParts (a turn taken apart), Waiting, Forks, Bounds, Allowance.
--- An accepted list: Found, Fewer (fewer paths asked), Origins, Checks, Late (the workspace after a refusal, and what is refused after the checks), Fuel, Demand (demand 3), Rows (the order is total), Twice (no path is listed twice).
+-- An answer: Refuses (which numbers come after the checks), Late (the workspace after a refusal). An accepted list: Found, Fewer (fewer paths asked), Origins, Checks, Fuel, Demand (demand 3), Rows (the order is total), Twice (no path is listed twice).
 pub mod Examples
 pub mod Cases
 pub mod Borders
