@@ -104,7 +104,10 @@ pub fn list(s: &Sample, input: &ListInput, short: bool) -> Result<Listed, Refusa
         let search = SearchMaxima { path_edges: 1, active: 1, pushes: 1 };
         return Ok(Listed { rows: Vec::new(), pushes: 0, longest: 0, least: Least { search, column: 2 } });
     }
-    let found = search(&built.graph, &built.trees, built.sink, built.symbolic, input)?;
+    let found = search(&built.graph, &built.trees, built.sink, built.symbolic, input);
+    if let Some(number) = found.refusal {
+        return Err(number);
+    }
     let mut rows = Vec::with_capacity(found.closed.len());
     for (i, closed) in found.closed.into_iter().enumerate() {
         rows.push(Row {
@@ -122,6 +125,36 @@ pub fn list(s: &Sample, input: &ListInput, short: bool) -> Result<Listed, Refusa
         column: (found.met.place + 1).max(2),
     };
     Ok(Listed { rows, pushes: found.pushes, longest: found.longest, least })
+}
+
+/// How far a search went, and the sizes that its allowance is reckoned from. No call tells the pushes of a search that is refused.
+#[derive(Clone, Copy, Debug, PartialEq)]
+pub struct Effort {
+    pub vertices: u32,
+    pub edges: u32,
+    pub nodes: u32,
+    pub pushes: u32,
+    pub longest: u32,
+    /// The edges of the longest path made; where it is refused 11 for its edges, one more than the maximum.
+    pub path_edges: u32,
+    /// 10 to 12, where the search met one.
+    pub refusal: Option<Refusal>,
+}
+
+/// The effort of a search for one path or more, under any maxima of the search, those beyond the limits too.
+pub fn effort(s: &Sample, input: &ListInput) -> Result<Effort, Refusal> {
+    limits::sample(s)?;
+    let Built { graph, trees, sink, symbolic } = build(s, &input.graph)?;
+    let found = search(&graph, &trees, sink, symbolic, input);
+    Ok(Effort {
+        vertices: graph.vertices() as u32,
+        edges: graph.edges.len() as u32,
+        nodes: trees.len() as u32,
+        pushes: found.pushes,
+        longest: found.longest,
+        path_edges: found.met.path_edges,
+        refusal: found.refusal,
+    })
 }
 
 /// The call for the k+1 bytes at an origin: whether they lie in the read bases, and where they start there or in the reference.

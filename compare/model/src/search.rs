@@ -35,7 +35,9 @@ pub struct Met {
     pub place: u32,
 }
 
+/// What a search had made when it ended, or when it met a refusal of 10 to 12.
 pub struct Found {
+    pub refusal: Option<Refusal>,
     pub closed: Vec<Closed>,
     pub pushes: u32,
     pub longest: u32,
@@ -97,7 +99,7 @@ impl Waiting {
 }
 
 /// The search over a graph with its symbolic edge. At least one path is asked for.
-pub fn search(graph: &Graph, trees: &Trees, sink: Vertex, symbolic: Ends, input: &ListInput) -> Result<Found, Refusal> {
+pub fn search(graph: &Graph, trees: &Trees, sink: Vertex, symbolic: Ends, input: &ListInput) -> Found {
     let source = 0;
     let mut search = Search {
         graph,
@@ -112,9 +114,9 @@ pub fn search(graph: &Graph, trees: &Trees, sink: Vertex, symbolic: Ends, input:
         pivotal: if input.recover { pivotal_edges(graph, source) } else { Vec::new() },
         met: Met::default(),
     };
-    search.push(Path { edges: Vec::new(), score: 0.0, active: Vec::new(), visited: Vec::new(), since: 0 })?;
-    search.run()?;
-    Ok(Found { closed: search.closed, pushes: search.waiting.pushes, longest: search.waiting.longest, met: search.met })
+    let start = Path { edges: Vec::new(), score: 0.0, active: Vec::new(), visited: Vec::new(), since: 0 };
+    let refusal = search.push(start).and_then(|()| search.run()).err();
+    Found { refusal, closed: search.closed, pushes: search.waiting.pushes, longest: search.waiting.longest, met: search.met }
 }
 
 impl Search<'_> {

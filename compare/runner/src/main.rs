@@ -1,5 +1,6 @@
 //! The comparison: vectors, random inputs and times, of the library, the original and the model.
 
+mod allowance;
 mod answers;
 mod bench;
 mod fuzz;
@@ -15,6 +16,7 @@ use std::process::ExitCode;
 const USAGE: &str = "usage:
   run vectors [--model] FILE..          replay vectors through the library, or through the model
   run fuzz [--model] N SEED             N random inputs through library, original and model, or without the library
+  run allowance [--model]               searches of many pushes, against the formula that they can't pass
   run bench [--original] [FILE..]       times of library and original, or of the original alone
   run paths BINARY|--model DIR..        run the program `paths` on files of input and output
   run paths-fuzz BINARY|--model N SEED  run it on N random and damaged inputs
@@ -46,6 +48,8 @@ fn command(args: &[String]) -> Result<bool, String> {
         ["vectors", _, ..] => vectors::run(&mut *library()?, &args[1..]),
         ["fuzz", "--model", inputs, seed] => fuzz::run(None, number(inputs)?, number(seed)?),
         ["fuzz", inputs, seed] => fuzz::run(Some(library()?), number(inputs)?, number(seed)?),
+        ["allowance", "--model"] => allowance::run(&mut subject::Model),
+        ["allowance"] => allowance::run(&mut *library()?),
         ["bench", "--original", ..] => bench::original(&args[2..]),
         ["bench", ..] => bench::both(&args[1..]),
         ["paths", binary, _, ..] => program::run(&program_of(binary)?, &args[2..]),

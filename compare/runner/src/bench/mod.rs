@@ -4,7 +4,7 @@
 //! `search` is what is left of each without its `build`; and `fitted` is `whole` with maxima and a column just large enough.
 
 mod clock;
-mod inputs;
+pub mod inputs;
 
 use clock::now;
 use inputs::Input;

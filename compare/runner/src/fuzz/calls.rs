@@ -1,14 +1,14 @@
 //! The calls with maxima and slices at their borders. The model's answer is checked for what the borders say of it, and is what a subject must answer.
 
-use super::Counts;
+use super::{allowance, Counts};
 use crate::answers::{GraphWritten, Lend, ListWritten, Outcome, Slice, Verdict};
 use crate::random::Random;
 use crate::subject::Subject;
 use model::{GraphMaxima, GraphRows, ListInput, Listed, Refusal, Sample, SearchMaxima};
 
-type Tested = Option<Box<dyn Subject>>;
+pub type Tested = Option<Box<dyn Subject>>;
 
-fn passed(verdict: Verdict, call: &str) -> Result<(), String> {
+pub fn passed(verdict: Verdict, call: &str) -> Result<(), String> {
     match verdict {
         Verdict::Failed(why) => Err(format!("{call}: {why}")),
         _ => Ok(()),
@@ -45,7 +45,7 @@ fn odd_graph_maxima(random: &mut Random, mut m: GraphMaxima) -> GraphMaxima {
     m
 }
 
-fn least_graph(rows: &GraphRows) -> GraphMaxima {
+pub fn least_graph(rows: &GraphRows) -> GraphMaxima {
     GraphMaxima { vertices: rows.vertices, edges: rows.edges.len() as u32, nodes: (rows.nodes.len() as u32).max(1) }
 }
 
@@ -222,6 +222,7 @@ pub fn lists(
         let outcome = model::list(sample, &input, short.is_some());
         as_told("list", told, &outcome)?;
         counts.answer("list", &outcome);
+        allowance::holds(sample, &input, graph, &outcome, counts)?;
         let expected = outcome.map(ListWritten::from);
         if told == Some(0) && expected.as_ref().ok() != full.clone().map(ListWritten::from).as_ref().ok() {
             return Err("list: another answer at maxima that suffice".into());

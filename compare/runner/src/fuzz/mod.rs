@@ -4,6 +4,7 @@
 //! slices at their borders (`calls`), the model's answers being what the library's must be.
 
 mod against;
+mod allowance;
 mod calls;
 mod generate;
 mod limits;
@@ -89,6 +90,7 @@ fn check(input: &generate::Input, subject: &mut Option<Box<dyn Subject>>, random
     against::original(input, &graph, &list, counts)?;
     calls::graphs(sample, &graph, subject, random, counts)?;
     calls::lists(sample, &settings, &graph, &list, subject, random, counts)?;
+    allowance::suffices(sample, &settings, &graph, subject, counts)?;
     calls::origins(sample, &graph, subject, random, counts)?;
     calls::lengths(sample, subject, random, counts)
 }
