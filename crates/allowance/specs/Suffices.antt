@@ -29,7 +29,7 @@ use Rattle.definition.proofs.Degrees.{rises-differ}
 use Rattle.definition.proofs.Origins.{built-is}
 use Rattle.definition.proofs.Counts.{SmallTree, counts-small}
 use Rattle.definition.proofs.Supports.{leaving-small}
-use Rattle.definition.proofs.Allowance.{NotFull}
+use Rattle.definition.proofs.Allowance.{NotFull, search-allowed}
 use Rattle.definition.proofs.Checks.{holds-first}
 use Rattle.definition.proofs.Twice.{any-keeps}
 use Rattle.definition.proofs.Refuses.{OnlyTurn}
@@ -157,6 +157,11 @@ module _ {S : Type 0} (𝓢 : Scoring S) (i : Input) (b : Built) (fine : firstBr
   unfolding search
   never-full asked limit recovery h =
       bound-free limit (afterTurns asked limit recovery (turnsOf limit recovery)) h (within asked limit (turnsOf limit recovery) recovery)
+
+  -- Any greater maximum makes the same search.
+  pub same-search : (asked limit : ℕ) (recovery : Bool) → most ≤ limit → search 𝓢 (searchInput i b) asked limit recovery ≡ search 𝓢 (searchInput i b) asked most recovery
+  unfolding enough
+  same-search asked limit recovery h = search-allowed (any-keeps 𝓢) (searchInput i b) asked most limit recovery (omega arith) h (never-full asked most recovery (omega arith))
 
   -- Whatever the maximum, no more pushes have been made after any number of turns, whether the search then goes on, ends, or its pushes have run out.
   pub pushes-few : (asked limit n : ℕ) (recovery : Bool) (s : State S) → lastOf (afterTurns asked limit recovery n) ≡ some s → s .pushes ≤ most
