@@ -135,6 +135,7 @@ pub struct Effort {
     pub nodes: u32,
     pub pushes: u32,
     pub longest: u32,
+    pub closed: u32,
     /// The edges of the longest path made; where it is refused 11 for its edges, one more than the maximum.
     pub path_edges: u32,
     /// 10 to 12, where the search met one.
@@ -152,6 +153,7 @@ pub fn effort(s: &Sample, input: &ListInput) -> Result<Effort, Refusal> {
         nodes: trees.len() as u32,
         pushes: found.pushes,
         longest: found.longest,
+        closed: found.closed.len() as u32,
         path_edges: found.met.path_edges,
         refusal: found.refusal,
     })

@@ -9,6 +9,8 @@ mod calls;
 mod generate;
 mod limits;
 
+pub use against::reads_of;
+
 use crate::answers::Tally;
 use crate::answers::Verdict;
 use crate::random::Random;
