@@ -22,7 +22,7 @@ use Rattle.definition.proofs.Column.{NotNan, column-keeps}
 use Rattle.definition.proofs.Walks.{GoodState, Numbered}
 use Rattle.definition.proofs.Turns.{lastOf, search-reached}
 use Rattle.definition.proofs.Bounds.{Counted, search-counted}
-use Rattle.definition.proofs.Checks.{Checked, k-some, some-pushes}
+use Rattle.definition.proofs.Checks.{Checked, k-some, some-pushes, sample-checked}
 use Rattle.assembly.specs.Fields.{kmerPlace}
 use Rattle.tables.specs.Widths.{edgeNumbers, queuedNumbers, offerNumbers}
 use Rattle.slice_lengths.specs.Workspaces.{vertexTable, pathTable, pathScores, activeNodes, waitingQueue, closedPaths, pivotalOrder, pivotalMarks, pathWalks, openTrees}
@@ -48,7 +48,7 @@ use Rattle.list_interface.specs.declared.Settings.{Settings}
 use Rattle.list_interface.specs.Answers.{refusedAnswer, foundAnswer, Told32}
 use Rattle.list_work.specs.Outcome.{Outputs, outputsOf, Tables, writtenList, Listed, found, listed-refused, listed-done, listed-none}
 use Rattle.list_interface.specs.Handed.{inputFor}
-use Rattle.list_work.specs.Works.{Outs, checked-rules, active-some}
+use Rattle.list_work.specs.Works.{Outs, active-some}
 use Rattle.search_setup.specs.Chains.{Chains, Chained, Small}
 
 abbrev pub searchRefusal : Search → ℕ
@@ -124,7 +124,7 @@ module _ {i : Input} {o : Outputs} {w : Tables} {b : Raise} (q : Searches i o w 
   f = searchInput i (builtFor (i .sample))
 
   rules : firstBroken (sampleRules (i .sample)) ≡ 0
-  rules = checked-rules i (q .checks)
+  rules = sample-checked i (q .checks)
 
   limits : InLimits (i .asked) (i .graphMaxima) (i .searchMaxima)
   limits = settings-most (i .asked) (i .graphMaxima) (i .searchMaxima) (q .checks .settings-fit)

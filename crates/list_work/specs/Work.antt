@@ -11,6 +11,7 @@ use Rattle.definition.specs.Limits.{Input}
 use Rattle.definition.specs.Score.{columnScoring}
 use Rattle.definition.specs.Building.{Built, built}
 use Rattle.definition.specs.Listing.{afterBuild}
+use Rattle.definition.proofs.Checks.{sample-checked}
 use Rattle.tables.specs.Widths.{edgeNumbers}
 use Rattle.slice_lengths.specs.Workspaces.{openTrees}
 use Rattle.slice_lengths.specs.Bounds.{settings-most}
@@ -22,7 +23,7 @@ use Rattle.graph_work.specs.Raise.{raiseRefusal, Raises, RaisedAt, RaisedOf, ra
 use Rattle.list_interface.specs.declared.ListAnswer.{ListAnswer}
 use Rattle.list_interface.specs.Answers.{refusedAnswer}
 use Rattle.list_work.specs.Outcome.{Outputs, Tables, tablesOf, Listed, found, listed-refused}
-use Rattle.list_work.specs.Works.{Works, checked-rules, checked-maxima}
+use Rattle.list_work.specs.Works.{Works, checked-maxima}
 use Rattle.list_work.specs.Search.{Searches, none-asked}
 
 max-first : (a b n : ℕ) → n ≡ max a b → a ≤ n
@@ -39,7 +40,7 @@ module _ {i : Input} {o : Outputs} {w : Tables} (q : Works i o w) where
   pub work-raises : Raises (i .sample) (i .graphMaxima) (w .vertices) (w .edges) (w .index) (w .nodes) (w .walks)
   work-raises =
       record {
-        rules = checked-rules i (q .checks);
+        rules = sample-checked i (q .checks);
         maxima = checked-maxima i (q .checks);
         vertices = q .vertices;
         edges = q .edges;

@@ -7,8 +7,7 @@ use lib.ListN.{length}
 use borrow.Author.Tests.{leb-true}
 use Rattle.laws.specs.ListLaws.{and-left, and-right}
 use Rattle.laws.specs.Numbers.{within}
-use Rattle.definition.specs.Refusal.{firstBroken}
-use Rattle.definition.specs.Limits.{Input, graphMaximaFit, searchMaximaFit, settingsFit, sampleRules}
+use Rattle.definition.specs.Limits.{Input, graphMaximaFit, searchMaximaFit, settingsFit}
 use Rattle.definition.proofs.Checks.{Checked}
 use Rattle.slice_lengths.specs.Workspaces.{vertexTable, edgeTable, kmerIndex, nodeTable, targetTable, pathTable, pathScores, activeNodes, waitingQueue, closedPaths, pivotalOrder, pivotalMarks, pathWalks}
 use Rattle.list_work.specs.Outcome.{Outputs, Tables}
@@ -41,10 +40,6 @@ pub record Works (i : Input) (o : Outputs) (w : Tables) : Type 0 where
   pub walks : length (w .walks) ≡ pathWalks (i .asked) (i .graphMaxima) (i .searchMaxima)
 
 -- ---- what the checks give
-
-pub checked-rules : (i : Input) → Checked i → firstBroken (sampleRules (i .sample)) ≡ 0
-unfolding sampleRules firstBroken
-checked-rules i c = rw (c .k-fits, firstBroken, c .reference-fits, firstBroken, c .reference-bases, firstBroken, c .reads-fit, firstBroken)
 
 pub checked-maxima : (i : Input) → Checked i → graphMaximaFit (i .graphMaxima) ≡ true
 unfolding settingsFit
