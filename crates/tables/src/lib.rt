@@ -5,7 +5,7 @@ pub const EDGE_ROW: usize = 6;
 
 pub const NODE_ROW: usize = 4;
 
-// assembly: a vertex, an edge, and what finds a kmer
+// assembly: a vertex and an edge; graph_kmers: what finds a kmer
 pub const VERTEX: usize = 12;
 
 pub const EDGE: usize = 6;
