@@ -67,7 +67,7 @@ pub record Good (k : ℕ) (text : List ℕ) (vs : List ℕ) (n : ℕ) (es : List
   pub zeros : (v c : ℕ) → n ≤ v → c < 12 → outEdge vs v c ≡ 0
 
 -- ---- two bases of one code are one base
-or-else : {C : Type 0} (a b : Bool) → (a || b) ≡ true → (a ≡ true → C) → (b ≡ true → C) → C
+pub or-else : {C : Type 0} (a b : Bool) → (a || b) ≡ true → (a ≡ true → C) → (b ≡ true → C) → C
 or-else true b h f g = f refl
 or-else false b h f g = g h
 

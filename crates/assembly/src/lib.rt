@@ -107,20 +107,6 @@ pub fn edge_is_ref(edges: &[u32], i: usize) -> bool
     edges[i * EDGE + MARK] != 0
 }
 
-pub fn edge_sequence(edges: &[u32], i: usize) -> usize
-    requires { ⌜ HasEdge (now edges) i ⌝ }
-    ensures { λ r. ⌜ r ≡ edgeSequence (now (edges .entry)) i ⌝ }
-{
-    wide(edges[i * EDGE + SEQUENCE])
-}
-
-pub fn edge_place(edges: &[u32], i: usize) -> usize
-    requires { ⌜ HasEdge (now edges) i ⌝ }
-    ensures { λ r. ⌜ r ≡ edgePlace (now (edges .entry)) i ⌝ }
-{
-    wide(edges[i * EDGE + PLACE])
-}
-
 // ---- writing
 
 // Vertex n, with the kmer at place q of the text.

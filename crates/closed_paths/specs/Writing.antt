@@ -1,7 +1,7 @@
--- The bases and the origins of a path, from its edges written out: loops that copy what a table tells of each edge.
+-- The origins of a path, from its edges written out: a loop that copies what a table tells of each edge.
 use mathlib.Core.Path.{_≡_, refl, sym, ap, _∙_}
 use mathlib.Core.List.{List, [], _∷_, _++_, map, map-append}
-use Prim.Native.Nat.{ℕ, _+_, _-_, _<_, _≤_}
+use Prim.Native.Nat.{ℕ, _+_, _<_, _≤_}
 use native.Mathlib.Numerals.{add-one}
 use native.Mathlib.Omega.{arith}
 use lib.ListN.{length, getD, take, set, length-map}
@@ -44,10 +44,6 @@ module _ (tell : ℕ → ℕ) (walk : List ℕ) (n : ℕ) (out₀ : List ℕ) (f
 
   pub copying-end : n ≤ i → out ≡ sets out₀ from (map tell (take n walk))
   copying-end h = let z : i ≡ n = omega (arith, C .low) in rw z at (C .is)
-
--- the base that an edge adds: the last base of its target
-abbrev pub baseOf : List ℕ → List ℕ → ℕ → ℕ
-baseOf targets last e = getD last (getD targets e 0) 0
 
 -- ---- over the definition
 

@@ -1,33 +1,12 @@
-// The bases and the origins of a path, from its edges written out in order.
+// The origins of a path, from its edges written out in order.
 ghost use mathlib.Core.Path.{_≡_};
 ghost use mathlib.Core.List.{map};
 ghost use Prim.Native.Nat.{ℕ, _+_, _*_, _<_, _≤_};
 ghost use lib.ListN.{length, getD, take};
 ghost use lib.Seq.{sets};
 ghost use Rattle.laws.specs.Records.{field};
-ghost use Rattle.closed_paths.specs.Writing.{baseOf};
 use path_store::chains::at;
 use path_store::chains::wide;
-
-// The last base of the target of each of the first n edges of a walk, from the place `from` on; `last` has each vertex's last base. (path_bases)
-pub fn write_bases(
-    walk: &[u32],
-    n: usize,
-    targets: &[u32],
-    last: &[u8],
-    out: &mut [u8],
-    from: usize,
-)
-    requires { ⌜ (n ≤ length (now walk)) × ((i : ℕ) → i < n → getD (now walk) i 0 < length (now targets)) × ((e : ℕ) → e < length (now targets) → getD (now targets) e 0 < length (now last)) × (from + n ≤ length (now out)) ⌝ }
-    ensures { λ _. ⌜ now (out .exit) ≡ sets (now (out .entry)) from (map (baseOf (now (targets .entry)) (now (last .entry))) (take n (now (walk .entry)))) ⌝ }
-{
-    let mut i: usize = 0;
-    while i < n {
-        let v = wide(at(targets, walk[i]));
-        out[from + i] = last[v];
-        i += 1;
-    }
-}
 
 // A field of each of the first n edges of a walk, in a table of records of `width` numbers, from the place `from` on: the sequences or the places of the origins.
 pub fn write_field(

@@ -1,4 +1,3 @@
 pub mod Outs
 pub mod Sorted
 pub mod Linked
-pub mod Degrees

@@ -1,7 +1,7 @@
 -- Once the sink's free slot 4 names the symbolic edge, the slots hold every out-edge. Assumes nothing.
-use mathlib.Core.Path.{_≡_, refl, sym, ap, _∙_}
+use mathlib.Core.Path.{_≡_, sym, ap, _∙_}
 use mathlib.Core.Logic.{_≢_}
-use mathlib.Core.Bool.{Bool, true, false, _||_}
+use mathlib.Core.Bool.{true, _||_}
 use mathlib.Core.List.{List}
 use Prim.Native.Nat.{ℕ, _+_, _-_, _<_, _≤_}
 use native.Mathlib.Omega.{arith}
@@ -14,16 +14,12 @@ use Rattle.definition.specs.Limits.{isBase}
 use Rattle.definition.specs.Threading.{Ends}
 use Rattle.assembly.specs.Fields.{HasVertices, HasVertex, vertexField, outEdge, HasEdges, edgeFrom, edgeTo}
 use Rattle.assembly.specs.Table.{Distinct}
-use Rattle.assembly.specs.Store.{edgeAt, lastOf, code, Good, good-distinct}
+use Rattle.assembly.specs.Store.{edgeAt, lastOf, or-else, code, Good, good-distinct}
 use Rattle.assembly.specs.Symbolic.{linked, length-linked}
 use Rattle.out_edges.specs.Outs.{Slots, slots-of}
 use Rattle.out_edges.specs.Sorted.{Orders}
 
 -- ---- no base has the code 4, so slot 4 is free
-or-else : {C : Type 0} (a b : Bool) → (a || b) ≡ true → (a ≡ true → C) → (b ≡ true → C) → C
-or-else true b h f g = f refl
-or-else false b h f g = g h
-
 not-four : (b : ℕ) → isBase b ≡ true → code b ≢ 4
 unfolding isBase code
 not-four b h e =

@@ -1,24 +1,21 @@
 -- All edges in the definition's order, by the numbers of birth: vertex by vertex, each time the next out-edge. Assumes nothing.
-use mathlib.Core.Path.{_≡_, refl, sym, ap, _∙_}
+use mathlib.Core.Path.{_≡_, refl, sym, _∙_}
 use mathlib.Core.Logic.{_⊎_, inl, inr}
 use mathlib.Core.Bool.{Bool, true, false, _&&_, _||_}
-use mathlib.Core.List.{List, [], _∷_, _++_, map, append-assoc, append-nil, map-append}
-use Prim.Native.Nat.{ℕ, _+_, _-_, _*_, _<_, _≤_, Ordering·gt}
+use mathlib.Core.List.{List, [], _∷_}
+use Prim.Native.Nat.{ℕ, _+_, _-_, _<_, _≤_, Ordering·gt}
 use native.Mathlib.Omega.{arith}
-use native.Mathlib.Numerals.{add-one}
 use native.Mathlib.Decide.{ℕ-discrete, decLt}
 use lib.Dec.{eqb, leb, ltb}
-use lib.ListN.{length, set, take, drop, length-set}
-use lib.Seq.{take-suc-set, drop-set-lt}
+use lib.ListN.{length}
 use borrow.Author.Tests.{eqb-true, eq-eqb, le-leb, leb-true, lt-ltb, le-ltb, ltb-true}
 use Rattle.laws.specs.Lists.{keep}
 use Rattle.definition.specs.Threading.{Ends, Edge, compareEnds}
-use Rattle.laws.specs.ListLaws.{length-nil}
-use Rattle.assembly.specs.Fields.{HasVertex, outEdge, HasEdges, HasEdge, edgeFrom, edgeTo}
+use Rattle.assembly.specs.Fields.{HasVertex, HasEdges, edgeFrom, edgeTo}
 use Rattle.assembly.specs.Ends.{Below, is-below, is-above}
-use Rattle.assembly.specs.Table.{table, Distinct, length-table}
+use Rattle.assembly.specs.Table.{table, Distinct}
 use Rattle.assembly.specs.Store.{edgeAt, edgesOf}
-use Rattle.out_edges.specs.Outs.{Each, each-table, keep-least, keep-none, rising-table, has-table, Nexts, Slots, Names}
+use Rattle.out_edges.specs.Outs.{Each, each-table, keep-least, keep-none, rising-table, has-table, Nexts, Slots}
 
 -- ends at or after (v, t)
 abbrev from-there : ℕ → ℕ → Ends → Bool
@@ -153,82 +150,3 @@ pub record Orders (vs es out : List ℕ) (m : ℕ) : Type 0 where
   pub room-e : HasEdges es m
   pub room-o : m ≤ length out
   pub few-e : m ≤ 8192
-
--- what the pass leaves: the first numbers name the definition's edges in order; the rest of `out` is as it was
-pub record Ordered (es out out' : List ℕ) (m : ℕ) : Type 0 where
-  pub is : map (edgeAt es) (take m out') ≡ edgesOf es m
-  pub beyond : drop m out' ≡ drop m out
-
-pub record Passing (es out out' : List ℕ) (m v t p : ℕ) : Type 0 where
-  pub same : length out' ≡ length out
-  pub fits : p + length (rest v t (edgesOf es m)) ≡ m
-  pub is : map (edgeAt es) (take p out') ++ rest v t (edgesOf es m) ≡ edgesOf es m
-  pub beyond : drop m out' ≡ drop m out
-
-module _ {vs es out : List ℕ} {m : ℕ} (x : Orders vs es out m) where
-  length-all : length (edgesOf es m) ≡ m
-  unfolding edgesOf
-  length-all = length-table (edgeAt es) m (x .distinct)
-
-  pub pass-start : Passing es out out m 0 0 0
-  pass-start = record { same = refl; fits = rw (rest-start es m) (let z = length-all in omega arith); is = rest-start es m; beyond = refl }
-
-  module _ {out' : List ℕ} {v t p : ℕ} (b : Passing es out out' m v t p) where
-    pub pass-end : m ≤ p → Ordered es out out' m
-    pass-end l =
-        let e : rest v t (edgesOf es m) ≡ [] = length-nil (rest v t (edgesOf es m)) (let w = b .fits in omega arith) in
-        let f : p ≡ m = (let w = b .fits in omega arith) in
-        record { is = sym (append-nil (map (edgeAt es) (take m out'))) ∙ (rw (e, f) at (b .is)); beyond = b .beyond }
-
-    module _ (l : p < m) where
-      -- while edges are left there is a vertex to look at
-      pub pass-v : HasVertex vs v
-      pass-v = go (decLt (length vs) (v * 12 + 12))
-        where
-          go : Dec (length vs < v * 12 + 12) → HasVertex vs v
-          go (yes h) = absurd (let e = ap length (rest-end es m v t (λ i k. (let z = x .from-in i k in omega arith))) in let w = b .fits in omega arith)
-          go (no h) = omega arith
-
-      pub pass-names : (HasVertex vs v) × ((c : ℕ) → c < 8 → Names es (outEdge vs v c))
-      pass-names = (pass-v, λ c h z. (let w = x .slots v pass-v .full c h z .0 in let r = x .room-e in omega arith))
-
-      module _ {r : ℕ} (nexts : (k : ℕ) → Slots vs es k v → Nexts es k v t r) where
-        nx : Nexts es m v t r
-        nx = nexts m (x .slots v pass-v)
-
-        pub pass-skip : r ≡ 0 → Passing es out out' m (v + 1) 0 p
-        pass-skip z =
-            let e = rest-skip es m v t r nx z in
-            record { same = b .same; fits = rw (← e) (b .fits); is = rw (← e) (b .is); beyond = b .beyond }
-
-        module _ (z : r ≡ 0 → ⊥) where
-          pos : 0 < r
-          pos = omega arith
-
-          e : rest v t (edgesOf es m) ≡ edgeAt es (r - 1) ∷ rest v (edgeTo es (r - 1) + 1) (edgesOf es m)
-          e = rest-take es m v t r (x .distinct) nx pos
-
-          pub pass-in : r - 1 < m
-          pass-in = let w = nx .there pos .0 in let q = pos in omega arith
-
-          pub pass-room : HasEdge es (r - 1)
-          pass-room = let w = pass-in in let q = x .room-e in omega arith
-
-          pub pass-o : p < length out'
-          pass-o = let q = x .room-o in let u = b .same in omega arith
-
-          pub pass-take : Passing es out (set out' p (r - 1)) m v (edgeTo es (r - 1) + 1) (p + 1)
-          pass-take =
-              record {
-                same = length-set out' p (r - 1) ∙ b .same;
-                fits = let w = b .fits in let q = ap length e in omega arith;
-                is =
-                    rw (
-                      add-one p,
-                      take-suc-set out' p (r - 1) pass-o,
-                      map-append (edgeAt es) (take p out') ((r - 1) ∷ []),
-                      append-assoc (map (edgeAt es) (take p out')) (edgeAt es (r - 1) ∷ []) (rest v (edgeTo es (r - 1) + 1) (edgesOf es m)),
-                      ← e,
-                    ) (b .is);
-                beyond = drop-set-lt m out' p (r - 1) l ∙ b .beyond;
-              }
