@@ -9,7 +9,7 @@ use Rattle.definition.specs.Limits.{Input, listTold}
 use Rattle.definition.specs.Evidence.{nodes}
 use Rattle.definition.specs.Building.{Built, built}
 use Rattle.definition.specs.Listing.{refusal, answer}
-use Rattle.definition.specs.Calls.{listLent}
+use Rattle.definition.specs.Calls.{listOutcome, listLent}
 use Rattle.definition.specs.Enough.{enough}
 use Rattle.allowance.specs.Answers.{enoughFor, never-twelve-built, never-twelve, listed-few, never-ten}
 use Rattle.slice_lengths.specs.Lengths.{listWorkspaceTold}
@@ -44,6 +44,7 @@ module _ (i : Input) (r : ListAnswer) (rs rs′ : List PathRow) (o o′ : Output
 
   -- Whatever its maximum: the pushes that an accepted call tells are no more than the formula.
   pub list-pushes-few : r .refusal ≡ 0 → r .pushes ≤ enoughFor i
+  unfolding listOutcome
   list-pushes-few e =
       let m = made i told lent (slicesOf rs o) (sym (called .refusal) ∙ e) in
       rw (called .pushes, outcome i told lent (slicesOf rs o) m) (listed-few i (listTold i told) (listLent (slicesOf rs o) lent) (m .rows) (m .pushes) (m .longest) (m .is))
