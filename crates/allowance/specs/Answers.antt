@@ -20,12 +20,12 @@ use Rattle.definition.specs.Search.{SearchInput, State, Path, Turn, more, ended
 use Rattle.definition.specs.Building.{Built, built}
 use Rattle.definition.specs.Listing.{Row, Answer, refusal, listed, searchInput, listOf, answerOf, afterBuild, afterChecks, answer}
 use Rattle.definition.specs.Enough.{enough}
-use Rattle.definition.proofs.Turns.{lastOf}
-use Rattle.definition.proofs.Allowance.{NotFull}
-use Rattle.definition.proofs.Checks.{checked, accepted, sample-checked}
-use Rattle.definition.proofs.Found.{Listing}
-use Rattle.definition.proofs.Late.{list-keeps}
-use Rattle.definition.proofs.Refuses.{OnlyTurn, OnlyAnswer, search-only, found-only}
+use Rattle.theorems.proofs.Turns.{lastOf}
+use Rattle.theorems.proofs.Allowance.{NotFull}
+use Rattle.theorems.proofs.Checks.{checked, accepted, sample-checked}
+use Rattle.theorems.proofs.Found.{Listing}
+use Rattle.theorems.proofs.Late.{list-keeps}
+use Rattle.theorems.proofs.Refuses.{OnlyTurn, OnlyAnswer, search-only, found-only}
 use Rattle.allowance.specs.Suffices.{enough-up, built-fits, most, never-full, search-few, search-eleven, maxima-suffice}
 use Rattle.allowance.specs.Covered.{column-covers}
 

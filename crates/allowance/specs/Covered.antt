@@ -18,11 +18,11 @@ use Rattle.definition.specs.Threading.{supportOf, leaving}
 use Rattle.definition.specs.Evidence.{Branches, Tree, treeAt}
 use Rattle.definition.specs.Search.{SearchInput, Path, Offer, offers, joinTree, search}
 use Rattle.definition.specs.Enough.{Covers}
-use Rattle.definition.proofs.Counts.{Small, SmallTree, small-walk, offers-small}
-use Rattle.definition.proofs.Penalty.{offers-part, penalty-there}
-use Rattle.definition.proofs.Turns.{no-some, same-some}
-use Rattle.definition.proofs.TurnParts.{Joins, join-parts, Kept}
-use Rattle.definition.proofs.Refuses.{OnlyTurn, search-only}
+use Rattle.theorems.proofs.Counts.{Small, SmallTree, small-walk, offers-small}
+use Rattle.theorems.proofs.Penalty.{offers-part, penalty-there}
+use Rattle.theorems.proofs.Turns.{no-some, same-some}
+use Rattle.theorems.proofs.TurnParts.{Joins, join-parts, Kept}
+use Rattle.theorems.proofs.Refuses.{OnlyTurn, search-only}
 
 -- a column covers every total below its length
 pub column-covers : (column : List Float) (n : ℕ) → n < length column → Covers (columnScoring column) n

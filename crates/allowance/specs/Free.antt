@@ -8,8 +8,8 @@ use lib.ListN.{length}
 use Rattle.definition.specs.Score.{Scoring}
 use Rattle.definition.specs.Search.{SearchInput, Path, State, Made, atEnd, broken, made, Turn, more, ended, failed, full, push, pushAll, advance, pushMade, turn, run}
 use Rattle.definition.specs.Enough.{pushEvery, pushFreely, freeTurn, freeRun}
-use Rattle.definition.proofs.Runs.{run-ended, run-failed, run-full}
-use Rattle.definition.proofs.Allowance.{NotFull}
+use Rattle.theorems.proofs.Runs.{run-ended, run-failed, run-full}
+use Rattle.theorems.proofs.Allowance.{NotFull}
 
 module _ {S : Type 0} (𝓢 : Scoring S) (f : SearchInput) (asked : ℕ) where
   free-ended : (n : ℕ) (s : State S) → freeRun 𝓢 f asked n (ended s) ≡ ended s

@@ -15,9 +15,9 @@ use Rattle.definition.specs.Score.{Scoring}
 use Rattle.definition.specs.Threading.{Ends}
 use Rattle.definition.specs.Evidence.{Branches, hasBranch, Tree, treeAt}
 use Rattle.definition.specs.Search.{SearchInput, Path, State, more, walkTrees, joinTree, run, firstState}
-use Rattle.definition.proofs.Walks.{refused-ok, ok-same, length-walk}
-use Rattle.definition.proofs.Turns.{lastOf, no-some}
-use Rattle.definition.proofs.TurnParts.{Step, Kept, run-kept}
+use Rattle.theorems.proofs.Walks.{refused-ok, ok-same, length-walk}
+use Rattle.theorems.proofs.Turns.{lastOf, no-some}
+use Rattle.theorems.proofs.TurnParts.{Step, Kept, run-kept}
 
 -- the trees not visited
 unfoldable unvisited : List ℕ → List Tree → ℕ

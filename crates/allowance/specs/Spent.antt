@@ -17,13 +17,13 @@ use Rattle.definition.specs.Threading.{Ends, Edge, leaving}
 use Rattle.definition.specs.Evidence.{Branches, nodes}
 use Rattle.definition.specs.Search.{SearchInput, Path, State, Made, atEnd, broken, made, Turn, more, ended, failed, full, offers, ahead, wait, push, pushAll, takePath, recover, advance, pushMade, turn, run, pivotalEdges, firstState}
 use Rattle.definition.specs.Enough.{enough}
-use Rattle.definition.proofs.Runs.{all-wait}
-use Rattle.definition.proofs.Walks.{Has, Good, GoodState, end-made, take-grown, advance-made}
-use Rattle.definition.proofs.Turns.{first-good}
-use Rattle.definition.proofs.Trees.{Rising, AllRising}
-use Rattle.definition.proofs.Forks.{pivotal-differ}
-use Rattle.definition.proofs.Twice.{any-keeps, walk-rising}
-use Rattle.definition.proofs.TurnParts.{Taken, take-parts, extensions-steps, recover-parts}
+use Rattle.theorems.proofs.Runs.{all-wait}
+use Rattle.theorems.proofs.Walks.{Has, Good, GoodState, end-made, take-grown, advance-made}
+use Rattle.theorems.proofs.Turns.{first-good}
+use Rattle.theorems.proofs.Trees.{Rising, AllRising}
+use Rattle.theorems.proofs.Forks.{pivotal-differ}
+use Rattle.theorems.proofs.Twice.{any-keeps, walk-rising}
+use Rattle.theorems.proofs.TurnParts.{Taken, take-parts, extensions-steps, recover-parts}
 use Rattle.allowance.specs.Weights.{below, below-up, guide, unmet-all, unmet-nodes, room, decisions, weight, extensions-weight, join-weight}
 
 -- what the search looks at, as every built graph has it

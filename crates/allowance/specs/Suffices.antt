@@ -21,18 +21,18 @@ use Rattle.definition.specs.Search.{State, Turn, more, ended, failed, full, joi
 use Rattle.definition.specs.Building.{Built, built, builtOf}
 use Rattle.definition.specs.Listing.{searchInput}
 use Rattle.definition.specs.Enough.{enough, freeSearch, Covers, Suffices}
-use Rattle.definition.proofs.Walks.{refused-ok, ok-same}
-use Rattle.definition.proofs.Turns.{lastOf, same-some, no-some, search-enough}
-use Rattle.definition.proofs.Trees.{evidence-rising}
-use Rattle.definition.proofs.Tables.{symbolic-rises}
-use Rattle.definition.proofs.Degrees.{rises-differ}
-use Rattle.definition.proofs.Origins.{built-is}
-use Rattle.definition.proofs.Counts.{SmallTree, counts-small}
-use Rattle.definition.proofs.Supports.{leaving-small}
-use Rattle.definition.proofs.Allowance.{NotFull, search-allowed}
-use Rattle.definition.proofs.Checks.{holds-first}
-use Rattle.definition.proofs.Twice.{any-keeps}
-use Rattle.definition.proofs.Refuses.{OnlyTurn}
+use Rattle.theorems.proofs.Walks.{refused-ok, ok-same}
+use Rattle.theorems.proofs.Turns.{lastOf, same-some, no-some, search-enough}
+use Rattle.theorems.proofs.Trees.{evidence-rising}
+use Rattle.theorems.proofs.Tables.{symbolic-rises}
+use Rattle.theorems.proofs.Degrees.{rises-differ}
+use Rattle.theorems.proofs.Origins.{built-is}
+use Rattle.theorems.proofs.Counts.{SmallTree, counts-small}
+use Rattle.theorems.proofs.Supports.{leaving-small}
+use Rattle.theorems.proofs.Allowance.{NotFull, search-allowed}
+use Rattle.theorems.proofs.Checks.{holds-first}
+use Rattle.theorems.proofs.Twice.{any-keeps}
+use Rattle.theorems.proofs.Refuses.{OnlyTurn}
 use Rattle.allowance.specs.Ways.{five-offered}
 use Rattle.allowance.specs.Weights.{below, below-up}
 use Rattle.allowance.specs.Spent.{Lean, Within, spent-pushes, turns-within}

@@ -14,11 +14,11 @@ use Rattle.definition.specs.Limits.{Sample, referenceBases}
 use Rattle.definition.specs.Threading.{Ends, eqEnds, compareEnds, Edge, supportOf, leaving, merge, put, threaded, symbolicOf, lastPlace, withSymbolic}
 use Rattle.definition.specs.Evidence.{Branches, bare, branch}
 use Rattle.definition.specs.Search.{SearchInput, Offer, among, sumOf, realBranches, unseen, bySupport, offers}
-use Rattle.definition.proofs.Walks.{eqEnds-true, Has, all-best}
-use Rattle.definition.proofs.Tables.{symbolic-rises}
-use Rattle.definition.proofs.Degrees.{rises-differ, five-leave}
-use Rattle.definition.proofs.Trees.{Rising}
-use Rattle.definition.proofs.Forks.{offers-differ, leaving-differ}
+use Rattle.theorems.proofs.Walks.{eqEnds-true, Has, all-best}
+use Rattle.theorems.proofs.Tables.{symbolic-rises}
+use Rattle.theorems.proofs.Degrees.{rises-differ, five-leave}
+use Rattle.theorems.proofs.Trees.{Rising}
+use Rattle.theorems.proofs.Forks.{offers-differ, leaving-differ}
 
 -- ---- what holds of every edge but an unsupported symbolic one holds of every offer
 

@@ -17,11 +17,11 @@ use Rattle.definition.specs.Score.{Scoring}
 use Rattle.definition.specs.Threading.{Ends, eqEnds, Edge}
 use Rattle.definition.specs.Evidence.{Branches, bare, branch, hasBranch, Tree, treeAt, nodesBelow, nodes}
 use Rattle.definition.specs.Search.{SearchInput, Path, Offer, verticesFrom, times, child, walkTrees, bySupport, unseen, offers, lengthen, extend, repeatRule, extensions, joinTree}
-use Rattle.definition.proofs.Walks.{refused-ok, ok-same, and-then-ok, all-each}
-use Rattle.definition.proofs.Turns.{no-some, same-some}
-use Rattle.definition.proofs.Trees.{Rising, AllRising}
-use Rattle.definition.proofs.Twice.{tree-rising}
-use Rattle.definition.proofs.TurnParts.{Joins, join-parts}
+use Rattle.theorems.proofs.Walks.{refused-ok, ok-same, and-then-ok, all-each}
+use Rattle.theorems.proofs.Turns.{no-some, same-some}
+use Rattle.theorems.proofs.Trees.{Rising, AllRising}
+use Rattle.theorems.proofs.Twice.{tree-rising}
+use Rattle.theorems.proofs.TurnParts.{Joins, join-parts}
 
 -- ---- numbers
 

@@ -11,7 +11,7 @@ use native.Mathlib.Nat.{add-assoc}
 use lib.ListN.{length}
 use Rattle.laws.specs.Lists.{keep, find}
 use Rattle.definition.specs.Threading.{Ends, Edge, compareEnds, merge, put}
-use Rattle.definition.proofs.Tables.{ends-lt}
+use Rattle.theorems.proofs.Tables.{ends-lt}
 use Rattle.assembly.specs.Ends.{ends-eq, ends-self, ends-flip, ends-flip'}
 
 -- ---- its three clauses

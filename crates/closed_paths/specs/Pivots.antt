@@ -9,10 +9,10 @@ use lib.ListN.{length}
 use Rattle.laws.specs.ListLaws.{All, nil, cons, clash, Pairwise, empty, first, pairwise-head, pairwise-tail}
 use Rattle.definition.specs.Threading.{Ends, eqEnds, Edge, leaving}
 use Rattle.definition.specs.Search.{SearchInput, endsOf, pivotalEdges}
-use Rattle.definition.proofs.Tables.{Once}
-use Rattle.definition.proofs.Walks.{eqEnds-self}
-use Rattle.definition.proofs.Forks.{pivotal-differ, onward-sole}
-use Rattle.definition.proofs.Forks as forks
+use Rattle.theorems.proofs.Tables.{Once}
+use Rattle.theorems.proofs.Walks.{eqEnds-self}
+use Rattle.theorems.proofs.Forks.{pivotal-differ, onward-sole}
+use Rattle.theorems.proofs.Forks as forks
 use Rattle.closed_paths.specs.Cross.{Distinct, Fork}
 use Rattle.path_growth.specs.Link.{Agrees, On}
 

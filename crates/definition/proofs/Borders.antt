@@ -6,7 +6,9 @@ use mathlib.Core.Bool.{true, false}
 use lib.IntN.{pos, negsuc}
 use lib.ListN.{replicate}
 use lib.Ieee.{Float, fin, nan}
+use Rattle.definition.specs.Refusal.{openRefusal}
 use Rattle.definition.specs.Limits.{Input, floatZero}
+use Rattle.definition.specs.Calls.{workspaceAfter, openCalls}
 use Rattle.definition.proofs.Examples.{A, C, G, T, seqR, seqA, one, minusOne, column, room, allowance, sample, ask, asking, recovering, within, over, listing, lending, firstOrigins, longest, edgeRows, origin, no, paths, numbers, reply, Case, asks, path, edge}
 
 abbrev acgta : List ℕ
@@ -137,3 +139,20 @@ table =
 pub borders : map (λ (c : Case). reply (c .question)) table ≡ map (λ (c : Case). c .expected) table
 unfolding table reply
 borders = refl
+
+-- ---- "Workspace after"
+
+-- three sevens, of which two are told, after each number: "unchanged" after 1 to 7, and "zero" after 8 to 12 and after acceptance
+abbrev after : ℕ → List ℕ
+after n = workspaceAfter 0 n 2 (7 ∷ 7 ∷ 7 ∷ [])
+
+abbrev kept : List ℕ
+kept = 7 ∷ 7 ∷ 7 ∷ []
+
+abbrev zeroed : List ℕ
+zeroed = 0 ∷ 0 ∷ 7 ∷ []
+
+pub workspaces : map after (0 ∷ 1 ∷ 2 ∷ 3 ∷ 4 ∷ 5 ∷ 6 ∷ 7 ∷ 8 ∷ 9 ∷ 10 ∷ 11 ∷ 12 ∷ [])
+    ≡ zeroed ∷ kept ∷ kept ∷ kept ∷ kept ∷ kept ∷ kept ∷ kept ∷ zeroed ∷ zeroed ∷ zeroed ∷ zeroed ∷ zeroed ∷ []
+unfolding openRefusal openCalls
+workspaces = refl

@@ -108,7 +108,7 @@ pass es e w =
     elim (eqb (length (leaving es (e .from))) 1) [ true ↦ w′ | false ↦ takeEdge e w′ ]
 
 -- The walk from the vertex v over the bases that follow: each base by the out-edge whose target ends in it, which threading made, so that none is
--- missing (proofs/Visits). "A walk ending at the sink takes the symbolic edge in its open trees."
+-- missing (theorems: Visits). "A walk ending at the sink takes the symbolic edge in its open trees."
 unfoldable pub walkBases : Graph → ℕ → Ends → ℕ → List ℕ → Walk → Walk
 walkBases g sink symbolic v [] w = elim (eqb v sink) [ true ↦ takeEdge symbolic w | false ↦ w ]
 walkBases g sink symbolic v (b ∷ bs) w =

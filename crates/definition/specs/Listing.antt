@@ -80,7 +80,7 @@ module _ {S : Type 0} where
   unfoldable pub listOf : Scoring S → Built → State S → Answer S
   listOf 𝓢 b s = listed (listOrder 𝓢 (map (rowOf b) (s .closed))) (s .pushes) (s .longest)
 
-  -- `more` is not met: the search has turns enough (proofs/Fuel). A push beyond the maximum is 12.
+  -- `more` is not met: the search has turns enough (theorems: Fuel). A push beyond the maximum is 12.
   unfoldable pub answerOf : Scoring S → Built → Turn S → Answer S
   answerOf 𝓢 b (more s) = listOf 𝓢 b s
   answerOf 𝓢 b (ended s) = listOf 𝓢 b s

@@ -1,4 +1,4 @@
--- Demand 3 in words: what is promised of every row of an accepted list. The theorems are in proofs/Demand.
+-- Demand 3 in words: what is promised of every row of an accepted list. The theorems are in crate theorems, Demand.
 use mathlib.Core.Path.{_≡_}
 use mathlib.Core.Logic.{_⊎_}
 use Prim.Native.Nat.{ℕ, suc, _+_, _-_, _≤_, _<_}

@@ -104,7 +104,7 @@ walkTrees e bs = keep hasBranch (map (child e) bs)
 unfoldable pub onward : SearchInput → ℕ → Option Edge
 onward f v = elim (isSome (treeAt (f .trees) v) || eqb v (f .sink)) [ true ↦ none | false ↦ sole (leaving (f .edges) v) ]
 
--- It stops before an edge that it has already. Its edges differ, so as many steps as there are edges suffice (proofs/Fuel).
+-- It stops before an edge that it has already. Its edges differ, so as many steps as there are edges suffice (theorems: Fuel).
 unfoldable pub chainFrom : SearchInput → ℕ → ℕ → List Ends → List Ends
 chainFrom f zero v c = c
 chainFrom f (suc n) v c =
@@ -374,7 +374,7 @@ endsOf es = map (λ (e : Edge). e .ends) es
 unfoldable pub pivotalOf : List Edge → List Edge → List Ends
 pivotalOf out new = cond (ltb 1 (length out)) (endsOf (keep (λ (e : Edge). not (e .isRef && eqb (supportOf e) 1)) new)) []
 
--- Every edge is queued at most once after the source's own, so their number and that of the edges together bound the turns (proofs/Fuel).
+-- Every edge is queued at most once after the source's own, so their number and that of the edges together bound the turns (theorems: Fuel).
 unfoldable pub pivotalFrom : List Edge → ℕ → List Queued → List Ends → List Ends
 pivotalFrom es zero qs visited = []
 pivotalFrom es (suc n) [] visited = []
@@ -401,7 +401,7 @@ firstState 𝓢 pivotal =
       longest = 1;
     }
 
--- A turn takes a waiting path or a pivotal edge, so no more are made than there are pushes and pivotal edges, and one that ends (proofs/Fuel).
+-- A turn takes a waiting path or a pivotal edge, so no more are made than there are pushes and pivotal edges, and one that ends (theorems: Fuel).
 -- (find_junction_best_haplotypes)
 unfoldable pub search : {S : Type 0} → Scoring S → SearchInput → ℕ → ℕ → Bool → Turn S
 search 𝓢 f asked limit recovery =

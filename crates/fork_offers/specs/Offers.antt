@@ -10,7 +10,7 @@ use borrow.Author.Tests.{le-leb, lt-leb}
 use Rattle.laws.specs.Numbers.{reaches}
 use Rattle.definition.specs.Threading.{Ends, Edge, leaving}
 use Rattle.laws.specs.ListLaws.{All, nil, cons}
-use Rattle.definition.proofs.Counts.{Small, small-sum}
+use Rattle.theorems.proofs.Counts.{Small, small-sum}
 use Rattle.definition.specs.Evidence.{Branches}
 use Rattle.definition.specs.Search.{SearchInput, Offer, sumOf, unseen, realBranches, best, offers}
 use Rattle.assembly.specs.Store.{edgesOf}

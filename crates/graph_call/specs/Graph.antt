@@ -11,7 +11,7 @@ use Rattle.definition.specs.Refusal.{keepsWorkspace, Rule, firstBroken}
 use Rattle.definition.specs.Limits.{Sample, GraphMaxima, sampleRules, graphRules, graphMaximaFit, longEnough}
 use Rattle.definition.specs.Building.{built}
 use Rattle.definition.specs.Calls.{writtenAt, GraphOutcome, graphOf, graphCall, afterGraphChecks, workspaceAfter}
-use Rattle.definition.proofs.Late.{graph-keeps, graph-late}
+use Rattle.theorems.proofs.Late.{graph-keeps, graph-late}
 use Rattle.limits.specs.Rules.{rule, Numbered, none-broken, first-broken, first-hold, sample-numbered, graph-rules}
 use Rattle.slice_lengths.specs.Workspaces.{vertexTable, edgeTable, kmerIndex, nodeTable, openTrees}
 use Rattle.slice_lengths.specs.declared.Workspace.{Workspace}

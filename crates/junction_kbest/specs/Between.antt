@@ -11,9 +11,9 @@ use Rattle.definition.specs.Limits.{columnFits}
 use Rattle.definition.specs.Score.{columnScoring}
 use Rattle.definition.specs.Evidence.{Branches}
 use Rattle.definition.specs.Search.{SearchInput, State, Turn, more, ended, turn}
-use Rattle.definition.proofs.Column.{NotNan, column-keeps}
-use Rattle.definition.proofs.Walks.{GoodState}
-use Rattle.definition.proofs.Turns.{turn-more}
+use Rattle.theorems.proofs.Column.{NotNan, column-keeps}
+use Rattle.theorems.proofs.Walks.{GoodState}
+use Rattle.theorems.proofs.Turns.{turn-more}
 use Rattle.tables.specs.Widths.{offerNumbers}
 use Rattle.path_heap.specs.Heap.{waiting}
 use Rattle.search_state.specs.declared.Setting.{Setting}

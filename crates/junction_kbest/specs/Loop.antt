@@ -11,8 +11,8 @@ use Rattle.definition.specs.Score.{columnScoring}
 use Rattle.definition.specs.Threading.{Ends}
 use Rattle.definition.specs.Evidence.{Branches}
 use Rattle.definition.specs.Search.{SearchInput, State, firstState}
-use Rattle.definition.proofs.Column.{column-keeps}
-use Rattle.definition.proofs.Turns.{measure, turn-more, first-good}
+use Rattle.theorems.proofs.Column.{column-keeps}
+use Rattle.theorems.proofs.Turns.{measure, turn-more, first-good}
 use Rattle.tables.specs.Widths.{offerNumbers}
 use Rattle.closed_paths.specs.Cross.{unvisited}
 use Rattle.path_queue.specs.Begin.{Begins, Begun, begunWith}

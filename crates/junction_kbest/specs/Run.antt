@@ -8,10 +8,10 @@ use lib.ListN.{length}
 use Rattle.definition.specs.Score.{Scoring}
 use Rattle.definition.specs.Threading.{Ends}
 use Rattle.definition.specs.Search.{SearchInput, Path, State, Turn, more, ended, failed, full, turn, run, pivotalEdges, firstState, search}
-use Rattle.definition.proofs.Order.{Keeps}
-use Rattle.definition.proofs.Walks.{GoodState}
-use Rattle.definition.proofs.Runs.{run-ended, run-failed, run-full}
-use Rattle.definition.proofs.Turns.{measure, turn-more, run-more}
+use Rattle.theorems.proofs.Order.{Keeps}
+use Rattle.theorems.proofs.Walks.{GoodState}
+use Rattle.theorems.proofs.Runs.{run-ended, run-failed, run-full}
+use Rattle.theorems.proofs.Turns.{measure, turn-more, run-more}
 
 -- the pivotal edges that the search starts with
 abbrev pub pivotalFor : SearchInput → Bool → List Ends

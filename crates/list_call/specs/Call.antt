@@ -8,8 +8,8 @@ use Rattle.definition.specs.Refusal.{keepsWorkspace, firstBroken}
 use Rattle.definition.specs.Score.{columnScoring}
 use Rattle.definition.specs.Limits.{Input, longEnough, sampleRules, listRules}
 use Rattle.definition.specs.Listing.{Answer, refusal, listed, answer, afterChecks}
-use Rattle.definition.proofs.Checks.{checked}
-use Rattle.definition.proofs.Late.{LateAnswer, found-late, accepted-zero, list-keeps}
+use Rattle.theorems.proofs.Checks.{checked}
+use Rattle.theorems.proofs.Late.{LateAnswer, found-late, accepted-zero, list-keeps}
 use Rattle.limits.specs.Rules.{none-broken}
 use Rattle.list_interface.specs.declared.ListAnswer.{ListAnswer}
 use Rattle.list_interface.specs.Answers.{refusedAnswer}

@@ -7,7 +7,7 @@ use lib.ListN.{length, take, drop, replicate}
 use lib.Seq.{length-take-le, length-front}
 use Rattle.definition.specs.Limits.{Input}
 use Rattle.definition.specs.Calls.{writtenAt}
-use Rattle.definition.proofs.Checks.{Checked}
+use Rattle.theorems.proofs.Checks.{Checked}
 use Rattle.slice_lengths.specs.Bounds.{InLimits, settings-most}
 use Rattle.slice_lengths.specs.declared.Workspace.{Workspace}
 use Rattle.graph_rows.specs.Zeros.{cleared-over}

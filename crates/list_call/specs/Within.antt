@@ -4,7 +4,7 @@ use Prim.Native.Nat.{ℕ, _≤_}
 use lib.ListN.{length}
 use Rattle.definition.specs.Limits.{Input}
 use Rattle.definition.specs.Listing.{refusal, answer}
-use Rattle.definition.proofs.Checks.{Checked}
+use Rattle.theorems.proofs.Checks.{Checked}
 use Rattle.slice_lengths.specs.declared.Workspace.{Workspace}
 use Rattle.list_interface.specs.declared.ListAnswer.{ListAnswer}
 use Rattle.list_work.specs.Works.{Outs}

@@ -6,7 +6,7 @@ use Prim.Native.Nat.{ℕ, _<_, _≤_}
 use native.Mathlib.Omega.{arith}
 use Rattle.definition.specs.Refusal.{Rule, firstBroken}
 use Rattle.definition.specs.Limits.{Input, settingsFit, columnFits, longEnough, sampleRules, listRules}
-use Rattle.definition.proofs.Checks.{checked}
+use Rattle.theorems.proofs.Checks.{checked}
 use Rattle.slice_lengths.specs.Bounds.{InLimits, settings-most, k-most}
 use Rattle.limits.specs.Rules.{rule, Numbered, last-untested, last-broken, last-holds}
 use Rattle.slice_lengths.specs.Lengths.{acceptedLengths}

@@ -18,11 +18,11 @@ use Rattle.definition.specs.Score.{columnScoring}
 use Rattle.definition.specs.Search.{SearchInput, Turn, search}
 use Rattle.definition.specs.Building.{Built, built}
 use Rattle.definition.specs.Listing.{Row, rowOf, listOrder, searchInput, refusal, listed, listOf, answerOf, afterBuild}
-use Rattle.definition.proofs.Column.{NotNan, column-keeps}
-use Rattle.definition.proofs.Walks.{GoodState, Numbered}
-use Rattle.definition.proofs.Turns.{lastOf, search-reached}
-use Rattle.definition.proofs.Bounds.{Counted, search-counted}
-use Rattle.definition.proofs.Checks.{Checked, k-some, some-pushes, sample-checked}
+use Rattle.theorems.proofs.Column.{NotNan, column-keeps}
+use Rattle.theorems.proofs.Walks.{GoodState, Numbered}
+use Rattle.theorems.proofs.Turns.{lastOf, search-reached}
+use Rattle.theorems.proofs.Bounds.{Counted, search-counted}
+use Rattle.theorems.proofs.Checks.{Checked, k-some, some-pushes, sample-checked}
 use Rattle.assembly.specs.Fields.{kmerPlace}
 use Rattle.tables.specs.Widths.{edgeNumbers, queuedNumbers, offerNumbers}
 use Rattle.slice_lengths.specs.Workspaces.{vertexTable, pathTable, pathScores, activeNodes, waitingQueue, closedPaths, pivotalOrder, pivotalMarks, pathWalks, openTrees}

@@ -11,7 +11,7 @@ use Rattle.definition.specs.Limits.{Input}
 use Rattle.definition.specs.Score.{columnScoring}
 use Rattle.definition.specs.Building.{Built, built}
 use Rattle.definition.specs.Listing.{afterBuild}
-use Rattle.definition.proofs.Checks.{sample-checked}
+use Rattle.theorems.proofs.Checks.{sample-checked}
 use Rattle.tables.specs.Widths.{edgeNumbers}
 use Rattle.slice_lengths.specs.Workspaces.{openTrees}
 use Rattle.slice_lengths.specs.Bounds.{settings-most}

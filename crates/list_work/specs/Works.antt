@@ -8,7 +8,7 @@ use borrow.Author.Tests.{leb-true}
 use Rattle.laws.specs.ListLaws.{and-left, and-right}
 use Rattle.laws.specs.Numbers.{within}
 use Rattle.definition.specs.Limits.{Input, graphMaximaFit, searchMaximaFit, settingsFit}
-use Rattle.definition.proofs.Checks.{Checked}
+use Rattle.theorems.proofs.Checks.{Checked}
 use Rattle.slice_lengths.specs.Workspaces.{vertexTable, edgeTable, kmerIndex, nodeTable, targetTable, pathTable, pathScores, activeNodes, waitingQueue, closedPaths, pivotalOrder, pivotalMarks, pathWalks}
 use Rattle.list_work.specs.Outcome.{Outputs, Tables}
 

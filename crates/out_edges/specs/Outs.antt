@@ -10,7 +10,7 @@ use lib.Dec.{eqb, leb}
 use borrow.Author.Tests.{eqb-true, eq-eqb, le-leb, leb-true}
 use Rattle.laws.specs.Lists.{keep}
 use Rattle.definition.specs.Threading.{Ends, Edge, compareEnds, put, leaving}
-use Rattle.definition.proofs.Tables.{ends-lt}
+use Rattle.theorems.proofs.Tables.{ends-lt}
 use Rattle.assembly.specs.Fields.{vertexField, outEdge, HasEdges, HasEdge, edgeFrom, edgeTo}
 use Rattle.assembly.specs.Ends.{ends-eq, ends-flip, ends-flip', Below, is-below, is-above}
 use Rattle.assembly.specs.Puts.{put-nil, put-lt, put-eq, put-gt, merge-ends}

@@ -19,7 +19,7 @@ use Rattle.definition.specs.Threading.{Ends}
 use Rattle.definition.specs.Evidence.{Branches}
 use Rattle.definition.specs.Search.{SearchInput, Path, Closed, State, closeAt, crossOff, hasStoppingEvidence}
 use Rattle.definition.specs.Search as defs
-use Rattle.definition.proofs.Counts.{Small}
+use Rattle.theorems.proofs.Counts.{Small}
 use Rattle.path_store.specs.declared.records.PathRecord.{PathRecord}
 use Rattle.path_growth.specs.declared.Taken.{Taken}
 use Rattle.path_store.specs.Cells.{HasPaths, parentOf, countOf, treesOf, scoreOf, Inside, putCells, put-at, put-trees}

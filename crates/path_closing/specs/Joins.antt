@@ -18,7 +18,7 @@ use Rattle.laws.specs.Records.{row-step, place-row}
 use Rattle.definition.specs.Refusal.{ok, refused}
 use Rattle.definition.specs.Evidence.{Branches, hasBranch}
 use Rattle.definition.specs.Search.{SearchInput, joinTree}
-use Rattle.definition.proofs.Counts.{Small}
+use Rattle.theorems.proofs.Counts.{Small}
 use Rattle.assembly.specs.Fields.{HasVertex, treeRoot}
 use Rattle.threading_node.specs.Slots.{cols, Slot}
 use Rattle.threading_node.specs.Take.{wide-slot}

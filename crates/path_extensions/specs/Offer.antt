@@ -14,7 +14,7 @@ use Rattle.definition.specs.Limits.{columnFits}
 use Rattle.definition.specs.Score.{columnPenalty, columnScoring}
 use Rattle.definition.specs.Evidence.{Branches}
 use Rattle.definition.specs.Search.{SearchInput, Path, extend, repeatRule}
-use Rattle.definition.proofs.Column.{column-keeps}
+use Rattle.theorems.proofs.Column.{column-keeps}
 use Rattle.fork_offers.specs.Fields.{HasOffer, offerEdge, offerCount, offerTotal, offerGuided}
 use Rattle.kbest_haplotype.specs.declared.Penalty.{Penalty}
 use Rattle.kbest_haplotype.specs.Penalties.{penaltyOf, penaltyRefusal, priced}

@@ -21,7 +21,7 @@ use Rattle.definition.specs.Threading.{Ends}
 use Rattle.definition.specs.Evidence.{Branches}
 use Rattle.definition.specs.Search.{SearchInput, Path, walkTrees, lengthen}
 use Rattle.definition.specs.Search as defs
-use Rattle.definition.proofs.Counts.{Small, small-walk}
+use Rattle.theorems.proofs.Counts.{Small, small-walk}
 use Rattle.assembly.specs.Fields.{HasEdge, edgeFrom, edgeTo}
 use Rattle.threading_node.specs.Ends.{ends}
 use Rattle.fork_offers.specs.Actives.{Actives, actives-kept, actives-many}

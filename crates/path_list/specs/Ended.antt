@@ -14,7 +14,7 @@ use Rattle.definition.specs.Threading.{Edge, threaded, withSymbolic}
 use Rattle.definition.specs.Evidence.{Branches}
 use Rattle.definition.specs.Search.{SearchInput, Closed, State, endFrom}
 use Rattle.definition.specs.Building.{Built}
-use Rattle.definition.proofs.Walks.{Linked, GoodClosed, GoodState, Numbered}
+use Rattle.theorems.proofs.Walks.{Linked, GoodClosed, GoodState, Numbered}
 use Rattle.assembly.specs.Fields.{HasVertices, kmerPlace, edgeFrom, edgeTo}
 use Rattle.assembly.specs.Table.{Distinct}
 use Rattle.assembly.specs.Store.{edgeAt, edgesOf, graphOf}

@@ -20,7 +20,7 @@ use Rattle.definition.specs.Search.{Closed}
 use Rattle.definition.specs.Building.{Built}
 use Rattle.definition.specs.Listing.{Row, rowOf, pathBases, originAt, above, listOrder}
 use Rattle.definition.specs.Calls.{pathRow, writtenAt, writtenRows}
-use Rattle.definition.proofs.Walks.{Numbered, eqEnds-true}
+use Rattle.theorems.proofs.Walks.{Numbered, eqEnds-true}
 use Rattle.assembly.specs.Fields.{kmerPlace, edgeFrom, edgeTo}
 use Rattle.assembly.specs.Table.{table, Distinct, find-table-some}
 use Rattle.assembly.specs.Store.{edgeAt, edgesOf, kmerAt, graphOf}

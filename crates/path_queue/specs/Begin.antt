@@ -17,7 +17,7 @@ use Rattle.definition.specs.Threading.{Ends}
 use Rattle.definition.specs.Score.{columnScoring}
 use Rattle.definition.specs.Search.{SearchInput, Path, endsOf, pivotalEdges, firstState}
 use Rattle.pivotal_edges.specs.Turns.{Pivots, Pivoted}
-use Rattle.definition.proofs.Tables.{Once}
+use Rattle.theorems.proofs.Tables.{Once}
 use Rattle.pivotal_edges.specs.Once.{edges-once}
 use Rattle.closed_paths.specs.Pivots.{pivotal-distinct, pivotal-forks}
 use Rattle.path_store.specs.Cells.{IsPathField, pathField, treesOf, scoreOf, Inside, putCells, Stored, put-at, put-trees}

@@ -17,7 +17,7 @@ use Rattle.definition.specs.Threading.{Ends}
 use Rattle.definition.specs.Evidence.{Branches}
 use Rattle.definition.specs.Score.{columnScoring}
 use Rattle.definition.specs.Search.{SearchInput, Path, State, made, broken, recover, advance}
-use Rattle.definition.proofs.Counts.{Small}
+use Rattle.theorems.proofs.Counts.{Small}
 use Rattle.assembly.specs.Fields.{edgeFrom}
 use Rattle.path_store.specs.Cells.{HasPaths, IsPathField, pathField, countOf, joinedOf, treesOf, scoreOf, Inside, putCells, put-at, put-other, put-trees}
 use Rattle.path_growth.specs.Grow.{recoveredRow}

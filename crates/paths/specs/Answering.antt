@@ -14,8 +14,8 @@ use Rattle.definition.specs.Refusal.{firstBroken}
 use Rattle.definition.specs.Limits.{Input, basesStride}
 use Rattle.definition.specs.Listing.{Row, Answer, refusal, listed, answer}
 use Rattle.definition.specs.Text.{Text, textOf, with, textRules, graphMaxima, searchMaxima, firstLine, refusedLine, printedOf}
-use Rattle.definition.proofs.Demand.{paths-spelled, no-nan, within-bounds}
-use Rattle.definition.proofs.Late.{no-zero}
+use Rattle.theorems.proofs.Demand.{paths-spelled, no-nan, within-bounds}
+use Rattle.theorems.proofs.Late.{no-zero}
 use Rattle.list_lent.specs.Lent.{toldOf, lentOf}
 use Rattle.list_work.specs.Outcome.{Outputs, Tables, outputsAfter, writtenList, summary}
 use Rattle.list_call.specs.Within.{lengthsOf, Called}

@@ -13,7 +13,7 @@ use Rattle.laws.specs.Lists.{keep}
 use Rattle.laws.specs.ListLaws.{All, nil, cons, all-append}
 use Rattle.definition.specs.Threading.{Ends, Edge, leaving, supportOf}
 use Rattle.definition.specs.Search.{among, endsOf, pivotalOf}
-use Rattle.definition.proofs.Walks.{length-kept}
+use Rattle.theorems.proofs.Walks.{length-kept}
 use Rattle.assembly.specs.Fields.{edgeTo, edgeSupport}
 use Rattle.assembly.specs.Store.{edgeAt, edgesOf}
 use Rattle.out_edges.specs.Outs.{Slots, Nexts, outFrom}

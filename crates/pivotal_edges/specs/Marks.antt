@@ -13,7 +13,7 @@ use borrow.Author.Tests.{lt-ltb, le-ltb, eq-eqb, eqb-true}
 use Rattle.laws.specs.Lists.{keep, any}
 use Rattle.definition.specs.Threading.{Ends, Edge, eqEnds, leaving}
 use Rattle.definition.specs.Search.{among, endsOf}
-use Rattle.definition.proofs.Fuel.{among-append}
+use Rattle.theorems.proofs.Fuel.{among-append}
 use Rattle.assembly.specs.Fields.{edgeFrom, edgeTo}
 use Rattle.assembly.specs.Table.{Distinct, table}
 use Rattle.assembly.specs.Store.{edgeAt, edgesOf}

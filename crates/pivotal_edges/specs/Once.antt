@@ -9,7 +9,7 @@ use borrow.Author.Tests.{eq-eqb, ne-eqb}
 use Rattle.laws.specs.ListLaws.{All, nil, cons}
 use Rattle.definition.specs.Threading.{Ends, Edge, eqEnds, compareEnds}
 use Rattle.definition.specs.Search.{endsOf}
-use Rattle.definition.proofs.Tables.{Once}
+use Rattle.theorems.proofs.Tables.{Once}
 use Rattle.assembly.specs.Ends.{Below, is-below}
 use Rattle.assembly.specs.Table.{table}
 use Rattle.assembly.specs.Store.{edgeAt, edgesOf}

@@ -14,8 +14,8 @@ use Rattle.laws.specs.Lists.{keep}
 use Rattle.laws.specs.ListLaws.{All, nil, all-head, all-tail, all-mono, all-from, keep-all, mem-map}
 use Rattle.definition.specs.Threading.{Ends, Edge, leaving}
 use Rattle.definition.specs.Search.{SearchInput, among, endsOf, Queued, enqueueAll, pivotalOf, pivotalFrom, pivotalEdges}
-use Rattle.definition.proofs.Fuel.{among-mem, among-append}
-use Rattle.definition.proofs.Walks.{length-kept}
+use Rattle.theorems.proofs.Fuel.{among-mem, among-append}
+use Rattle.theorems.proofs.Walks.{length-kept}
 use Rattle.assembly.specs.Fields.{HasEdge, edgeTo}
 use Rattle.assembly.specs.Table.{length-table}
 use Rattle.assembly.specs.Store.{edgeAt, edgesOf}

@@ -10,10 +10,10 @@ use Rattle.definition.specs.Limits.{Input, longEnough, basesStride, toldBases, 
 use Rattle.definition.specs.Listing.{Row, Answer, refusal, listed, answer}
 use Rattle.definition.specs.Calls.{ListSlices, listOutcome, listLent, listCall}
 use Rattle.definition.specs.Promises.{Spelled}
-use Rattle.definition.proofs.Bounds.{Bounded}
-use Rattle.definition.proofs.Checks.{passed, long-enough}
-use Rattle.definition.proofs.Late.{no-zero}
-use Rattle.definition.proofs.Demand.{paths-spelled, within-bounds}
+use Rattle.theorems.proofs.Bounds.{Bounded}
+use Rattle.theorems.proofs.Checks.{passed, long-enough}
+use Rattle.theorems.proofs.Late.{no-zero}
+use Rattle.theorems.proofs.Demand.{paths-spelled, within-bounds}
 use Rattle.limits.specs.Long.{long-head}
 use Rattle.promises.specs.Reading.{readList}
 use Rattle.promises.specs.Back.{Fits, LongFor, read-back}

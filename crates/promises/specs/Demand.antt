@@ -11,8 +11,8 @@ use Rattle.definition.specs.Limits.{Input, longEnough, listTold}
 use Rattle.definition.specs.Listing.{Row, Answer, refusal, listed, answer}
 use Rattle.definition.specs.Calls.{ListSlices, ListAnswer, listOutcome, listLent, listCall}
 use Rattle.definition.specs.Promises.{Spelled, NoneOutscores, AllElseEqual}
-use Rattle.definition.proofs.Fewer.{IsList}
-use Rattle.definition.proofs.Demand.{demand-3a, demand-3b, fewer-accepted}
+use Rattle.theorems.proofs.Fewer.{IsList}
+use Rattle.theorems.proofs.Demand.{demand-3a, demand-3b, fewer-accepted}
 use Rattle.promises.specs.Reading.{readRows, readList}
 use Rattle.promises.specs.Accepted.{made, bounded, outcome, rows-read}
 

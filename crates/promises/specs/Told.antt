@@ -7,7 +7,7 @@ use lib.ListN.{length}
 use Rattle.definition.specs.Limits.{Sample, GraphMaxima, SearchMaxima, Input, longEnough, listTold, graphTold}
 use Rattle.definition.specs.Listing.{refusal, answer}
 use Rattle.definition.specs.Calls.{GraphOutcome, ListSlices, listLent, listCall}
-use Rattle.definition.proofs.Late.{list-not-7, graph-not-7}
+use Rattle.theorems.proofs.Late.{list-not-7, graph-not-7}
 use Rattle.slice_lengths.specs.declared.LengthsTold.{LengthsTold}
 use Rattle.slice_lengths.specs.Lengths.{listSlices, graphSlices, listWorkspaceTold, graphWorkspaceTold, acceptedLengths, Told, accepted-is}
 use Rattle.graph_call.specs.declared.GraphAnswer.{GraphAnswer}

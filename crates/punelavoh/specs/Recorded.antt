@@ -18,11 +18,11 @@ use Rattle.definition.specs.Building.{Built}
 use Rattle.definition.specs.Listing.{Row, rowOf, Answer, refusal, listed, afterChecks, answer}
 use Rattle.definition.specs.Calls.{writtenAt, workspaceAfter, pathRow, ListSlices, listedSlices, listOutcome, listLent, listCall}
 use Rattle.definition.specs.Calls as defs
-use Rattle.definition.proofs.Found.{Listing, all-listed}
-use Rattle.definition.proofs.Bounds.{bounded-listing}
-use Rattle.definition.proofs.Column.{column-keeps}
-use Rattle.definition.proofs.Checks.{accepted, some-pushes}
-use Rattle.definition.proofs.Late.{accepted-zero, list-keeps}
+use Rattle.theorems.proofs.Found.{Listing, all-listed}
+use Rattle.theorems.proofs.Bounds.{bounded-listing}
+use Rattle.theorems.proofs.Column.{column-keeps}
+use Rattle.theorems.proofs.Checks.{accepted, some-pushes}
+use Rattle.theorems.proofs.Late.{accepted-zero, list-keeps}
 use Rattle.limits.specs.Rules.{none-broken}
 use Rattle.slice_lengths.specs.Workspaces.{rowColumns}
 use Rattle.threading_node.specs.Front.{front, written-front}

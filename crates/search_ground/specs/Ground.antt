@@ -14,7 +14,7 @@ use Rattle.laws.specs.Lists.{sole, isSome}
 use Rattle.laws.specs.ListLaws.{clash, or-none, and-left, and-right, All, nil, cons}
 use Rattle.laws.specs.Numbers.{within}
 use Rattle.laws.specs.Records.{field-other}
-use Rattle.definition.proofs.Checks.{holds-first}
+use Rattle.theorems.proofs.Checks.{holds-first}
 use Rattle.definition.specs.Refusal.{firstBroken}
 use Rattle.definition.specs.Limits.{Sample, Input, referenceFits, referenceBases, readsFit, graphMaximaFit, searchMaximaFit, settingsFit, sampleRules}
 use Rattle.definition.specs.Threading.{Graph, eqEnds, leaving, threaded, sinkOf, symbolicOf, withSymbolic}
@@ -22,9 +22,9 @@ use Rattle.definition.specs.Evidence.{Branches, Tree, treeAt, evidence}
 use Rattle.definition.specs.Search.{SearchInput, onward}
 use Rattle.definition.specs.Building.{Built}
 use Rattle.definition.specs.Listing.{searchInput}
-use Rattle.definition.proofs.Counts.{Small, SmallTree, counts-small}
-use Rattle.definition.proofs.Supports.{leaving-small}
-use Rattle.definition.proofs.Degrees.{six-leave}
+use Rattle.theorems.proofs.Counts.{Small, SmallTree, counts-small}
+use Rattle.theorems.proofs.Supports.{leaving-small}
+use Rattle.theorems.proofs.Degrees.{six-leave}
 use Rattle.assembly.specs.Fields.{HasVertices, HasVertex, treeRoot, edgeFrom, edgeTo}
 use Rattle.tables.specs.Widths.{edgeNumbers}
 use Rattle.assembly.specs.Table.{length-table}

@@ -8,11 +8,11 @@ use Rattle.laws.specs.ListLaws.{All, nil, cons, Mem, all-from, all-map, mem-map
 use Rattle.definition.specs.Threading.{Ends, Edge, leaving, compareEnds}
 use Rattle.definition.specs.Evidence.{Branches}
 use Rattle.definition.specs.Search.{SearchInput, Offer, offers}
-use Rattle.definition.proofs.Trees.{After, Rising}
-use Rattle.definition.proofs.Tables.{Rises}
-use Rattle.definition.proofs.Degrees.{rises-differ}
-use Rattle.definition.proofs.Forks.{offers-differ, leaving-differ}
-use Rattle.definition.proofs.Walks.{offers-on}
+use Rattle.theorems.proofs.Trees.{After, Rising}
+use Rattle.theorems.proofs.Tables.{Rises}
+use Rattle.theorems.proofs.Degrees.{rises-differ}
+use Rattle.theorems.proofs.Forks.{offers-differ, leaving-differ}
+use Rattle.theorems.proofs.Walks.{offers-on}
 use Rattle.assembly.specs.Store.{edgeAt, edgesOf}
 use Rattle.assembly.specs.Table.{table}
 use Rattle.out_edges.specs.Outs as outs

@@ -8,7 +8,7 @@ use Rattle.laws.specs.Lists.{total}
 use Rattle.definition.specs.Threading.{Ends, supportOf, leaving}
 use Rattle.definition.specs.Evidence.{Branches, treeAt}
 use Rattle.definition.specs.Search.{SearchInput}
-use Rattle.definition.proofs.Counts.{Small}
+use Rattle.theorems.proofs.Counts.{Small}
 use Rattle.assembly.specs.Fields.{HasVertices, treeRoot}
 use Rattle.assembly.specs.Store.{edgeAt}
 use Rattle.threading_node.specs.Ends.{ends}

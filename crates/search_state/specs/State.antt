@@ -11,7 +11,7 @@ use Rattle.laws.specs.ListLaws.{All}
 use Rattle.laws.specs.Heaps.{nth}
 use Rattle.definition.specs.Evidence.{Branches}
 use Rattle.definition.specs.Search.{SearchInput, Path, Closed, State}
-use Rattle.definition.proofs.Counts.{Small}
+use Rattle.theorems.proofs.Counts.{Small}
 use Rattle.path_store.specs.Cells.{HasPaths, parentOf, countOf, joinedOf, treesOf, scoreOf}
 use Rattle.path_growth.specs.Join.{Childless}
 use Rattle.path_growth.specs.View.{viewOf, closedOf}

@@ -1,0 +1,1 @@
+// What is proved of the definition: proofs/ only, no code.
