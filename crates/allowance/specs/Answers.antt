@@ -1,32 +1,29 @@
 -- What the formula says of the call's answer: with a maximum of pushes that is not below it 12 is never answered, and an accepted list was made within it. And with a
 -- column of 65,536 places 10 is never answered.
 use mathlib.Core.Path.{_≡_, refl, sym, ap, subst, _∙_}
-use Prim.Native.Nat.{ℕ, zero, suc, _≤_, _<_}
+use Prim.Native.Nat.{ℕ, zero, suc, _≤_}
 use native.Mathlib.Omega.{arith}
 use native.Mathlib.Nat.{le-trans}
 use mathlib.Core.Logic.{inl, inr}
-use mathlib.Core.Bool.{Bool, true, false}
+use mathlib.Core.Bool.{true}
 use mathlib.Core.List.{List, []}
-use lib.Dec.{eqb}
 use lib.ListN.{length}
 use lib.Ieee.{Float}
-use Rattle.laws.specs.ListLaws.{clash, all-from}
+use Rattle.laws.specs.ListLaws.{clash}
 use Rattle.definition.specs.Refusal.{returned, keepsWorkspace, ok, firstBroken}
 use Rattle.definition.specs.Score.{Scoring, columnScoring}
 use Rattle.definition.specs.Limits.{Input, sampleRules, listRules}
-use Rattle.definition.specs.Threading.{leaving}
 use Rattle.definition.specs.Evidence.{nodes}
-use Rattle.definition.specs.Search.{SearchInput, State, Path, Turn, more, ended, failed, full, offers, search}
+use Rattle.definition.specs.Search.{Turn, more, ended, failed, full, search}
 use Rattle.definition.specs.Building.{Built, built}
-use Rattle.definition.specs.Listing.{Row, Answer, refusal, listed, searchInput, listOf, answerOf, afterBuild, afterChecks, answer}
+use Rattle.definition.specs.Listing.{Row, Answer, refusal, listed, searchInput, afterBuild, afterChecks, answer}
 use Rattle.definition.specs.Enough.{enough}
-use Rattle.theorems.proofs.Turns.{lastOf}
 use Rattle.theorems.proofs.Allowance.{NotFull}
 use Rattle.theorems.proofs.Checks.{checked, accepted, sample-checked}
 use Rattle.theorems.proofs.Found.{Listing}
 use Rattle.theorems.proofs.Late.{list-keeps}
-use Rattle.theorems.proofs.Refuses.{OnlyTurn, OnlyAnswer, search-only, found-only}
-use Rattle.allowance.specs.Suffices.{enough-up, built-fits, most, never-full, search-few, search-eleven, maxima-suffice}
+use Rattle.theorems.proofs.Refuses.{OnlyTurn, OnlyAnswer, search-late, found-only}
+use Rattle.allowance.specs.Suffices.{enough-up, built-fits, never-full, search-few, search-eleven, maxima-suffice}
 use Rattle.allowance.specs.Covered.{column-covers}
 
 -- the formula, of the maxima
@@ -54,12 +51,6 @@ only-not n (listed rs p q) h e = let z : _≡_ {A = ℕ} 0 1 = cc in omega arith
 
 -- ---- 12
 
--- the search itself is refused with 10 or 11
-search-not-12 : {S : Type 0} (𝓢 : Scoring S) (f : SearchInput) (asked limit : ℕ) (recovery : Bool) → OnlyTurn (Not 12) (search 𝓢 f asked limit recovery)
-search-not-12 𝓢 f =
-    search-only 𝓢 f (Not 12) (λ p. Unit {0}) (λ e. omega arith) (record { bare = λ p e. tt; joins = λ v p q h e. tt; steps = λ p q h e. tt })
-    (λ p h v. all-from (offers f (leaving (f .edges) v) [] (p .active)) (λ o m n e. omega arith))
-
 -- With a maximum of pushes that is not below the formula of what was built, the call is never refused with 12.
 pub never-twelve-built : (i : Input) (told lent : List ℕ)
     → ((b : Built) → built (i .sample) (i .graphMaxima) ≡ ok b → enough (length (b .edges)) (length (nodes (b .trees))) (i .searchMaxima .pathEdges) ≤ i .searchMaxima .pushes)
@@ -75,7 +66,7 @@ never-twelve-built i told lent h =
     found e =
         found-only 𝓢 (Not 12) (λ z. omega arith) (λ z. omega arith) i
         (λ b is. (
-          search-not-12 𝓢 (searchInput i b) (i .asked) (i .searchMaxima .pushes) (i .recovery),
+          search-late (Not 12) (λ z. omega arith) (λ z. omega arith) 𝓢 (searchInput i b) (i .asked) (i .searchMaxima .pushes) (i .recovery),
           λ s ps f z. subst NotFull f (never-full 𝓢 i b (sample-checked i (checked i told lent e)) is (i .asked) (i .searchMaxima .pushes) (i .recovery) (h b is)),
         ))
 

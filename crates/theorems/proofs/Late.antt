@@ -8,16 +8,14 @@ use Prim.Native.Nat.{ℕ, zero, suc, _≤_, _<_}
 use native.Mathlib.Omega.{arith}
 use lib.ListN.{length}
 use lib.Ieee.{Float}
-use Rattle.laws.specs.ListLaws.{clash, all-from}
+use Rattle.laws.specs.ListLaws.{clash}
 use Rattle.definition.specs.Refusal.{returned, keepsWorkspace, Result, ok, refused, Rule, firstBroken}
-use Rattle.definition.specs.Score.{Scoring, columnScoring}
+use Rattle.definition.specs.Score.{columnScoring}
 use Rattle.definition.specs.Limits.{Sample, GraphMaxima, Input, longEnough, graphTold, sampleRules, graphRules, listRules}
-use Rattle.definition.specs.Threading.{leaving}
 use Rattle.definition.specs.Building.{Built, built}
-use Rattle.definition.specs.Search.{SearchInput, offers, search}
 use Rattle.definition.specs.Listing.{Answer, refusal, listed, searchInput, afterBuild, afterChecks, answer}
 use Rattle.definition.specs.Calls.{graphOf, afterGraphChecks, graphCall}
-use Rattle.theorems.proofs.Refuses.{Only, OnlyTurn, OnlyAnswer, search-only, built-only, found-only}
+use Rattle.theorems.proofs.Refuses.{Only, OnlyAnswer, search-late, built-only, found-only}
 
 -- a refusal's number, after which the workspace is zero
 abbrev LateNumber : ℕ → Type 0
@@ -51,15 +49,10 @@ pub accepted-zero : keepsWorkspace 0 ≡ false
 unfolding keepsWorkspace returned
 accepted-zero = refl
 
--- ---- the build, the search and the answer
+-- ---- the build and the answer
 
 built-late : (s : Sample) (m : GraphMaxima) → Only LateNumber (built s m)
 built-late = built-only LateNumber late-8 late-9
-
-search-late : {S : Type 0} (𝓢 : Scoring S) (f : SearchInput) (asked limit : ℕ) (recovery : Bool) → OnlyTurn LateNumber (search 𝓢 f asked limit recovery)
-search-late 𝓢 f =
-    search-only 𝓢 f LateNumber (λ p. Unit {0}) late-11 (record { bare = λ p e. tt; joins = λ v p q h e. tt; steps = λ p q h e. tt })
-    (λ p h v. all-from (offers f (leaving (f .edges) v) [] (p .active)) (λ o m e. late-10))
 
 -- after the call for edges and trees, once no rule is broken, the workspace is zero
 pub graph-late : (s : Sample) (m : GraphMaxima) (es ns : List ℕ) → keepsWorkspace (graphOf (built s m) es ns .refusal) ≡ false
@@ -74,7 +67,7 @@ graph-late s m es ns = go (built s m) (built-late s m)
 pub found-late : (i : Input) → LateAnswer (afterBuild (columnScoring (i .column)) i (built (i .sample) (i .graphMaxima)))
 found-late i =
     found-only (columnScoring (i .column)) LateNumber late-8 late-9 i
-    (λ b e. (search-late (columnScoring (i .column)) (searchInput i b) (i .asked) (i .searchMaxima .pushes) (i .recovery), λ s ps f. late-12))
+    (λ b e. (search-late LateNumber late-10 late-11 (columnScoring (i .column)) (searchInput i b) (i .asked) (i .searchMaxima .pushes) (i .recovery), λ s ps f. late-12))
 
 late-number : (a : Answer Float) (n : ℕ) → LateAnswer a → a ≡ refusal n → LateNumber n
 late-number (refusal m) n l e = let z : m ≡ n = cc in subst LateNumber z l

@@ -8,7 +8,7 @@ use mathlib.Core.Option.{Option, none, some}
 use lib.Dec.{leb, ltb, eqb}
 use lib.ListN.{length, take}
 use Rattle.laws.specs.Lists.{keep, any, findLast, position, isEmpty}
-use Rattle.laws.specs.ListLaws.{All, nil, cons, all-head, all-mono}
+use Rattle.laws.specs.ListLaws.{All, nil, cons, all-head, all-mono, all-from}
 use Rattle.definition.specs.Refusal.{Result, ok, refused, andThen, each}
 use Rattle.definition.specs.Score.{Scoring}
 use Rattle.definition.specs.Limits.{Sample, GraphMaxima, Input}
@@ -212,6 +212,12 @@ module _ {S : Type 0} (𝓢 : Scoring S) (f : SearchInput) (P : ℕ → Type 0) 
   search-only asked limit recovery =
       let pivotal : List Ends = elim recovery [ true ↦ pivotalEdges f | false ↦ [] ] in
       run-only asked limit (suc (limit + length pivotal)) (firstState 𝓢 pivotal) (first-kept 𝓢 f kept pivotal)
+
+-- Nothing asked of the paths, the search is refused with 10 or 11.
+pub search-late : (P : ℕ → Type 0) → P 10 → P 11 → {S : Type 0} (𝓢 : Scoring S) (f : SearchInput) (asked limit : ℕ) (recovery : Bool) → OnlyTurn P (search 𝓢 f asked limit recovery)
+search-late P ten eleven 𝓢 f =
+    search-only 𝓢 f P (λ p. Unit {0}) eleven (record { bare = λ p e. tt; joins = λ v p q h e. tt; steps = λ p q h e. tt })
+    (λ p h v. all-from (offers f (leaving (f .edges) v) [] (p .active)) (λ o m e. ten))
 
 -- ---- the answer
 
