@@ -5,15 +5,18 @@ use model::input::log10_column;
 use model::{GraphMaxima, ListInput, Sample, SearchMaxima};
 
 /// Neither ways at a fork nor decisions.
-pub const LINEAR: Formula = Formula { text: "(1+E)*(1+L)", of: |e, _, l| (1 + e) * (1 + l) };
+pub const LINEAR: Formula = Formula { text: "(1+E)*(1+L)", of: |s| (1 + s.edges) * (1 + s.path_edges) };
+/// The same, with the vertices.
+const WITH_VERTICES: Formula = Formula { text: "(1+E)*(1+V)*(1+L)", of: |s| (1 + s.edges) * (1 + s.vertices) * (1 + s.path_edges) };
 /// One decision, whatever the path-edge maximum.
-const ONE_DECISION: Formula = Formula { text: "(1+E)*(1+5*L)", of: |e, _, l| (1 + e) * (1 + 5 * l) };
+const ONE_DECISION: Formula = Formula { text: "(1+E)*(1+5*L)", of: |s| (1 + s.edges) * (1 + 5 * s.path_edges) };
 /// No decisions but those that trees guide.
-const GUIDED_ONLY: Formula = Formula { text: "(1+E)*(1+L*5^min(L,3N))", of: |e, n, l| (1 + e) * (1 + l * power(l.min(3 * n))) };
+const GUIDED_ONLY: Formula =
+    Formula { text: "(1+E)*(1+L*5^min(L,3N))", of: |s| (1 + s.edges) * (1 + s.path_edges * power(s.path_edges.min(3 * s.nodes))) };
 /// No recovered paths.
-const ONE_START: Formula = Formula { text: "1+5+..+5^L", of: |_, _, l| (0..=l).map(power).sum() };
+const ONE_START: Formula = Formula { text: "1+5+..+5^L", of: |s| (0..=s.path_edges).map(power).sum() };
 /// No recovered paths, and no steps between decisions.
-const DECISIONS_ONLY: Formula = Formula { text: "1+5^min(L,3N+6)", of: |_, n, l| 1 + power(l.min(3 * n + 6)) };
+const DECISIONS_ONLY: Formula = Formula { text: "1+5^min(L,3N+6)", of: |s| 1 + power(s.path_edges.min(3 * s.nodes + 6)) };
 
 fn power(n: u128) -> u128 {
     5u128.saturating_pow(n as u32)
@@ -51,15 +54,18 @@ const EXAMPLES: &[Example] = &[
 
 /// All of them. A column of zeros makes every score 0, so that paths are taken in the order of their pushes.
 pub fn cases() -> Vec<Case> {
-    EXAMPLES.iter().map(|example| example.case(vec![0.0; 512])).chain([with_logarithms()]).collect()
+    let equal = EXAMPLES.iter().map(|example| example.case(vec![0.0; 512]));
+    equal.chain(SCORED.iter().map(|example| example.case(log10_column(512)))).collect()
 }
 
-/// One whose scores differ.
-fn with_logarithms() -> Case {
-    let reads = &["CAACCAAACAAAAAACCAACAACCACAA", "CCAAAAACACC"];
-    let example = Example { passes: LINEAR, k: 2, reference: "AA", reads, recover: false, path_edges: 6, pushes: 64, refused: true };
-    example.case(log10_column(512))
-}
+/// Those whose scores differ.
+#[rustfmt::skip]
+const SCORED: &[Example] = &[
+    Example { passes: LINEAR, k: 2, reference: "AA", recover: false, path_edges: 6, pushes: 64, refused: true,
+        reads: &["CAACCAAACAAAAAACCAACAACCACAA", "CCAAAAACACC"] },
+    Example { passes: WITH_VERTICES, k: 2, reference: "CACAGAGACAT", recover: false, path_edges: 30, pushes: 8091, refused: true,
+        reads: &["CAAAACAAG", "CCCACCCAAA", "CCACCCCACCCCACC", "CAGGAAAGCAGCAGA"] },
+];
 
 impl Example {
     fn case(&self, column: Vec<f64>) -> Case {

@@ -15,11 +15,19 @@ use model::allowance::{enough, enough_log10};
 use model::input::log10_column;
 use model::{Effort, GraphMaxima, ListInput, Refusal, Sample, SearchMaxima};
 
-/// A number of pushes from edges, tree nodes and the path-edge maximum.
+/// What a formula may be reckoned from.
+struct Sizes {
+    vertices: u128,
+    edges: u128,
+    nodes: u128,
+    path_edges: u128,
+}
+
+/// A number of pushes from these.
 #[derive(Clone, Copy)]
 struct Formula {
     text: &'static str,
-    of: fn(u128, u128, u128) -> u128,
+    of: fn(&Sizes) -> u128,
 }
 
 /// A search and what is known of it.
@@ -114,7 +122,8 @@ fn as_known(case: &Case, effort: &Effort) -> Result<(), String> {
     require(found == known, || format!("pushes and longest waiting list {found:?}, expected {known:?}"))?;
     require(effort.refusal == case.refusal, || format!("refused {:?}, expected {:?}", effort.refusal, case.refusal))?;
     let Some((smaller, passes)) = case.passes else { return Ok(()) };
-    let most = (smaller.of)(effort.edges.into(), effort.nodes.into(), case.input.search.path_edges.into());
+    let path_edges = case.input.search.path_edges.into();
+    let most = (smaller.of)(&Sizes { vertices: effort.vertices.into(), edges: effort.edges.into(), nodes: effort.nodes.into(), path_edges });
     require((u128::from(effort.pushes) > most) == passes, || format!("{} pushes, {} is {most}, passed: {passes}", effort.pushes, smaller.text))
 }
 
