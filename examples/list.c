@@ -24,7 +24,7 @@ int main(void) {
         fprintf(stderr, "%s\n", punelavoh_refusal_words(list.answer.refusal));
         return 1;
     }
-    printf("refusal %u paths %u pushes %u mark %u\n", list.answer.refusal, list.answer.paths, list.answer.pushes, list.answer.mark);
+    printf("refusal %u paths %u pushes %u\n", list.answer.refusal, list.answer.paths, list.answer.pushes);
     for (uint32_t r = 0; r < list.answer.paths; r++) {
         PunelavohBytes path = punelavoh_list_bases(&list, r);
         printf("%f %.*s", punelavoh_list_row(&list, r)->score, (int)path.length, (const char *)path.bytes);

@@ -14,7 +14,7 @@ fn main() -> Result<(), Refusal> {
     };
     let mut caller = Caller::new();
     let list = caller.list(&settings, &sample, &column(64))?;
-    println!("refusal 0 paths {} pushes {} mark {}", list.len(), list.pushes(), list.waiting_mark());
+    println!("refusal 0 paths {} pushes {}", list.len(), list.pushes());
     for row in list.rows() {
         print!("{:.6} {}", row.score(), row.bases().escape_ascii());
         for at in row.origins() {

@@ -21,9 +21,9 @@
 extern "C" {
 #endif
 
-#define PUNELAVOH_VERSION "0.6.0"
+#define PUNELAVOH_VERSION "0.5.0"
 #define PUNELAVOH_VERSION_MAJOR 0
-#define PUNELAVOH_VERSION_MINOR 6
+#define PUNELAVOH_VERSION_MINOR 5
 #define PUNELAVOH_VERSION_PATCH 0
 
 /* What an answer holds in `refusal`. 1 to 7 are looked at in this order. A refused answer holds 0 in every other field. */
@@ -166,7 +166,7 @@ typedef struct {
     uint32_t refusal;
     uint32_t paths;
     uint32_t pushes;
-    uint32_t mark;    /* the greatest number of paths that waited at any moment between pushes and takings */
+    uint32_t mark;    /* no less than the longest waiting list, no more than the pushes */
 } PunelavohListAnswer;
 
 /* Writes the rows of edges and of tree nodes.

@@ -190,7 +190,7 @@ pub struct ListAnswer {
     pub paths: u32,
     /// How many pushes were made.
     pub pushes: u32,
-    /// The waiting mark: the greatest number of paths that waited at any moment between pushes and takings.
+    /// The waiting mark: no less than the longest waiting list, no more than the pushes.
     pub mark: u32,
 }
 

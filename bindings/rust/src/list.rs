@@ -36,7 +36,7 @@ impl<'c> List<'c> {
         self.pushes
     }
 
-    /// The greatest number of paths that waited at any moment between pushes and takings; 0 where no path was asked.
+    /// No less than the longest waiting list, no more than the pushes.
     pub fn waiting_mark(&self) -> u32 {
         self.mark
     }

@@ -41,8 +41,8 @@ pub struct Least {
 pub struct Listed {
     pub rows: Vec<Row>,
     pub pushes: u32,
-    /// The waiting mark: the greatest number of paths that wait at any moment.
-    pub mark: u32,
+    /// The longest waiting list; a waiting mark lies between it and the pushes.
+    pub longest: u32,
     pub least: Least,
 }
 
@@ -102,7 +102,7 @@ pub fn list(s: &Sample, input: &ListInput, short: bool) -> Result<Listed, Refusa
     let built = build(s, &input.graph)?;
     if input.paths == 0 {
         let search = SearchMaxima { path_edges: 1, active: 1, pushes: 1 };
-        return Ok(Listed { rows: Vec::new(), pushes: 0, mark: 0, least: Least { search, column: 2 } });
+        return Ok(Listed { rows: Vec::new(), pushes: 0, longest: 0, least: Least { search, column: 2 } });
     }
     let found = search(&built.graph, &built.trees, built.sink, built.symbolic, input);
     if let Some(number) = found.refusal {
@@ -124,7 +124,7 @@ pub fn list(s: &Sample, input: &ListInput, short: bool) -> Result<Listed, Refusa
         search: SearchMaxima { path_edges: found.met.path_edges.max(1), active: found.met.active.max(1), pushes: found.pushes },
         column: (found.met.place + 1).max(2),
     };
-    Ok(Listed { rows, pushes: found.pushes, mark: found.mark, least })
+    Ok(Listed { rows, pushes: found.pushes, longest: found.longest, least })
 }
 
 /// How far a search went, and the sizes that its allowance is reckoned from. No call tells the pushes of a search that is refused.
@@ -134,7 +134,7 @@ pub struct Effort {
     pub edges: u32,
     pub nodes: u32,
     pub pushes: u32,
-    pub mark: u32,
+    pub longest: u32,
     pub closed: u32,
     /// The edges of the longest path made; where it is refused 11 for its edges, one more than the maximum.
     pub path_edges: u32,
@@ -152,7 +152,7 @@ pub fn effort(s: &Sample, input: &ListInput) -> Result<Effort, Refusal> {
         edges: graph.edges.len() as u32,
         nodes: trees.len() as u32,
         pushes: found.pushes,
-        mark: found.mark,
+        longest: found.longest,
         closed: found.closed.len() as u32,
         path_edges: found.met.path_edges,
         refusal: found.refusal,

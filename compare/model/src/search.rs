@@ -40,8 +40,7 @@ pub struct Found {
     pub refusal: Option<Refusal>,
     pub closed: Vec<Closed>,
     pub pushes: u32,
-    /// The greatest number of paths that have waited at any moment.
-    pub mark: u32,
+    pub longest: u32,
     pub met: Met,
 }
 
@@ -83,7 +82,7 @@ struct Search<'a> {
 struct Waiting {
     paths: Vec<(f64, u32, Box<Path>)>,
     pushes: u32,
-    mark: u32,
+    longest: u32,
 }
 
 impl Waiting {
@@ -91,7 +90,7 @@ impl Waiting {
         let place = self.paths.partition_point(|(score, _, _)| *score < path.score);
         self.paths.insert(place, (path.score, self.pushes, Box::new(path)));
         self.pushes += 1;
-        self.mark = self.mark.max(self.paths.len() as u32);
+        self.longest = self.longest.max(self.paths.len() as u32);
     }
 
     fn take(&mut self) -> Option<Path> {
@@ -117,7 +116,7 @@ pub fn search(graph: &Graph, trees: &Trees, sink: Vertex, symbolic: Ends, input:
     };
     let start = Path { edges: Vec::new(), score: 0.0, active: Vec::new(), visited: Vec::new(), since: 0 };
     let refusal = search.push(start).and_then(|()| search.run()).err();
-    Found { refusal, closed: search.closed, pushes: search.waiting.pushes, mark: search.waiting.mark, met: search.met }
+    Found { refusal, closed: search.closed, pushes: search.waiting.pushes, longest: search.waiting.longest, met: search.met }
 }
 
 impl Search<'_> {

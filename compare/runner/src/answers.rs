@@ -21,13 +21,12 @@ pub struct PathWritten {
     pub origins: Vec<(u32, u32)>,
 }
 
-/// The list.
+/// The list. A waiting mark lies between `longest` and `pushes`.
 #[derive(Clone, Debug, PartialEq)]
 pub struct ListWritten {
     pub rows: Vec<PathWritten>,
     pub pushes: u32,
-    /// The waiting mark.
-    pub mark: u32,
+    pub longest: u32,
 }
 
 impl From<GraphRows> for GraphWritten {
@@ -45,7 +44,7 @@ impl From<Listed> for ListWritten {
             bases: row.bases,
             origins: row.origins,
         });
-        Self { rows: rows.collect(), pushes: listed.pushes, mark: listed.mark }
+        Self { rows: rows.collect(), pushes: listed.pushes, longest: listed.longest }
     }
 }
 

@@ -71,16 +71,16 @@ never-twelve i told lent h =
 -- ---- an accepted list
 
 -- It was made within the formula, whatever the maximum of pushes.
-pub listed-few : (i : Input) (told lent : List ℕ) (rows : List (Row Float)) (pushes mark : ℕ) → answer i told lent ≡ listed rows pushes mark → pushes ≤ enough_for i
-listed-few i told lent rows pushes mark t = go (accepted i told lent rows pushes mark t).1
+pub listed-few : (i : Input) (told lent : List ℕ) (rows : List (Row Float)) (pushes longest : ℕ) → answer i told lent ≡ listed rows pushes longest → pushes ≤ enough_for i
+listed-few i told lent rows pushes longest t = go (accepted i told lent rows pushes longest t).1
   where
     𝓢 : Scoring Float
     𝓢 = column_scoring i.column
 
     fine : first_broken (sample_rules i.sample) ≡ 0
-    fine = sample-checked i (accepted i told lent rows pushes mark t).0
+    fine = sample-checked i (accepted i told lent rows pushes longest t).0
 
-    go : Listing 𝓢 i rows pushes mark → pushes ≤ enough_for i
+    go : Listing 𝓢 i rows pushes longest → pushes ≤ enough_for i
     go (inl none) = rw none.2 (omega arith)
     go (inr f) =
         let few = search-few 𝓢 i f.graph fine f.is-built i.asked i.search_maxima.pushes i.recovery f.state f.reached in

@@ -9,7 +9,19 @@ use lib.Ieee.{Float, fin, nan}
 use Rattle.definition.specs.Refusal.{open_refusal}
 use Rattle.definition.specs.Limits.{Input, float_zero}
 use Rattle.definition.specs.Calls.{workspace_after, open_calls}
-use Rattle.definition.proofs.Examples.{A, C, G, T, seq_r, seq_a, acgta, case1, case5, case6, end_pushes, one, minus_one, column, room, allowance, sample, ask, asking, recovering, within, over, listing, lending, first_origins, mark, edge_rows, origin, no, paths, numbers, reply, Case, asks, path, edge}
+use Rattle.definition.proofs.Examples.{A, C, G, T, seq_r, seq_a, one, minus_one, column, room, allowance, sample, ask, asking, recovering, within, over, listing, lending, first_origins, longest, edge_rows, origin, no, paths, numbers, reply, Case, asks, path, edge}
+
+abbrev acgta : List ℕ
+acgta = A ∷ C ∷ G ∷ T ∷ A ∷ []
+
+abbrev case1 : Input
+case1 = ask (sample 3 acgta []) 3
+
+abbrev case5 : Input
+case5 = ask (sample 3 seq_r (seq_a ∷ [])) 2
+
+abbrev case6 : Input
+case6 = ask (sample 3 seq_r (seq_a ∷ seq_r ∷ [])) 5
 
 -- AAA with the read AA, k 2: the vertex AA forks into itself and the symbolic vertex, and the repeat rule drops the first
 abbrev ring : Input
@@ -120,13 +132,8 @@ table =
     -- A recovered path keeps the whole score of the path it was split from, -0.5, and closes after it: of CAA's branches AAG has count 4 and AAC 2
     ∷ asks (listing (recovering split)) (paths (path minus_half 1 5 (G ∷ seq_a) ∷ path minus_half 2 5 (G ∷ seq_r) ∷ []) 7)
     ∷ asks (listing split) (paths (path minus_half 1 5 (G ∷ seq_a) ∷ []) 4)
-    -- 02 e, reading 1: the start path waits; in case 1 a path is in hand when the second is pushed, and does not count
-    ∷ asks (mark case1) (numbers (1 ∷ []))
-    -- 02 e, reading 2: the path of the only closing asked for is still extended, and its two pushes make a list that nothing is taken from
-    ∷ asks (listing end_pushes) (paths (path float_zero 1 0 (A ∷ A ∷ []) ∷ []) 3)
-    ∷ asks (mark end_pushes) (numbers (2 ∷ []))
-    -- 02 e, reading 3: 0 where no path is asked
-    ∷ asks (mark (asking 0 case6)) (numbers (0 ∷ []))
+    -- the waiting list of case 6 is never longer than 2
+    ∷ asks (longest case6) (numbers (2 ∷ []))
     ∷ []
 
 pub borders : map (λ (c : Case). reply c.question) table ≡ map (λ (c : Case). c.expected) table

@@ -5,9 +5,18 @@ use lib.IntN.{pos}
 use lib.Ieee.{fin}
 use mathlib.Core.Bool.{false}
 use Rattle.definition.specs.Limits.{Input, float_zero}
-use Rattle.definition.proofs.Examples.{A, C, G, seq_r, seq_a, acgta, case1, case5, case6, column, room, allowance, sample, sample_with, ask, asking, recovering, within, over, minus_one, listing, score_bits, mark, tree_of, supports_of, no, paths, numbers, reply, Case, asks, path, edge}
+use Rattle.definition.proofs.Examples.{A, C, G, T, seq_r, seq_a, column, room, allowance, sample, sample_with, ask, asking, recovering, within, over, minus_one, listing, score_bits, tree_of, supports_of, no, paths, numbers, reply, Case, asks, path, edge}
 
--- the inputs of the cases that only this table asks about
+-- the inputs of the cases; a threshold that 01 leaves open is 3, the Rust's own
+abbrev case1 : Input
+case1 = ask (sample 3 (A ∷ C ∷ G ∷ T ∷ A ∷ []) []) 3
+
+abbrev case5 : Input
+case5 = ask (sample 3 seq_r (seq_a ∷ [])) 2
+
+abbrev case6 : Input
+case6 = ask (sample 3 seq_r (seq_a ∷ seq_r ∷ [])) 5
+
 abbrev case7 : Input
 case7 = ask (sample 3 seq_r (seq_a ∷ seq_r ∷ [])) 4
 
@@ -17,7 +26,7 @@ case12 = ask (sample_with 3 seq_r (seq_a ∷ []) (40 ∷ 40 ∷ 40 ∷ 2 ∷ 40 
 pub table : List Case
 table =
     -- 1. "ACGTA, no reads: ACGTA, score 0, 2 pushes."
-    asks (listing case1) (paths (path float_zero 1 2 acgta ∷ []) 2)
+    asks (listing case1) (paths (path float_zero 1 2 (A ∷ C ∷ G ∷ T ∷ A ∷ []) ∷ []) 2)
     -- 2. "ACG: ACG, no edges, 2 pushes."
     ∷ asks (listing (ask (sample 3 (A ∷ C ∷ G ∷ []) []) 3)) (paths (path float_zero 1 0 (A ∷ C ∷ G ∷ []) ∷ []) 2)
     -- 3. "Case 1, pushes 1: 12."
@@ -30,14 +39,12 @@ table =
     -- 6. "R, A, B, threshold 5: listing below": closings 2 and 1, 4 edges each, score bits bff0000000000000
     ∷ asks (listing case6) (paths (path minus_one 2 4 seq_a ∷ path minus_one 1 4 seq_r ∷ []) 7)
     ∷ asks (score_bits case6) (numbers (0xbff0000000000000 ∷ 0xbff0000000000000 ∷ []))
-    -- 02: "exactly the greatest number of paths waiting at any moment between pushes and takings, 2 for the paper's case 6"
-    ∷ asks (mark case6) (numbers (2 ∷ []))
     -- 7. "Same, threshold 4: CAAGTGG only, score -1, 4 pushes."
     ∷ asks (listing case7) (paths (path minus_one 1 4 seq_a ∷ []) 4)
     -- 8. "Case 7 with recovery: same."
     ∷ asks (listing (recovering case7)) (paths (path minus_one 1 4 seq_a ∷ []) 4)
     -- 9. "k 1: 1."
-    ∷ asks (listing (ask (sample 1 acgta []) 3)) (no 1)
+    ∷ asks (listing (ask (sample 1 (A ∷ C ∷ G ∷ T ∷ A ∷ []) []) 3)) (no 1)
     -- 10. "Reference CA: 2."
     ∷ asks (listing (ask (sample 3 (C ∷ A ∷ []) []) 3)) (no 2)
     -- 11. "Place 2 holds 17: 6."

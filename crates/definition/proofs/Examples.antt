@@ -104,24 +104,6 @@ abbrev pub over : List Float → Input → Input
 over c i =
     record { sample = i.sample; asked = i.asked; threshold = i.threshold; recovery = i.recovery; graph_maxima = i.graph_maxima; search_maxima = i.search_maxima; column = c }
 
--- ---- the inputs that more than one table asks about; a threshold that 01 leaves open is 3, the Rust's own
-
-abbrev pub acgta : List ℕ
-acgta = A ∷ C ∷ G ∷ T ∷ A ∷ []
-
-abbrev pub case1 : Input
-case1 = ask (sample 3 acgta []) 3
-
-abbrev pub case5 : Input
-case5 = ask (sample 3 seq_r (seq_a ∷ [])) 2
-
-abbrev pub case6 : Input
-case6 = ask (sample 3 seq_r (seq_a ∷ seq_r ∷ [])) 5
-
--- AA with the read AAAC, k 2, one path asked: the source is the sink, so that the start path closes and ends the search, and it has two ways on
-abbrev pub end_pushes : Input
-end_pushes = asking 1 (ask (sample 2 (A ∷ A ∷ []) ((A ∷ A ∷ A ∷ C ∷ []) ∷ [])) 9)
-
 -- ---- questions and replies
 
 pub data Question : Type 0 where
@@ -133,8 +115,8 @@ pub data Question : Type 0 where
   first_origins : Input → Question
   -- the bits of the scores of the call for the list
   score_bits : Input → Question
-  -- the waiting mark
-  mark : Input → Question
+  -- the greatest length of the waiting list
+  longest : Input → Question
   -- the node rows of the tree at a vertex
   tree_of : ℕ → Input → Question
   -- the supports of edges
@@ -211,7 +193,7 @@ reply (listing i) = list_reply (all_paths i) (list_call i [] [] (blank i))
 reply (lending told lent i) = list_reply (all_paths i) (list_call i (told ∷ []) (lent ∷ []) (blank i))
 reply (first_origins i) = list_reply (λ o. numbers (origins_of o o.slices.rows)) (list_call i [] [] (blank i))
 reply (score_bits i) = list_reply all_bits (list_call i [] [] (blank i))
-reply (mark i) = list_reply (λ o. numbers (o.answer.mark ∷ [])) (list_call i [] [] (blank i))
+reply (longest i) = list_reply (λ o. numbers (o.answer.longest ∷ [])) (list_call i [] [] (blank i))
 reply (tree_of v i) = built_reply (λ b. flat node_row (nodes (keep (λ (t : Tree). eqb t.vertex v) b.trees))) (built i.sample i.graph_maxima)
 reply (supports_of es i) = built_reply (λ b. map (λ (d : Edge). d.support) (edges_of es b)) (built i.sample i.graph_maxima)
 reply (edge_rows es i) = built_reply (λ b. flat edge_row (edges_of es b)) (built i.sample i.graph_maxima)

@@ -16,7 +16,7 @@ use Rattle.definition.specs.Search.{open_search}
 use Rattle.definition.specs.Building.{open_building}
 use Rattle.definition.specs.Listing.{open_listing}
 use Rattle.definition.specs.Text.{Text, text_of, column_of, input_of, printed, refused_line, open_text}
-use Rattle.definition.proofs.Examples.{case6}
+use Rattle.definition.proofs.Examples.{seq_r, seq_a, sample, ask}
 
 -- "Case 6, with `3 10 5 5 0` and qualities `IIIIIII`"
 abbrev pub input : List ℕ
@@ -60,7 +60,7 @@ read (some t) none = none
 read (some t) (some c) = some (input_of t c)
 
 -- the text and the file are case 6 of the table
-pub case6-read : read (text_of input) (column_of file) ≡ some case6
+pub case6-read : read (text_of input) (column_of file) ≡ some (ask (sample 3 seq_r (seq_a ∷ seq_r ∷ [])) 5)
 unfolding open_text of_bits
 case6-read = refl
 

@@ -1,5 +1,5 @@
 -- The calls, whole: what each answers and what each lent slice holds at exit, as functions of what was handed in and of what the slices held.
--- Free are the workspace's lengths alone, which are each program's own: handed in here as told, they decide 7 and how far the workspace is zeroed.
+-- Free are the waiting mark, which lies between `longest` and `pushes` of ListAnswer, and the workspace's lengths, which are each program's own.
 use Rattle.std.specs.Prelude.{ℕ, zero, suc, ◌+◌, Bool, true, false, cond, List, [], ◌∷◌, ◌++◌, map, length, take, drop, replicate, Float}
 use Rattle.definition.specs.Refusal.{Result, ok, refused, keeps_workspace, first_broken}
 use Rattle.definition.specs.Limits.{Sample, GraphMaxima, SearchMaxima, Input, origin_rules, lengths_rules, graph_rules, told_edges, told_nodes, told_bases, told_origins, bases_stride, graph_told, list_told}
@@ -104,12 +104,12 @@ pub record ListSlices : Type 0 where
   pub sequences : List ℕ
   pub places : List ℕ
 
--- `mark` is the waiting mark (Moments).
+-- The waiting mark told is "no less than the longest waiting list, no more than the pushes".
 pub record ListAnswer : Type 0 where
   pub refusal : ℕ
   pub paths : ℕ
   pub pushes : ℕ
-  pub mark : ℕ
+  pub longest : ℕ
 
 pub record ListOutcome : Type 0 where
   pub answer : ListAnswer
@@ -129,9 +129,9 @@ listed_slices i rs old =
     }
 
 unfoldable pub list_outcome : Input → Answer Float → ListSlices → ListOutcome
-list_outcome i (refusal n) old = record { answer = record { refusal = n; paths = 0; pushes = 0; mark = 0 }; slices = old }
-list_outcome i (listed rs pushes mark) old =
-    record { answer = record { refusal = 0; paths = length rs; pushes = pushes; mark = mark }; slices = listed_slices i rs old }
+list_outcome i (refusal n) old = record { answer = record { refusal = n; paths = 0; pushes = 0; longest = 0 }; slices = old }
+list_outcome i (listed rs pushes longest) old =
+    record { answer = record { refusal = 0; paths = length rs; pushes = pushes; longest = longest }; slices = listed_slices i rs old }
 
 unfoldable pub list_lent : ListSlices → List ℕ → List ℕ
 list_lent o lent = length o.rows ∷ length o.bases ∷ length o.sequences ∷ length o.places ∷ lent

@@ -66,7 +66,7 @@ module _ {S : Type 0} where
 
 -- ---- the answer
 
--- A refusal; or the list, the pushes made, and the waiting mark: "exactly the greatest number of paths waiting at any moment" (Moments).
+-- A refusal; or the list, the pushes made, and the greatest length of the waiting list, which the waiting mark told is not below.
 pub data Answer (S : Type 0) : Type 0 where
   refusal : ℕ → Answer S
   listed : List (Row S) → ℕ → ℕ → Answer S

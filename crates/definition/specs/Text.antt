@@ -308,7 +308,7 @@ refused_line n = refused_word ++ (decimal n ++ line_feed ∷ [])
 
 unfoldable pub printed_of : Answer Float → List ℕ
 printed_of (refusal n) = refused_line n
-printed_of (listed rs pushes mark) = first_line (length rs) pushes ++ path_lines 1 rs
+printed_of (listed rs pushes longest) = first_line (length rs) pushes ++ path_lines 1 rs
 
 -- the whole standard output, for standard input and what `column.f64` holds, where they could be read whole
 unfoldable pub printed : Option (List ℕ) → Option (List ℕ) → List ℕ

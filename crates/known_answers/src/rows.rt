@@ -8,7 +8,7 @@ use agreement::scores::{joined, score_at, score_is, scores_untouched};
 
 // ---- scores, closing numbers, edges
 
-// The columns have no flag; what is told of it is not looked at.
+// The columns have no flag, and every flag of the list is 0.
 fn numbers_agree(row: &[u32], score: f64, closing: u32, edges: u32) -> bool {
     if !score_is(score, joined(field(row, 0), field(row, 1))) {
         return false;
@@ -16,7 +16,10 @@ fn numbers_agree(row: &[u32], score: f64, closing: u32, edges: u32) -> bool {
     if closing != field(row, 2) {
         return false;
     }
-    edges == field(row, 3)
+    if edges != field(row, 3) {
+        return false;
+    }
+    field(row, 4) == 0
 }
 
 // The numbers of all rows, which are as many as are listed; behind them nothing touched.

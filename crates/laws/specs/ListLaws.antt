@@ -4,7 +4,7 @@ use Rattle.std.proofs.Math.Path.{refl, sym, ap}
 use Rattle.std.proofs.Common.{subst, ◌∙◌, inl, inr, arith, take-take}
 use Prim.Native.Nat.{ℕ, zero, suc, ◌+◌, ◌≤◌}
 use Rattle.std.proofs.Math.Option.{Option, none, some}
-use Rattle.laws.specs.Lists.{keep, find, find_last, last_or, sole, total}
+use Rattle.laws.specs.Lists.{keep, find, find_last, sole, total}
 
 -- ---- lists of length 0
 
@@ -93,10 +93,6 @@ module _ {A : Type 0} where
   mem-right (x ∷ xs) m = there (mem-right xs m)
 
   -- an element that passes is kept
-  pub last-append : (d : A) (xs ys : List A) → last_or d (xs ++ ys) ≡ last_or (last_or d xs) ys
-  last-append d [] ys = refl
-  last-append d (x ∷ xs) ys = last-append x xs ys
-
   pub mem-keep : (t : A → Bool) (a : A) {xs : List A} → Mem a xs → t a ≡ true → Mem a (keep t xs)
   mem-keep t a (here {x = x} {xs = xs} w) e = let f : t x ≡ true = ap t (sym w) ∙ e in rw f (here w)
   mem-keep t a (there {x = x} {xs = xs} m) e = go (t x) refl (mem-keep t a m e)

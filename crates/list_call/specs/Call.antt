@@ -25,7 +25,7 @@ found-zero i = go (found i) (found-late i)
   where
     go : (o : Answer Float) → LateAnswer o → keeps_workspace (summary o).refusal ≡ false
     go (refusal n) l = l.1
-    go (listed rs pushes mark) l = accepted-zero
+    go (listed rs pushes longest) l = accepted-zero
 
 module _ (i : Input) (rows : ℕ) (o : Outputs) (w : Tables) (n : ℕ) (e : n ≡ first_broken (list_rules i (told_of i) (lent_of (lengths_of rows o w)))) where
   -- ---- refused by a rule

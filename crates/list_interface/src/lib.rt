@@ -30,7 +30,7 @@ pub struct ListAnswer {
     pub refusal: u32,
     pub paths: u32,
     pub pushes: u32,
-    // the greatest number of paths that waited at any moment between pushes and takings
+    // no less than the longest waiting list, no more than the pushes
     pub mark: u32,
 }
 

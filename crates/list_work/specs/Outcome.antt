@@ -1,5 +1,6 @@
 -- The answer of the call for the list in the definition's words, over columns: a row of the list stands at one place of three columns. Assumes nothing.
-use Rattle.std.specs.Prelude.{◌≡◌, refl, List, [], map, ℕ, length, Float}
+use Rattle.std.specs.Prelude.{◌≡◌, refl, List, [], map, ℕ, ◌≤◌, length, Float}
+use Rattle.std.proofs.Common.{arith}
 use Rattle.definition.specs.Limits.{Input, bases_stride}
 use Rattle.definition.specs.Threading.{Origin}
 use Rattle.definition.specs.Score.{column_scoring}
@@ -38,7 +39,7 @@ written_list i rs old =
 
 unfoldable pub outputs_after : Input → Answer Float → Outputs → Outputs
 outputs_after i (refusal n) old = old
-outputs_after i (listed rs pushes mark) old = written_list i rs old
+outputs_after i (listed rs pushes longest) old = written_list i rs old
 
 -- ---- the answer
 
@@ -47,32 +48,34 @@ abbrev pub found : Input → Answer Float
 found i = after_build (column_scoring i.column) i (built i.sample i.graph_maxima)
 
 unfoldable pub summary : Answer Float → ListAnswer
-summary (refusal n) = record { refusal = n; paths = 0; pushes = 0; mark = 0 }
-summary (listed rs pushes mark) = record { refusal = 0; paths = length rs; pushes = pushes; mark = mark }
+summary (refusal n) = record { refusal = n; paths = 0; pushes = 0; longest = 0 }
+summary (listed rs pushes longest) = record { refusal = 0; paths = length rs; pushes = pushes; longest = longest }
 
--- the answer told, with the outputs before and after
+-- the answer told, with the outputs before and after; the waiting mark is "no less than the longest waiting list, no more than the pushes"
 pub record Listed (i : Input) (o : Answer Float) (r : declared.ListAnswer) (old new : Outputs) : Type 0 where
   pub refusal : r.refusal ≡ (summary o).refusal
   pub paths : r.paths ≡ (summary o).paths
   pub pushes : r.pushes ≡ (summary o).pushes
-  pub mark : r.mark ≡ (summary o).mark
+  pub mark-low : (summary o).longest ≤ r.mark
+  pub mark-high : r.mark ≤ (summary o).pushes
   pub outputs : new ≡ outputs_after i o old
 
 -- a refused answer
 pub listed-refused : (i : Input) (o : Answer Float) (n : ℕ) (r : declared.ListAnswer) (old : Outputs) → o ≡ refusal n → r ≡ refused_answer n → Listed i o r old old
 unfolding summary outputs_after
-listed-refused i o n r old e f = rw (e, f) (record { refusal = refl; paths = refl; pushes = refl; mark = refl; outputs = refl })
+listed-refused i o n r old e f =
+    rw (e, f) (record { refusal = refl; paths = refl; pushes = refl; mark-low = omega arith; mark-high = omega arith; outputs = refl })
 
 -- a list
-pub listed-done : (i : Input) (o : Answer Float) (rs : List (Row Float)) (pushes mark : ℕ) (r : declared.ListAnswer) (old new : Outputs) → o ≡ listed rs pushes mark → r.refusal ≡ 0
-    → r.paths ≡ length rs → r.pushes ≡ pushes → r.mark ≡ mark → new ≡ written_list i rs old → Listed i o r old new
+pub listed-done : (i : Input) (o : Answer Float) (rs : List (Row Float)) (pushes longest : ℕ) (r : declared.ListAnswer) (old new : Outputs) → o ≡ listed rs pushes longest → r.refusal ≡ 0
+    → r.paths ≡ length rs → r.pushes ≡ pushes → longest ≤ r.mark → r.mark ≤ pushes → new ≡ written_list i rs old → Listed i o r old new
 unfolding summary outputs_after
-listed-done i o rs pushes mark r old new e a b c d f = rw e (record { refusal = a; paths = b; pushes = c; mark = d; outputs = f })
+listed-done i o rs pushes longest r old new e a b c d f h = rw e (record { refusal = a; paths = b; pushes = c; mark-low = d; mark-high = f; outputs = h })
 
 -- the empty list
 pub listed-none : (i : Input) (o : Answer Float) (r : declared.ListAnswer) (old : Outputs) → o ≡ listed [] 0 0 → r ≡ refused_answer 0 → Listed i o r old old
 unfolding written_list written_at written_rows
-listed-none i o r old e f = rw f (listed-done i o [] 0 0 (refused_answer 0) old old e refl refl refl refl refl)
+listed-none i o r old e f = rw f (listed-done i o [] 0 0 (refused_answer 0) old old e refl refl refl (omega arith) (omega arith) refl)
 
 -- ---- the workspace
 

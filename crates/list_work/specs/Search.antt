@@ -315,6 +315,7 @@ module _ {i : Input} {o : Outputs} {w : Tables} {b : Raise} (q : Searches i o w 
             let t = L (built_for i.sample) there.state.closed i.column shows in
             let m = there.holds.longest in
             let n = there.holds.pushes in
+            let h = there.holds.mark-fits in
             let c1 = t.scores-are in
             let c2 = t.closings-are in
             let c3 = t.edges_are in
@@ -322,5 +323,5 @@ module _ {i : Input} {o : Outputs} {w : Tables} {b : Raise} (q : Searches i o w 
             let c5 = t.sequences-are in
             let c6 = t.places-are in
             rw e
-            (listed-done i (found i) rows_of there.state.pushes there.state.longest (found_answer p) o (outputs_of ss cs ls bs qs ps) found-list refl (sym t.paths) (sym n) (sym m)
+            (listed-done i (found i) rows_of there.state.pushes there.state.longest (found_answer p) o (outputs_of ss cs ls bs qs ps) found-list refl (sym t.paths) (sym n) (omega arith) (omega arith)
             (λ j. record { scores = c1 j; closings = c2 j; edges = c3 j; bases = c4 j; sequences = c5 j; places = c6 j }))

@@ -3,7 +3,7 @@ use Rattle.std.specs.Prelude.{◌≡◌, ◌≢◌, Float}
 use Rattle.std.proofs.Math.Path.{refl, sym, ap}
 use Rattle.std.proofs.Common.{◌∙◌, lt-ltb, le-ltb}
 use mathlib.Core.List.{List, [], ◌∷◌, map}
-use Prim.Native.Nat.{ℕ, suc, ◌+◌, ◌-◌, ◌^◌, ◌<◌, ◌≤◌}
+use Prim.Native.Nat.{ℕ, suc, ◌+◌, ◌-◌, ◌<◌, ◌≤◌, max}
 use Rattle.std.proofs.Math.Numerals.{add-one}
 use native.Mathlib.Omega.{arith}
 use Rattle.std.proofs.Math.ListN.{length, length-map}
@@ -17,7 +17,6 @@ use Rattle.search_state.specs.declared.Setting.{Setting}
 use Rattle.search_state.specs.declared.Progress.{Progress}
 use Rattle.search_state.specs.declared.Step.{Step}
 use Rattle.search_state.specs.declared.Step.TheVariants.{On, Refused}
-use Rattle.search_state.specs.Counts.{pushed_once, Countable}
 use Rattle.search_state.specs.State.{Idle, up_from}
 use Rattle.path_queue.specs.Scene.{Scene, Stands, path_in, distinct-insert}
 
@@ -47,6 +46,18 @@ pub record OnePushes (sc : List Float) (queue : List ℕ) (g : Setting) (p : Pro
   pub asks : Pushes sc queue g p path
   pub below : path < p.records
 
+abbrev pub pushed_once : Progress → Progress
+pushed_once p =
+    record {
+      records = p.records;
+      waiting = p.waiting + 1;
+      closed = p.closed;
+      next = p.next;
+      pivotal = p.pivotal;
+      pushes = p.pushes + 1;
+      mark = max p.mark (p.waiting + 1);
+    }
+
 pub record Joined (sc : List Float) (queue : List ℕ) (g : Setting) (p : Progress) (path : ℕ) (queue' : List ℕ) (p' : Progress) : Type 0 where
   pub free : p.pushes < g.pushes
   pub is : p' ≡ pushed_once p
@@ -69,11 +80,9 @@ module _ {sc : List Float} {queue : List ℕ} {g : Setting} {p : Progress} {path
       let H = A.asks.ready.holds in
       record { heap = H.heap; free = omega (arith, A.asks.room, H.waiting-fits, H.mark-fits); known = known; later = A.asks.ready.later }
 
-  -- and can be counted: the queue has a place for every push that is allowed
-  pub one-counts : p.pushes < g.pushes → length queue < 2 ^ 63 → Countable p
-  one-counts h l =
-      let H = A.asks.ready.holds in
-      record { waiting = omega (arith, A.asks.room, H.waiting-fits, H.mark-fits); pushes = omega (arith, A.asks.room) }
+  -- and the counts fit
+  pub one-fits : p.pushes < g.pushes → (p.waiting + 1 ≤ length queue) × (p.pushes + 1 ≤ length queue)
+  one-fits h = let H = A.asks.ready.holds in omega (arith, A.asks.room, H.waiting-fits, H.mark-fits)
 
   module _ (h : p.pushes < g.pushes) {queue' : List ℕ} (P : Pushed sc queue p.waiting path queue') where
     one_each : (G : Scene) (s : State Float) (column : List Float) → Ready G g sc queue p path s
@@ -121,8 +130,10 @@ module _ {sc : List Float} {queue : List ℕ} {g : Setting} {p : Progress} {path
           later = pushed-all (λ q. q < path + 1) sc queue p.waiting path queue' P (omega arith) (λ i l. omega (arith, R.later i l));
         }
 
-    pub one-joined : (q : Progress) → q ≡ pushed_once p → OnePushed sc queue g p path queue' (On q)
-    one-joined q e = record { free = h; is = e; each = one_each }
+    pub one-joined : (m : ℕ) → m ≡ max p.mark (p.waiting + 1)
+        → OnePushed sc queue g p path queue'
+        (On (record { records = p.records; waiting = p.waiting + 1; closed = p.closed; next = p.next; pivotal = p.pivotal; pushes = p.pushes + 1; mark = m }))
+    one-joined m e = record { free = h; is = rw e; each = one_each }
 
 -- ---- all of them
 

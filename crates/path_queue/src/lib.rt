@@ -1,5 +1,5 @@
 // The steps of the search over the queue of waiting paths: paths are pushed, the first is taken, and where none waits a pivotal edge is tried.
-ghost use Rattle.std.specs.Prelude.{◌≡◌, ◌≤◌, length};
+ghost use Rattle.std.specs.Prelude.{◌≡◌, ◌≤◌, max, length};
 ghost use Rattle.path_edges.specs.Path.{edges};
 ghost use Rattle.closed_paths.specs.Split.{split_at};
 ghost use Rattle.path_queue.specs.Begin.{MarksSet, ListsPivotal, PivotalListed, Begins, Begun};
@@ -19,7 +19,7 @@ use path_store::chains::wide;
 use path_store::records::path_at;
 use pivotal_edges::create_pivotal_edges_in_topological_order;
 use refusals::PUSHES;
-use search_state::{Progress, Setting, Step, pushed};
+use search_state::{Progress, Setting, Step};
 
 // The path that was taken, and how far the search is without it.
 #[derive(Drop)]
@@ -36,6 +36,15 @@ pub enum Recovery {
     Refused(u32),
 }
 
+fn larger(a: usize, b: usize) -> usize
+    ensures { result ≡ max a b }
+{
+    if a < b {
+        return b;
+    }
+    a
+}
+
 // The path joins those that wait, unless as many have been pushed as the caller allows: 12.
 fn push_path(scores: &[f64], queue: &mut [u32], g: Setting, p: Progress, path: u32) -> Step
     requires { OnePushes scores.now queue.old g p path }
@@ -45,7 +54,16 @@ fn push_path(scores: &[f64], queue: &mut [u32], g: Setting, p: Progress, path: u
         return Step::Refused(PUSHES);
     }
     heap_push(queue, p.waiting, scores, path);
-    Step::On(pushed(p))
+    let waiting = p.waiting + 1;
+    Step::On(Progress {
+        records: p.records,
+        waiting: waiting,
+        closed: p.closed,
+        next: p.next,
+        pivotal: p.pivotal,
+        pushes: p.pushes + 1,
+        mark: larger(p.mark, waiting),
+    })
 }
 
 // The paths from `from` on join those that wait, in order.

@@ -175,7 +175,7 @@ module _ (scores : List Float) (closings edges bases : List ℕ) (k : ℕ) where
       rw (x.score, x.spelled, x.closing, x.edge_count, lines_are (i + 1) rs h, e)
 
   -- what `write_list` writes is what the definition prints of an accepted list
-  pub list-prints : (rs : List (Row Float)) (pushes mark : ℕ) → Held 0 rs
-      → first_line (length rs) pushes ++ lines_from scores closings edges bases k 0 (length rs) ≡ printed_of (listed rs pushes mark)
+  pub list-prints : (rs : List (Row Float)) (pushes longest : ℕ) → Held 0 rs
+      → first_line (length rs) pushes ++ lines_from scores closings edges bases k 0 (length rs) ≡ printed_of (listed rs pushes longest)
   unfolding printed_of
-  list-prints rs pushes mark h = let e = lines_are 0 rs h in rw e
+  list-prints rs pushes longest h = let e = lines_are 0 rs h in rw e

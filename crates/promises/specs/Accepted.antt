@@ -21,8 +21,8 @@ use Rattle.promises.specs.Back.{Fits, LongFor, read_back}
 pub record Made (i : Input) (told lent : List ℕ) : Type 0 where
   pub rows : List (Row Float)
   pub pushes : ℕ
-  pub mark : ℕ
-  pub is : answer i told lent ≡ listed rows pushes mark
+  pub longest : ℕ
+  pub is : answer i told lent ≡ listed rows pushes longest
 
 pub made : (i : Input) (workspace lent : List ℕ) (old : ListSlices) → (list_call i workspace lent old).answer.refusal ≡ 0
     → Made i (list_told i workspace) (list_lent old lent)
@@ -32,7 +32,7 @@ made i workspace lent old e = go (answer i (list_told i workspace) (list_lent ol
     go : (a : Answer Float) → answer i (list_told i workspace) (list_lent old lent) ≡ a → (list_outcome i a old).answer.refusal ≡ 0
         → Made i (list_told i workspace) (list_lent old lent)
     go (refusal n) t h = let k : 1 ≤ n = no_zero i (list_told i workspace) (list_lent old lent) n t in absurd (omega arith)
-    go (listed rs p q) t h = record { rows = rs; pushes = p; mark = q; is = t }
+    go (listed rs p q) t h = record { rows = rs; pushes = p; longest = q; is = t }
 
 -- refused, the call has the number that the definition has
 pub refused-is : (i : Input) (workspace lent : List ℕ) (old : ListSlices) (n : ℕ) → (list_call i workspace lent old).answer.refusal ≡ suc n
@@ -59,16 +59,16 @@ long-for i workspace lent old h =
 -- ---- the rows read are the definition's
 
 module _ (i : Input) (workspace lent : List ℕ) (old : ListSlices) (m : Made i (list_told i workspace) (list_lent old lent)) where
-  pub bounded : Bounded i m.rows m.pushes m.mark
-  bounded = within-bounds i (list_told i workspace) (list_lent old lent) m.rows m.pushes m.mark m.is
+  pub bounded : Bounded i m.rows m.pushes m.longest
+  bounded = within-bounds i (list_told i workspace) (list_lent old lent) m.rows m.pushes m.longest m.is
 
   spelled : All (Spelled i.sample) m.rows
-  spelled = paths-spelled i (list_told i workspace) (list_lent old lent) m.rows m.pushes m.mark m.is
+  spelled = paths-spelled i (list_told i workspace) (list_lent old lent) m.rows m.pushes m.longest m.is
 
   rows_fit : All (Fits i) m.rows
   rows_fit = all-mono (λ r h. record { bases = h.0.bases-fit; origins = h.0.origins-fit; edges = h.1 }) (all-zip spelled bounded.edges_fit)
 
-  pub outcome : list_call i workspace lent old ≡ list_outcome i (listed m.rows m.pushes m.mark) old
+  pub outcome : list_call i workspace lent old ≡ list_outcome i (listed m.rows m.pushes m.longest) old
   unfolding list_call
   outcome = ap (λ (a : Answer Float). list_outcome i a old) m.is
 
@@ -76,9 +76,9 @@ module _ (i : Input) (workspace lent : List ℕ) (old : ListSlices) (m : Made i 
   pub lent-long : is_long_enough (list_told i workspace) (list_lent old lent) ≡ true
   lent-long =
       long-enough i (list_told i workspace) (list_lent old lent)
-      (passed i (list_told i workspace) (list_lent old lent) m.rows m.pushes m.mark m.is).0
+      (passed i (list_told i workspace) (list_lent old lent) m.rows m.pushes m.longest m.is).0
 
-  read_made : read_list i (list_outcome i (listed m.rows m.pushes m.mark) old) ≡ m.rows
+  read_made : read_list i (list_outcome i (listed m.rows m.pushes m.longest) old) ≡ m.rows
   unfolding list_outcome
   read_made =
       read_back i m.rows old rows_fit bounded.rows_fit (long-for i workspace lent old lent-long)

@@ -45,7 +45,7 @@ module _ (i : Input) (r : ListAnswer) (rs rs' : List PathRow) (o o' : Outputs) (
   unfolding list_outcome
   list-pushes-few e =
       let m = made i told lent (slices_of rs o) (sym called.refusal ∙ e) in
-      rw (called.pushes, outcome i told lent (slices_of rs o) m) (listed-few i (list_told i told) (list_lent (slices_of rs o) lent) m.rows m.pushes m.mark m.is)
+      rw (called.pushes, outcome i told lent (slices_of rs o) m) (listed-few i (list_told i told) (list_lent (slices_of rs o) lent) m.rows m.pushes m.longest m.is)
 
   -- With a column of 65,536 places the call never answers 10.
   pub list-never-ten : 65536 ≤ length i.column → r.refusal ≡ 10 → ⊥

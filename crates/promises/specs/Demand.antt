@@ -24,7 +24,7 @@ pub promise-3a : (i : Input) (workspace lent : List ℕ) (old : ListSlices) → 
     → Promised i (read_list i (list_call i workspace lent old))
 promise-3a i workspace lent old e =
     let m = made i workspace lent old e in
-    rw (rows-read i workspace lent old m) (demand-3a i (list_told i workspace) (list_lent old lent) m.rows m.pushes m.mark m.is)
+    rw (rows-read i workspace lent old m) (demand-3a i (list_told i workspace) (list_lent old lent) m.rows m.pushes m.longest m.is)
 
 -- Demand 3, second half: of two accepted calls between which all else is equal, the list read for fewer paths asked is the longer list read with every path
 -- left out whose closing number is above the smaller number. The slices and the workspaces may differ in length and in what they held.
@@ -35,8 +35,8 @@ promise-3b a b workspace lent workspace' lent' old old' same few e f =
     let m = made a workspace lent old e in
     let n = made b workspace' lent' old' f in
     rw (rows-read a workspace lent old m, rows-read b workspace' lent' old' n)
-    (demand-3b a b (list_told a workspace) (list_lent old lent) (list_told b workspace') (list_lent old' lent') m.rows n.rows m.pushes m.mark
-    n.pushes n.mark same few m.is n.is)
+    (demand-3b a b (list_told a workspace) (list_lent old lent) (list_told b workspace') (list_lent old' lent') m.rows n.rows m.pushes m.longest
+    n.pushes n.longest same few m.is n.is)
 
 -- Where the call for more paths is accepted, so is the call for fewer, if it is lent what it is told.
 pub promise-fewer : (a b : Input) (workspace lent workspace' lent' : List ℕ) (old old' : ListSlices) → AllElseEqual a b → a.asked ≤ b.asked
@@ -46,17 +46,17 @@ unfolding list_call list_outcome
 promise-fewer a b workspace lent workspace' lent' old old' same few long e =
     let n = made b workspace' lent' old' e in
     go (answer a (list_told a workspace) (list_lent old lent))
-    (fewer-accepted a b (list_told a workspace) (list_lent old lent) (list_told b workspace') (list_lent old' lent') n.rows n.pushes n.mark same few n.is long)
+    (fewer-accepted a b (list_told a workspace) (list_lent old lent) (list_told b workspace') (list_lent old' lent') n.rows n.pushes n.longest same few n.is long)
   where
     go : (x : Answer Float) → IsList x → (list_outcome a x old).answer.refusal ≡ 0
     go (refusal n) h = absurd h
     go (listed rs p q) h = refl
 
--- what an accepted answer tells stays within what was asked and allowed, and the waiting mark within the pushes
+-- what an accepted answer tells stays within what was asked and allowed; the waiting mark lies between the last two
 pub record ToldWithin (i : Input) (a : ListAnswer) : Type 0 where
   pub paths-fit : a.paths ≤ i.asked
   pub pushes-fit : a.pushes ≤ i.search_maxima.pushes
-  pub mark-fit : a.mark ≤ a.pushes
+  pub waiting-fit : a.longest ≤ a.pushes
 
 pub rows_told : (i : Input) (workspace lent : List ℕ) (old : ListSlices) → (list_call i workspace lent old).answer.refusal ≡ 0
     → ToldWithin i (list_call i workspace lent old).answer
@@ -64,7 +64,7 @@ unfolding list_outcome
 rows_told i workspace lent old e =
     let m = made i workspace lent old e in
     let b = bounded i workspace lent old m in
-    rw (outcome i workspace lent old m) (record { paths-fit = b.rows_fit; pushes-fit = b.pushes-fit; mark-fit = b.mark-fit })
+    rw (outcome i workspace lent old m) (record { paths-fit = b.rows_fit; pushes-fit = b.pushes-fit; waiting-fit = b.waiting-fit })
 
 -- ---- a program
 

@@ -6,4 +6,3 @@ pub mod Fewer
 pub mod Exported
 pub mod Told
 pub mod Allowed
-pub mod Marked

@@ -235,7 +235,8 @@ module _ (i : Input) (lent : ℕ) (r : ListAnswer) (n : ℕ) (rs rs' : List Path
         refusal = l.refusal;
         paths = l.paths;
         pushes = l.pushes;
-        mark = l.mark;
+        mark-low = l.mark-low;
+        mark-high = l.mark-high;
         slices = slices-eq _ _ (f.is ∙ no_rows (e ∙ l.paths)) (ap (λ (x : Outputs). x.bases) g) (ap (λ (x : Outputs). x.sequences) g) (ap (λ (x : Outputs). x.places) g);
         tables = t;
         scores = c.scores ∙ ap (λ (x : Outputs). written_at 0 (replicate (columns_told r.refusal i.asked) float_zero) x.scores) g ∙ after-refusal float_zero i.asked o.scores r.refusal;
@@ -249,7 +250,8 @@ module _ (i : Input) (lent : ℕ) (r : ListAnswer) (n : ℕ) (rs rs' : List Path
         refusal = l.refusal;
         paths = l.paths;
         pushes = l.pushes;
-        mark = l.mark;
+        mark-low = l.mark-low;
+        mark-high = l.mark-high;
         slices = slices-eq _ _ (f.is ∙ some-rows xs g (e ∙ l.paths) k.1) (ap (λ (x : Outputs). x.bases) g) (ap (λ (x : Outputs). x.sequences) g) (ap (λ (x : Outputs). x.places) g);
         tables = t;
         scores = zeroed float_zero o.scores o'.scores ss xs (λ x. x.score) (ap (λ (x : Outputs). x.scores) g) c.scores l.refusal k.0;

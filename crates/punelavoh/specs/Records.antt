@@ -37,12 +37,13 @@ cleared_by n m ss ss' cs cs' es es' e a b c =
 abbrev pub slices_of : List PathRow → Outputs → ListSlices
 slices_of rs o = record { rows = map told rs; bases = o.bases; sequences = o.sequences; places = o.places }
 
--- what the call answers and leaves, where l is what the definition says of it
+-- what the call answers and leaves, where l is what the definition says of it; the waiting mark is "no less than the longest waiting list, no more than the pushes"
 pub record CalledFor (i : Input) (l : ListOutcome) (r : ListAnswer) (rs' : List PathRow) (o o' : Outputs) (w w' : Tables) : Type 0 where
   pub refusal : r.refusal ≡ l.answer.refusal
   pub paths : r.paths ≡ l.answer.paths
   pub pushes : r.pushes ≡ l.answer.pushes
-  pub mark : r.mark ≡ l.answer.mark
+  pub mark-low : l.answer.longest ≤ r.mark
+  pub mark-high : r.mark ≤ l.answer.pushes
   pub slices : slices_of rs' o' ≡ l.slices
   pub tables : w' ≡ tables_after r.refusal i w
   pub scores : o'.scores ≡ workspace_after float_zero r.refusal (row_columns i.asked) o.scores

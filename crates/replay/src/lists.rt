@@ -106,8 +106,9 @@ fn lengths_lent(told: Lent, short: u32) -> Lent
     }
 }
 
-// ---- the answer: refusal, paths, pushes, waiting mark, rows
+// ---- the answer: refusal, paths, pushes, longest waiting list, rows
 
+// The mark lies from the longest waiting list to the pushes.
 fn list_answered(told: &[u32], answer: ListAnswer) -> bool {
     if answer.refusal != field(told, 0) {
         return false;
@@ -118,7 +119,7 @@ fn list_answered(told: &[u32], answer: ListAnswer) -> bool {
     if answer.pushes != field(told, 2) {
         return false;
     }
-    answer.mark == field(told, 3)
+    field(told, 3) <= answer.mark && answer.mark <= answer.pushes
 }
 
 fn outputs_agree(

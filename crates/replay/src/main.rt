@@ -20,21 +20,16 @@ fn replay_data(numbers: &[u32]) -> cases::Total {
     cases::replay(&numbers[end..], &log10)
 }
 
-// The slices are lent, so that no proof looks into an array.
-fn replay_text(text: &[u8], numbers: &mut [u32]) -> cases::Total {
-    let count = read_numbers(text, numbers);
-    replay_data(&numbers[..count])
-}
-
-fn replay_input(text: &mut [u8]) -> cases::Total {
-    let n = io::read_full(0, text);
-    let mut numbers = [0u32; 262144];
-    replay_text(&text[..n], &mut numbers)
+fn replay_text(text: &[u8]) -> cases::Total {
+    let mut numbers = [0u32; 131072];
+    let count = read_numbers(text, &mut numbers);
+    replay_data(&numbers[0..count])
 }
 
 fn main() {
-    let mut text = [0u8; 655360];
-    let total = replay_input(&mut text);
+    let mut text = [0u8; 327680];
+    let n = io::read_full(0, &mut text);
+    let total = replay_text(&text[..n]);
     print_part(b"passed ", total.passed);
     print_part(b" failed ", total.failed);
     io::write_all(1, b"\n");

@@ -1,4 +1,3 @@
-pub mod Counts
 pub mod Ground
 pub mod Keep
 pub mod State

@@ -1,7 +1,5 @@
 // What the search goes by and what it carries along, as structs by value beside the lent slices. (Rust: the arguments and the locals of
 // find_junction_best_haplotypes)
-ghost use Rattle.std.specs.Prelude.{◌≡◌, max};
-ghost use Rattle.search_state.specs.Counts.{Countable, pushed_once};
 
 // The sizes of the tables, the sink, the far end of the symbolic edge, the least total that reaches the threshold, and the caller's numbers.
 #[derive(Drop)]
@@ -36,30 +34,4 @@ pub struct Progress {
 pub enum Step {
     On(Progress),
     Refused(u32),
-}
-
-fn larger(a: usize, b: usize) -> usize
-    ensures { result ≡ max a b }
-{
-    if a < b {
-        return b;
-    }
-    a
-}
-
-// A path has been pushed: it waits too, the push counts, and the waiting mark is the greatest number that wait after any push.
-pub fn pushed(p: Progress) -> Progress
-    requires { Countable p }
-    ensures { result ≡ pushed_once p }
-{
-    let waiting = p.waiting + 1;
-    Progress {
-        records: p.records,
-        waiting: waiting,
-        closed: p.closed,
-        next: p.next,
-        pivotal: p.pivotal,
-        pushes: p.pushes + 1,
-        mark: larger(p.mark, waiting),
-    }
 }

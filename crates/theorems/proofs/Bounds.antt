@@ -1,4 +1,4 @@
--- What an accepted answer stays within: rows, edges of a path, pushes, and the waiting mark.
+-- What an accepted answer stays within: rows, edges of a path, pushes, and the longest waiting list.
 use mathlib.Core.Path.{◌≡◌, refl, ap, ◌∙◌}
 use mathlib.Core.Logic.{inl, inr}
 use Prim.Native.Nat.{ℕ, suc, ◌+◌, ◌≤◌, ◌<◌}
@@ -29,7 +29,7 @@ pub record Counted {S : Type 0} (asked limit : ℕ) (s : State S) : Type 0 where
   pub closed : length s.closed ≤ asked
 
 module _ {S : Type 0} {𝓢 : Scoring S} {Fine : S → Type 0} (K : Keeps 𝓢 Fine) (f : SearchInput) (asked limit : ℕ) where
-  pub push-counted : (p : Path S) (s : State S) → s.pushes < limit → GoodState Fine f s × Counted asked limit s → Good Fine f p → GoodState Fine f (push 𝓢 p s) × Counted asked limit (push 𝓢 p s)
+  push-counted : (p : Path S) (s : State S) → s.pushes < limit → GoodState Fine f s × Counted asked limit s → Good Fine f p → GoodState Fine f (push 𝓢 p s) × Counted asked limit (push 𝓢 p s)
   unfolding push
   push-counted p s h (g, c) gp =
       let l : length (wait 𝓢 p s.waiting) ≡ suc (length s.waiting) = length-wait 𝓢 p s.waiting in
@@ -39,7 +39,7 @@ module _ {S : Type 0} {𝓢 : Scoring S} {Fine : S → Type 0} (K : Keeps 𝓢 F
         record { waiting = omega arith; longest = omega arith; pushes = omega arith; closed = c.closed },
       )
 
-  pub made_counted : (s s₁ : State S) (ps : List (Path S)) → length s.closed < asked → GoodState Fine f s × Counted asked limit s
+  made_counted : (s s₁ : State S) (ps : List (Path S)) → length s.closed < asked → GoodState Fine f s × Counted asked limit s
       → advance 𝓢 f s s.waiting s.pivotal ≡ made s₁ ps → (GoodState Fine f s₁ × Counted asked limit s₁) × All (Good Fine f) ps
   made_counted s s₁ ps k (g, c) e =
       let r = advance-made K f s s₁ s.waiting s.pivotal ps refl refl g e in
@@ -62,12 +62,12 @@ module _ {S : Type 0} {𝓢 : Scoring S} {Fine : S → Type 0} (K : Keeps 𝓢 F
 
 -- ---- the answer
 
--- No more rows than paths asked, no more edges in a row than the maximum, no more pushes than the maximum, and the waiting mark no more than the pushes.
-pub record Bounded {S : Type 0} (i : Input) (rows : List (Row S)) (pushes mark : ℕ) : Type 0 where
+-- No more rows than paths asked, no more edges in a row than the maximum, no more pushes than the maximum, and the waiting list never longer than the pushes.
+pub record Bounded {S : Type 0} (i : Input) (rows : List (Row S)) (pushes longest : ℕ) : Type 0 where
   pub rows_fit : length rows ≤ i.asked
   pub edges_fit : All (λ r. r.edges ≤ i.search_maxima.path_edges) rows
   pub pushes-fit : pushes ≤ i.search_maxima.pushes
-  pub mark-fit : mark ≤ pushes
+  pub waiting-fit : longest ≤ pushes
 
 short-rows : {S : Type 0} {Fine : S → Type 0} (i : Input) (b : Built) (s : State S) → GoodState Fine (search_input i b) s
     → All (λ r. r.edges ≤ i.search_maxima.path_edges) (map (row_of b) s.closed)
@@ -78,7 +78,7 @@ pub bounded-listing : {S : Type 0} {𝓢 : Scoring S} {Fine : S → Type 0} → 
     → Listing 𝓢 i rows p q → Bounded i rows p q
 unfolding list_order
 bounded-listing K i rows p q one (inl h) =
-    record { rows_fit = rw h.1 (omega arith); edges_fit = rw h.1 nil; pushes-fit = rw h.2 (omega arith); mark-fit = rw h.3 (omega arith) }
+    record { rows_fit = rw h.1 (omega arith); edges_fit = rw h.1 nil; pushes-fit = rw h.2 (omega arith); waiting-fit = rw h.3 (omega arith) }
 bounded-listing {𝓢 = 𝓢} K i rows p q one (inr h) =
     let n : Counted i.asked i.search_maxima.pushes h.state = search-counted K (search_input i h.graph) i.asked i.search_maxima.pushes i.recovery h.state one h.reached in
     let l : length rows ≡ length h.state.closed =
@@ -87,5 +87,5 @@ bounded-listing {𝓢 = 𝓢} K i rows p q one (inr h) =
       rows_fit = rw l n.closed;
       edges_fit = rw h.are (all_listed 𝓢 (short-rows i h.graph h.state (found-good K h).0));
       pushes-fit = rw h.pushes-are n.pushes;
-      mark-fit = rw (h.pushes-are, h.mark-is) n.longest;
+      waiting-fit = rw (h.pushes-are, h.longest-is) n.longest;
     }

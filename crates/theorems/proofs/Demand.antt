@@ -74,7 +74,7 @@ module _ (i : Input) (told lent : List ℕ) (rows : List (Row Float)) (p q : ℕ
   pub no_nan : All (λ r. is_nan r.score ≡ false) rows
   no_nan = let a = accepted i told lent rows p q t in fine-listing (column-keeps i.column a.0.column_fits) a.1
 
-  -- Rows, edges of a path, pushes and the waiting mark stay within what was asked and allowed.
+  -- Rows, edges of a path, pushes and the longest waiting list stay within what was asked and allowed.
   pub within-bounds : Bounded i rows p q
   within-bounds =
       let a = accepted i told lent rows p q t in

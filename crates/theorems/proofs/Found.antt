@@ -22,7 +22,7 @@ use Rattle.theorems.proofs.Walks.{GoodState, Numbered}
 use Rattle.theorems.proofs.Turns.{last_of, numbered-above, search-reached, search-fewer}
 
 -- the graph that was built, the state that the search came to, and the rows made of it
-pub record Found {S : Type 0} (𝓢 : Scoring S) (i : Input) (rows : List (Row S)) (pushes mark : ℕ) : Type 0 where
+pub record Found {S : Type 0} (𝓢 : Scoring S) (i : Input) (rows : List (Row S)) (pushes longest : ℕ) : Type 0 where
   pub some-asked : eqb i.asked 0 ≡ false
   pub graph : Built
   pub is-built : built i.sample i.graph_maxima ≡ ok graph
@@ -30,11 +30,11 @@ pub record Found {S : Type 0} (𝓢 : Scoring S) (i : Input) (rows : List (Row S
   pub reached : last_of (search 𝓢 (search_input i graph) i.asked i.search_maxima.pushes i.recovery) ≡ some state
   pub are : rows ≡ list_order 𝓢 (map (row_of graph) state.closed)
   pub pushes-are : pushes ≡ state.pushes
-  pub mark-is : mark ≡ state.longest
+  pub longest-is : longest ≡ state.longest
 
 -- no path was asked, or a search was made
 abbrev pub Listing : {S : Type 0} → Scoring S → Input → List (Row S) → ℕ → ℕ → Type 0
-Listing 𝓢 i rows pushes mark = ((i.asked ≡ 0) × (rows ≡ []) × (pushes ≡ 0) × (mark ≡ 0)) ⊎ Found 𝓢 i rows pushes mark
+Listing 𝓢 i rows pushes longest = ((i.asked ≡ 0) × (rows ≡ []) × (pushes ≡ 0) × (longest ≡ 0)) ⊎ Found 𝓢 i rows pushes longest
 
 pub refusal-listed : {S A : Type 0} {n : ℕ} {rows : List (Row S)} {p q : ℕ} → refusal n ≡ listed rows p q → A
 refusal-listed e = let z : ◌≡◌ {A = ℕ} 0 1 = cc in absurd (omega arith)
@@ -45,8 +45,8 @@ listed-rows e = cc
 listed-pushes : {S : Type 0} {xs ys : List (Row S)} {p q p' q' : ℕ} → listed xs p q ≡ listed ys p' q' → p ≡ p'
 listed-pushes e = cc
 
-listed-mark : {S : Type 0} {xs ys : List (Row S)} {p q p' q' : ℕ} → listed xs p q ≡ listed ys p' q' → q ≡ q'
-listed-mark e = cc
+listed-longest : {S : Type 0} {xs ys : List (Row S)} {p q p' q' : ℕ} → listed xs p q ≡ listed ys p' q' → q ≡ q'
+listed-longest e = cc
 
 module _ {S : Type 0} (𝓢 : Scoring S) (i : Input) (rows : List (Row S)) (p q : ℕ) where
   state-found : (b : Built) (s : State S) → built i.sample i.graph_maxima ≡ ok b → eqb i.asked 0 ≡ false
@@ -61,7 +61,7 @@ module _ {S : Type 0} (𝓢 : Scoring S) (i : Input) (rows : List (Row S)) (p q 
         reached = e;
         are = sym (listed-rows h);
         pushes-are = sym (listed-pushes h);
-        mark-is = sym (listed-mark h);
+        longest-is = sym (listed-longest h);
       }
 
   search-found : (b : Built) → built i.sample i.graph_maxima ≡ ok b → eqb i.asked 0 ≡ false → (u : Turn S)
@@ -80,7 +80,7 @@ module _ {S : Type 0} (𝓢 : Scoring S) (i : Input) (rows : List (Row S)) (p q 
       asked : (z : Bool) → eqb i.asked 0 ≡ z → Listing 𝓢 i rows p q
       asked true u =
           let e : listed [] 0 0 ≡ listed rows p q = rw (u, after_build) at h in
-          inl (eqb-true i.asked 0 u, sym (listed-rows e), sym (listed-pushes e), sym (listed-mark e))
+          inl (eqb-true i.asked 0 u, sym (listed-rows e), sym (listed-pushes e), sym (listed-longest e))
       asked false u = inr (search-found b eb u (search 𝓢 (search_input i b) i.asked i.search_maxima.pushes i.recovery) refl (rw (u, after_build) at h))
 
   pub listing : after_build 𝓢 i (built i.sample i.graph_maxima) ≡ listed rows p q → Listing 𝓢 i rows p q

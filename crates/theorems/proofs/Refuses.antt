@@ -40,7 +40,7 @@ OnlyTurn P (full s ps) = Unit {0}
 
 abbrev pub OnlyAnswer : (ℕ → Type 0) → {S : Type 0} → Answer S → Type 0
 OnlyAnswer P (refusal n) = P n
-OnlyAnswer P (listed rs pushes mark) = Unit {0}
+OnlyAnswer P (listed rs pushes longest) = Unit {0}
 
 module _ (P : ℕ → Type 0) where
   then-only : {A B : Type 0} (r : Result A) (g : A → Result B) → Only P r → ((a : A) → Only P (g a)) → Only P (and_then r g)

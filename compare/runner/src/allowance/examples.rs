@@ -76,6 +76,6 @@ impl Example {
         let search = SearchMaxima { path_edges: self.path_edges, ..SearchMaxima::FULL };
         let input = ListInput { paths: 128, threshold: 1000, recover: self.recover, graph: GraphMaxima::FULL, search, column };
         let name = format!("passes {}", self.passes.text);
-        Case { name, sample, input, pushes: Some(self.pushes), mark: None, refusal: self.refused.then_some(11), passes: Some((self.passes, true)) }
+        Case { name, sample, input, pushes: Some(self.pushes), longest: None, refusal: self.refused.then_some(11), passes: Some((self.passes, true)) }
     }
 }

@@ -37,8 +37,8 @@ struct Case {
     /// With the greatest maximum of pushes.
     input: ListInput,
     pushes: Option<u32>,
-    /// The waiting mark.
-    mark: Option<u32>,
+    /// The longest waiting list.
+    longest: Option<u32>,
     refusal: Option<Refusal>,
     /// A smaller formula, and whether the pushes pass it.
     passes: Option<(Formula, bool)>,
@@ -87,7 +87,7 @@ fn row_of_bubbles(bubbles: u32, ending: Ending) -> Case {
         sample: bubbles::sample(bubbles, ending),
         input,
         pushes: Some(bubbles::pushes(bubbles)),
-        mark: Some(bubbles + 1),
+        longest: Some(bubbles + 1),
         refusal: None,
         passes: Some((examples::LINEAR, bubbles >= PASSING_BUBBLES)),
     }
@@ -117,9 +117,9 @@ fn sufficient(effort: &Effort, path_edges: u32) -> u128 {
 }
 
 fn as_known(case: &Case, effort: &Effort) -> Result<(), String> {
-    let known = (case.pushes.unwrap_or(effort.pushes), case.mark.unwrap_or(effort.mark));
-    let found = (effort.pushes, effort.mark);
-    require(found == known, || format!("pushes and waiting mark {found:?}, expected {known:?}"))?;
+    let known = (case.pushes.unwrap_or(effort.pushes), case.longest.unwrap_or(effort.longest));
+    let found = (effort.pushes, effort.longest);
+    require(found == known, || format!("pushes and longest waiting list {found:?}, expected {known:?}"))?;
     require(effort.refusal == case.refusal, || format!("refused {:?}, expected {:?}", effort.refusal, case.refusal))?;
     let Some((smaller, passes)) = case.passes else { return Ok(()) };
     let path_edges = case.input.search.path_edges.into();
@@ -160,14 +160,14 @@ fn require(holds: bool, why: impl FnOnce() -> String) -> Result<(), String> {
 
 /// A row for docs/ALLOWANCE.md. The path-edge maximum just large enough is the longest path, unless a path is refused.
 fn print_row(name: &str, effort: &Effort, path_edges: u32) {
-    let Effort { vertices, edges, nodes, pushes, mark, closed, .. } = effort;
+    let Effort { vertices, edges, nodes, pushes, longest, closed, .. } = effort;
     let least = effort.path_edges.max(1);
     let (least, of_least, ended) = match effort.refusal {
         None => (least.to_string(), number(effort, least), format!("list of {closed}")),
         Some(refusal) => ("-".into(), "-".into(), refusal.to_string()),
     };
     let of_maximum = number(effort, path_edges);
-    println!("| {name} | {vertices} | {edges} | {nodes} | {least} | {of_least} | {path_edges} | {of_maximum} | {pushes} | {mark} | {ended} |");
+    println!("| {name} | {vertices} | {edges} | {nodes} | {least} | {of_least} | {path_edges} | {of_maximum} | {pushes} | {longest} | {ended} |");
 }
 
 /// The formula, as a power of ten from 10^9 on.

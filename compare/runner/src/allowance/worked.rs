@@ -39,11 +39,11 @@ fn worked(&(number, reference, reads, threshold, recover, pushes): &Worked) -> C
     }
     let search = SearchMaxima { path_edges: 128, ..SearchMaxima::FULL };
     let input = ListInput { paths: 5, threshold, recover, graph: GraphMaxima::FULL, search, column: vec![0.0, 0.0, 1.0, 1.5, 2.0] };
-    Case { name: format!("case {number}"), sample, input, pushes: Some(pushes), mark: None, refusal: None, passes: None }
+    Case { name: format!("case {number}"), sample, input, pushes: Some(pushes), longest: None, refusal: None, passes: None }
 }
 
 fn timed(input: inputs::Input) -> Case {
     let inputs::Input { name, sample, paths, threshold, recover } = input;
     let settings = ListInput { paths, threshold, recover, graph: GraphMaxima::FULL, search: SearchMaxima::FULL, column: log10_column(65536) };
-    Case { name: format!("bench {name}"), sample, input: settings, pushes: None, mark: None, refusal: None, passes: None }
+    Case { name: format!("bench {name}"), sample, input: settings, pushes: None, longest: None, refusal: None, passes: None }
 }

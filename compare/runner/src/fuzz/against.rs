@@ -117,7 +117,7 @@ fn same_list(model: &Listed, told: &Told) -> Result<(), String> {
     equal("a place is missing", &false, &told.place_missing)?;
     equal("the list", &ours, &theirs)?;
     equal("pushes", &(model.pushes as usize), &told.pushes)?;
-    equal("the waiting mark", &(model.mark as usize), &told.longest)
+    equal("longest", &(model.longest as usize), &told.longest)
 }
 
 /// Each edge's origin is the first place, in the reference and then in the reads, where its k+1 bytes stand within a usable stretch.

@@ -25,8 +25,12 @@ fn path(row: Row) -> PathWritten {
 
 pub fn check_list(caller: &mut Caller, sample: &Sample, input: &ListInput, expected: &Outcome<ListWritten>) -> Checked<()> {
     let found = caller.list(&list_settings(sample, input), &borrowed(sample), &input.column);
-    let found = found.map(|list| ListWritten { rows: list.rows().map(path).collect(), pushes: list.pushes(), mark: list.waiting_mark() });
-    same("list", found.map_err(|refusal| refusal.number()), expected.clone())
+    if let (Ok(list), Ok(written)) = (&found, expected) {
+        let mark = (written.longest..=written.pushes).contains(&list.waiting_mark());
+        require(mark, || format!("list, safe: the waiting mark is {}", list.waiting_mark()))?;
+    }
+    let found = found.map(|list| (list.rows().map(path).collect::<Vec<_>>(), list.pushes())).map_err(|refusal| refusal.number());
+    same("list", found, expected.clone().map(|written| (written.rows, written.pushes)))
 }
 
 pub fn check_origin(sample: &Sample, (sequence, place): (u32, u32), expected: Outcome<&[u8]>) -> Checked<()> {

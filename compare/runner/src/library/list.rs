@@ -38,7 +38,7 @@ pub fn check_list(sample: &Sample, input: &ListInput, lend: Lend, expected: &Out
     let handed = SampleBuffers::new(&borrowed(sample), lend.seed);
     let column = Lent::holding(&input.column, lend.seed);
     let mut buffers = ListBuffers::new(lent, lent_work, lent_active, lent_scores, lend.seed);
-    let none = ListWritten { rows: Vec::new(), pushes: 0, mark: 0 };
+    let none = ListWritten { rows: Vec::new(), pushes: 0, longest: 0 };
     let (refusal, written) = match expected {
         Ok(written) => (0, written),
         Err(number) => (*number, &none),
@@ -46,9 +46,10 @@ pub fn check_list(sample: &Sample, input: &ListInput, lend: Lend, expected: &Out
     let stride = input.search.path_edges as usize;
     let mut call_and_check = || {
         let answer = buffers.call(&settings, handed.sample(), column.slice());
-        let fields = (answer.refusal, answer.paths, answer.pushes, answer.mark);
-        let wanted = (refusal, written.rows.len() as u32, written.pushes, written.mark);
-        require(fields == wanted, || format!("found {answer:?}, expected {wanted:?}"))?;
+        let fields = (answer.refusal, answer.paths, answer.pushes);
+        let wanted = (refusal, written.rows.len() as u32, written.pushes);
+        let mark = (written.longest..=written.pushes).contains(&answer.mark);
+        require(fields == wanted && mark, || format!("found {answer:?}, expected {wanted:?}, mark from {}", written.longest))?;
         check_path_rows(&buffers.rows, &written.rows)?;
         check_strided(&buffers.bases, sample.k as usize + stride, &written.rows, |row| row.bases.clone(), "bases")?;
         check_strided(&buffers.sequences, stride, &written.rows, |row| row.origins.iter().map(|o| o.0).collect(), "sequences")?;

@@ -252,13 +252,13 @@ fn list_answer(lines: &mut Lines, rows_before: &mut Vec<PathWritten>) -> Parsed<
     if rows_before.len() != settings.number::<usize>("paths")? {
         return Err("rows are missing".into());
     }
-    Ok(Ok(ListWritten { rows: rows_before.clone(), pushes: settings.number("pushes")?, mark: settings.number("longest")? }))
+    Ok(Ok(ListWritten { rows: rows_before.clone(), pushes: settings.number("pushes")?, longest: settings.number("longest")? }))
 }
 
-/// `scorebits closing edges flag bases`, and the line of its origins. The flag told is that of request a of document 02, which has not landed: here all are false.
+/// `scorebits closing edges flag bases`, and the line of its origins.
 fn path_row(row: &str, lines: &mut Lines) -> Parsed<PathWritten> {
     let words: Vec<&str> = row.split(' ').collect();
-    let &[score, closing, edges, "0" | "1", bases] = &words[..] else { return Err(format!("a path row: {row}")) };
+    let &[score, closing, edges, flag, bases] = &words[..] else { return Err(format!("a path row: {row}")) };
     let mut origins = Vec::new();
     for run in text_of(lines.take_after("o ").ok_or("no origins")?).split(' ').filter(|w| *w != "-") {
         let (sequence, rest) = run.split_once(':').ok_or("an origin")?;
@@ -270,7 +270,7 @@ fn path_row(row: &str, lines: &mut Lines) -> Parsed<PathWritten> {
         return Err("origins are missing".into());
     }
     let score = u64::from_str_radix(score, 16).map_err(|e| e.to_string())?;
-    Ok(PathWritten { score, closing: number(closing)?, is_ref: false, bases: bases.as_bytes().to_vec(), origins })
+    Ok(PathWritten { score, closing: number(closing)?, is_ref: flag == "1", bases: bases.as_bytes().to_vec(), origins })
 }
 
 fn column_of(words: &[&str]) -> Parsed<Column> {
