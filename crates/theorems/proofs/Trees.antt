@@ -136,6 +136,7 @@ growth-orderly p e t h =
 -- ---- the table of trees, where the tree at v changes by f, which keeps the vertex
 
 stands_after : (n v : ℕ) {ts : List Tree} → All (λ (u : Tree). n < u.vertex) ts → Stands v ts → n < v
+stands_after n v nil m = elim m [ ]
 stands_after n v (cons h a) (first e) = omega arith
 stands_after n v (cons h a) (later m) = stands_after n v a m
 
@@ -173,6 +174,7 @@ module _ (v : ℕ) (f : Tree → Tree) (keeps : (t : Tree) → t.vertex ≡ v �
   -- a tree that is there stays
   at-stands : (w : ℕ) (ts : List Tree) → Stands w ts → Stands w (at_tree v f ts)
   unfolding at_tree
+  at-stands w [] m = elim m [ ]
   at-stands w (t ∷ ts) m = go (compare v t.vertex) refl m (λ k. at-stands w ts k)
     where
       go : (o : Ordering) → compare v t.vertex ≡ o → Stands w (t ∷ ts) → (Stands w ts → Stands w (at_tree v f ts)) → Stands w (at_tree v f (t ∷ ts))
@@ -207,6 +209,7 @@ module _ (v : ℕ) (f : Tree → Tree) (keeps : (t : Tree) → t.vertex ≡ v �
   -- the same where the tree at v is there, so that no new one is made
   at-all-there : {P : Tree → Type 0} (ts : List Tree) → ((t : Tree) → P t → P (f t)) → Stands v ts → TreesRise ts → All P ts → All P (at_tree v f ts)
   unfolding at_tree
+  at-all-there {P} [] k m r a = elim m [ ]
   at-all-there {P} (t ∷ ts) k m r a = go (compare v t.vertex) refl m (λ h. at-all-there ts k h r.1 (all_tail a))
     where
       go : (o : Ordering) → compare v t.vertex ≡ o → Stands v (t ∷ ts) → (Stands v ts → All P (at_tree v f ts)) → All P (at_tree v f (t ∷ ts))

@@ -282,7 +282,7 @@ pivotal-has es (suc n) (q ∷ qs) visited = all_append (some_of (ltb 1 (length o
     some_of false = nil
 
 start-good : {S : Type 0} {𝓢 : Scoring S} {Fine : S → Type 0} → Keeps 𝓢 Fine → (f : SearchInput) → Good Fine f (record { edges = []; score = 𝓢.start; active = []; visited = []; since = 0 })
-start-good K f = record { linked = tt; fine = K.start_Fine; short = omega arith; few = omega arith; alive = nil }
+start-good K f = record { linked = tt; fine = K.start_fine; short = omega arith; few = omega arith; alive = nil }
 
 pub first_good : {S : Type 0} {𝓢 : Scoring S} {Fine : S → Type 0} → Keeps 𝓢 Fine → (f : SearchInput) (recovery : Bool)
     → GoodState Fine f (first_state 𝓢 (elim recovery as (λ _. List Ends) [ true ↦ pivotal_edges f | false ↦ [] ]))

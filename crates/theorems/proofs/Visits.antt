@@ -193,11 +193,13 @@ led-number g v y n h e = ap (number_of g.kmers) (sym e) ∙ unlike-number g.kmer
 
 led-over : (g : Graph) (v : ℕ) (ys : List (List ℕ)) → Unlike g.kmers → Led g v ys → OverEdges g.edges (v ∷ map (number_of g.kmers) ys)
 led-over g v [] n w = tt
-led-over g v (y ∷ ys) n w = rw (led-number g w.0 y n w.1 w.2) (w.3, led-over g w.0 ys n w.4)
+led-over g v (y ∷ ys) n w =
+    subst (λ (u : ℕ). OverEdges g.edges (v ∷ u ∷ map (number_of g.kmers) ys)) (sym (led-number g w.0 y n w.1 w.2)) (w.3, led-over g w.0 ys n w.4)
 
 walked-over : (g : Graph) (xs : List (List ℕ)) → Unlike g.kmers → Walked g xs → OverEdges g.edges (map (number_of g.kmers) xs)
 walked-over g [] n w = tt
-walked-over g (x ∷ xs) n w = rw (led-number g w.0 x n w.1 w.2) (led-over g w.0 xs n w.3)
+walked-over g (x ∷ xs) n w =
+    subst (λ (u : ℕ). OverEdges g.edges (u ∷ map (number_of g.kmers) xs)) (sym (led-number g w.0 x n w.1 w.2)) (led-over g w.0 xs n w.3)
 
 -- every read stretch is walked in the graph before the symbolic edge
 stretches-walked : (i : Sample) → 1 ≤ i.k → All (λ r. Walked (threaded i) (kmers i.k r.bytes)) (stretches i)
