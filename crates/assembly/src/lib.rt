@@ -2,6 +2,8 @@
 // vertices, 12 numbers each: 0 to 7 the out-edges, by the code b / 2 % 8 of the base b that the target ends in (A 0, C 1, T 2, G 3, N 7), each an
 // edge's number plus 1, or 0; 8 the kmer's place; 9 how many edges enter; 10 one of those, plus 1; 11 for the slot of its tree's root, written by the evidence walk. Slot 4, which no base has, is for the symbolic edge.
 // edges, in the order of birth, 6 numbers each: from, to, support, mark, the origin's sequence and place.
+#![tactic(auto)]
+
 ghost use Rattle.std.specs.Prelude.{◌≡◌, ◌+◌, ◌^◌, ◌<◌};
 ghost use Rattle.assembly.specs.Fields.{HasVertex, out_edge, kmer_place, incoming_count, incoming_edge, HasEdge, edge_from, edge_to, edge_support, edge_sequence, edge_place};
 ghost use Rattle.assembly.specs.Store.{edge_at};

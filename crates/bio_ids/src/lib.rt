@@ -1,4 +1,6 @@
 // The kmer size of `bio_ids.rs`, and document 01's limit on it.
+#![tactic(auto)]
+
 ghost use Rattle.std.specs.Prelude.{◌≡◌};
 ghost use Rattle.definition.specs.Refusal.{first_broken};
 ghost use Rattle.bio_ids.specs.Sizes.{size_of, tried_refusal, at_least_two, k_rules};

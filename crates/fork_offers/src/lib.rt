@@ -1,5 +1,7 @@
 // What a fork offers a path, over the stores. An active tree of a path is a slot of the node table, and its branches are the children of that slot.
 // (Rust: JtPath, junction_kbest.rs)
+#![tactic(auto)]
+
 ghost use Rattle.std.specs.Prelude.{◌≡◌, ◌+◌, ◌-◌, ◌*◌, ◌^◌, ◌<◌, ◌≤◌, length, get_or, [], ◌∷◌};
 ghost use Rattle.definition.specs.Threading.{eq_ends, leaving};
 ghost use Rattle.assembly.specs.Fields.{HasEdge};

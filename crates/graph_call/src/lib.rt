@@ -1,4 +1,6 @@
 // The call for edges and trees: checks, build, trees, the rows, and clearing.
+#![tactic(auto)]
+
 ghost use Rattle.std.specs.Prelude.{◌≡◌, true, ℕ, ◌≤◌};
 ghost use Rattle.definition.specs.Refusal.{first_broken};
 ghost use Rattle.definition.specs.Limits.{is_long_enough, graph_maxima_fit, graph_rules};

@@ -1,5 +1,7 @@
 // The kmers of the graph as bytes of the text, the reference with the read bases after it: how one is found, and the bases of a path.
 // index, by which a kmer is found: its first half holds for each bucket the last vertex of it, its second half for each vertex the last before it of its bucket; each a vertex's number plus 1, or 0.
+#![tactic(auto)]
+
 ghost use Rattle.std.specs.Prelude.{◌≡◌, ◌++◌, ◌+◌, ◌^◌, ◌<◌, ◌≤◌, length, get_or, take};
 ghost use Rattle.std.proofs.Math.Seq.{paste};
 ghost use Rattle.laws.specs.Numbers.{eq_list};

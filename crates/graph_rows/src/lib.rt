@@ -1,4 +1,6 @@
 // The rows of the edges, straight into the slice that the caller lent; and the clearing of workspace.
+#![tactic(auto)]
+
 ghost use Rattle.std.specs.Prelude.{◌≡◌, not, cond, ◌+◌, ◌*◌, ◌≤◌, eqb, length, replicate};
 ghost use Rattle.laws.specs.Records.{put_from};
 ghost use Rattle.definition.specs.Calls.{written_at, flat, edge_row};

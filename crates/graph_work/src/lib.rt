@@ -1,4 +1,6 @@
 // The graph and its trees, over tables of just the lengths told: the work that the call for edges and trees and the call for the list both begin with.
+#![tactic(auto)]
+
 ghost use Rattle.std.specs.Prelude.{◌≡◌};
 ghost use Rattle.limits.specs.Handed.{sample_of, graph_maxima_of};
 ghost use Rattle.graph_work.specs.Clear.{Cleared};

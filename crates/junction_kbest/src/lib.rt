@@ -1,4 +1,6 @@
 // Best-path search over a built graph with its trees. (Rust: junction_kbest.rs)
+#![tactic(auto)]
+
 ghost use Rattle.std.specs.Prelude.{◌≡◌};
 ghost use Rattle.junction_kbest.specs.Extend.{ExtendsTaken, TakenExtended};
 ghost use Rattle.junction_kbest.specs.Take.{TakesPath, PathTaken};

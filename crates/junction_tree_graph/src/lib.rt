@@ -1,4 +1,6 @@
 // The graph of a sample: the reference is threaded first, then the reads; the symbolic vertex and edge come last.
+#![tactic(auto)]
+
 ghost use Rattle.std.specs.Prelude.{◌≡◌, ◌++◌, ◌+◌, ◌*◌, length};
 ghost use Rattle.definition.specs.Threading.{threaded};
 ghost use Rattle.kmer_threading.specs.Indexes.{Keeps, Fresh};

@@ -1,6 +1,8 @@
 // Evidence: each read stretch longer than k is walked again over the graph as it was before the symbolic edge, and the walk counts in the trees that it
 // has opened. The trees and the active trees of a walk are the tables of `threading_tree`; the slot of a vertex's root is field 11 of its record, which
 // the graph does not use.
+#![tactic(auto)]
+
 ghost use Rattle.std.specs.Prelude.{◌≡◌, ◌++◌, ℕ, ◌+◌, ◌*◌, ◌^◌, ◌<◌, length, get_or};
 ghost use Rattle.laws.specs.Records.{field};
 ghost use Rattle.assembly.specs.Fields.{HasVertices, HasVertex, out_edge, tree_root, put_tree_root};

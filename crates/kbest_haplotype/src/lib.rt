@@ -1,4 +1,6 @@
 // The penalty of `kbest_haplotype.rs` over the lent logarithm column, whose place n holds log10 of n, and the limits on that column.
+#![tactic(auto)]
+
 ghost use Rattle.std.specs.Prelude.{◌≡◌, ◌&&◌, max, drop};
 ghost use Rattle.std.specs.Float.Ieee.{le};
 ghost use Rattle.definition.specs.Limits.{float_zero, sixteen, climbing, column_fits};

@@ -1,4 +1,6 @@
 // Threading, one kmer at a time: the vertex of a kmer, and the step to it from the vertex reached.
+#![tactic(auto)]
+
 ghost use Rattle.std.specs.Prelude.{◌≡◌, not, ◌++◌, ◌+◌, eqb};
 ghost use Rattle.definition.specs.Threading.{step};
 ghost use Rattle.assembly.specs.Kmers.{part};

@@ -1,1 +1,2 @@
 // Laws about lists, numbers and floats, for the crates above: specs/ only, no code.
+#![tactic(auto)]

@@ -1,4 +1,6 @@
 // Refusals 1 to 7 of document 01 in the table's order, and after which numbers the workspace is unchanged.
+#![tactic(auto)]
+
 ghost use Rattle.std.specs.Prelude.{◌≡◌, Bool, ◌&&◌, List, ℕ, ℤ, eqb, length};
 ghost use Rattle.laws.specs.Lists.{last_or};
 ghost use Rattle.laws.specs.Numbers.{within};

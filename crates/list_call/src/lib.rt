@@ -1,4 +1,6 @@
 // The call for the list, over number slices alone: checks, build, trees, search, the list in columns, and clearing.
+#![tactic(auto)]
+
 ghost use Rattle.std.specs.Prelude.{◌≡◌, ◌≤◌, length, replicate};
 ghost use Rattle.list_interface.specs.Handed.{input_for};
 ghost use Rattle.definition.specs.Calls.{written_at};

@@ -1,4 +1,6 @@
 // What the call for the list is asked, and what it answers.
+#![tactic(auto)]
+
 ghost use Rattle.std.specs.Prelude.{◌≡◌};
 ghost use Rattle.list_interface.specs.Answers.{refused_answer, found_answer, Told32};
 

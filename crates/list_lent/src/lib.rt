@@ -1,4 +1,6 @@
 // Refusals 1 to 7 of the call for the list: the rules in their order, and whether each slice lent is as long as told.
+#![tactic(auto)]
+
 ghost use Rattle.std.specs.Prelude.{◌≡◌};
 ghost use Rattle.definition.specs.Refusal.{first_broken};
 ghost use Rattle.definition.specs.Limits.{is_long_enough, list_rules};

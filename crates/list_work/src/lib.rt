@@ -1,4 +1,6 @@
 // The work of the call for the list: the graph, its trees, the search and the list in columns, over tables of just the lengths told.
+#![tactic(auto)]
+
 ghost use Rattle.std.specs.Prelude.{◌≡◌};
 ghost use Rattle.list_work.specs.Outcome.{found, Listed, outputs_of, tables_of};
 ghost use Rattle.list_interface.specs.Handed.{input_for};

@@ -1,4 +1,6 @@
 // The call for the bytes at an origin, and the call beside it that tells the refusal's number.
+#![tactic(auto)]
+
 ghost use Rattle.std.specs.Prelude.{◌≡◌, ◌≤◌, length};
 ghost use Rattle.definition.specs.Calls.{origin_call};
 ghost use Rattle.origins.specs.Reads.{start_of};

@@ -1,4 +1,6 @@
 // The edges that leave a vertex, by the slots of the table of vertices: the next in rising target.
+#![tactic(auto)]
+
 ghost use Rattle.std.specs.Prelude.{ℕ, ◌<◌};
 ghost use Rattle.assembly.specs.Fields.{HasVertex, out_edge};
 ghost use Rattle.out_edges.specs.Outs.{Names, Lesser, Slots, Nexts};

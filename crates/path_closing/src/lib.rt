@@ -1,4 +1,6 @@
 // Two steps of a path that is taken, over the stores: the tree at its vertex joins it, and at the sink it may close. (Rust: junction_kbest.rs)
+#![tactic(auto)]
+
 ghost use Rattle.std.specs.Prelude.{◌≡◌, ◌+◌, ◌*◌, ◌<◌, length, set};
 ghost use Rattle.path_closing.specs.Joins.{Joins, TreeAdded, Rootable, Rooted};
 ghost use Rattle.path_closing.specs.ClosesTaken.{ClosesTaken, ClosingTaken};

@@ -1,4 +1,6 @@
 // Walks up the parents of a path: how often a vertex stands in it, and its edges in order.
+#![tactic(auto)]
+
 ghost use Rattle.std.specs.Prelude.{◌≡◌, true, ◌+◌, ◌-◌, ◌<◌, ◌≤◌, length, get_or, eqb};
 ghost use Rattle.std.proofs.lemmas.List.Edits.{sets};
 ghost use Rattle.path_store.specs.Walk.{hits, times};

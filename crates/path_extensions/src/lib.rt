@@ -1,4 +1,6 @@
 // The paths that a taken path is extended to, all made before any is pushed. (Rust: process_vertex, junction_kbest.rs)
+#![tactic(auto)]
+
 ghost use Rattle.std.specs.Prelude.{◌≡◌, List, ℕ, ◌+◌, ◌*◌, ◌<◌, ◌≤◌, length};
 ghost use Rattle.assembly.specs.Fields.{HasEdge, edge_field};
 ghost use Rattle.fork_offers.specs.Fields.{HasOffer};

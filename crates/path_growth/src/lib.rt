@@ -1,4 +1,6 @@
 // Paths are made: the start path, an extension, a closed path, a recovered path; and a tree joins a path that is taken.
+#![tactic(auto)]
+
 ghost use Rattle.std.specs.Prelude.{◌≡◌, ◌+◌, ◌-◌, ◌<◌, ◌≤◌, length};
 ghost use Rattle.path_store.specs.Walk.{after};
 ghost use Rattle.path_store.specs.Cells.{Inside, Stored, count_of, end_of};

@@ -1,4 +1,6 @@
 // The waiting paths: a binary heap of record numbers, by their scores.
+#![tactic(auto)]
+
 ghost use Rattle.std.specs.Prelude.{◌≡◌, ℕ, ◌+◌, ◌-◌, ◌*◌, ◌<◌, ◌≤◌, length};
 ghost use Rattle.laws.specs.Heaps.{above, nth, Child, Raisable, Raised, Sunk};
 ghost use Rattle.path_heap.specs.First.{Known, leads};

@@ -1,4 +1,6 @@
 // The steps of the search over the queue of waiting paths: paths are pushed, the first is taken, and where none waits a pivotal edge is tried.
+#![tactic(auto)]
+
 ghost use Rattle.std.specs.Prelude.{◌≡◌, ◌≤◌, max, length};
 ghost use Rattle.path_edges.specs.Path.{edges};
 ghost use Rattle.closed_paths.specs.Split.{split_at};

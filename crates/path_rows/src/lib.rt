@@ -1,4 +1,6 @@
 // The rows of the list, in the slice of records that a caller lends.
+#![tactic(auto)]
+
 ghost use Rattle.std.specs.Prelude.{◌≤◌, length};
 ghost use Rattle.path_rows.specs.Rows.{Filled};
 

@@ -1,3 +1,5 @@
 // The paths of the search, as parent-linked records in lent slices (JtPath), and the chains that they add.
+#![tactic(auto)]
+
 pub mod chains; // chains.rt: the chain of single edges after a vertex
 pub mod records; // records.rt: the record of a path, read from the slices and written to them

@@ -1,4 +1,6 @@
 // The program `paths`: a text on standard input, the column in a file, the list or a refusal on standard output.
+#![tactic(auto)]
+
 mod answer; // answer.rt: from what was read to what is printed
 
 ghost use Rattle.std.specs.Prelude.{◌≡◌, length};

@@ -1,4 +1,6 @@
 // What the program `paths` makes of its two inputs: the column, the text with 14 and 1 to 5, and what the call for the list is asked.
+#![tactic(auto)]
+
 ghost use Rattle.std.specs.Prelude.{◌≡◌, ◌≤◌, length};
 ghost use Rattle.definition.specs.Refusal.{first_broken};
 ghost use Rattle.definition.specs.Text.{Text, text_of, column_of, with, text_rules};

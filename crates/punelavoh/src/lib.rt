@@ -1,4 +1,6 @@
 // The public calls as they are exported: each is a call of a crate below, and the list's rows are copied into the lent slice of records.
+#![tactic(auto)]
+
 ghost use Rattle.definition.specs.Calls.{origin_call};
 ghost use Rattle.limits.specs.Handed.{sample_of, graph_maxima_of, search_maxima_of};
 ghost use Rattle.slice_lengths.specs.Lengths.{Told};

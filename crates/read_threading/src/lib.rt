@@ -1,4 +1,6 @@
 // Threading of the reads in order: of each its usable runs, one after the other, where they are long enough.
+#![tactic(auto)]
+
 ghost use Rattle.std.specs.Prelude.{◌++◌, ◌+◌, ◌*◌, length};
 ghost use Rattle.definition.specs.Threading.{thread_all};
 ghost use Rattle.assembly.specs.Store.{graph_of};

@@ -1,5 +1,6 @@
 // The numbers of document 01's table "What the calls return instead". Each has its name here, is told first by the crate that finds the fault, and is
 // passed up from there; `Refusal.returned` of the definition is the same table, with what the workspace is afterwards.
+#![tactic(auto)]
 
 // k outside limits
 pub const K: u32 = 1;

@@ -1,4 +1,6 @@
 // Replays answers of the oracle through the proved calls; vectors/README.md tells the form of the data.
+#![tactic(auto)]
+
 mod cases;
 mod lists;
 

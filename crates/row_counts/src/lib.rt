@@ -1,4 +1,6 @@
 // What the call for the list tells of its columns: how many rows they hold, and how much of them is to be zero.
+#![tactic(auto)]
+
 ghost use Rattle.std.specs.Prelude.{◌≡◌};
 ghost use Rattle.row_counts.specs.Told.{columns_told};
 

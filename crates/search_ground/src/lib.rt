@@ -1,5 +1,7 @@
 // What the search stands on. Where a vertex has no tree, is not the sink and one edge leaves it, a path goes on without a decision: the two tables here
 // tell that edge, and where an edge leads.
+#![tactic(auto)]
+
 ghost use Rattle.std.specs.Prelude.{length};
 ghost use Rattle.assembly.specs.Fields.{HasVertices, HasEdges};
 ghost use Rattle.pivotal_edges.specs.Walk.{Here, Linked};

@@ -1,4 +1,6 @@
 // What the search of the call for the list is set up with: the numbers that it goes by, and the tables of the chains.
+#![tactic(auto)]
+
 ghost use Rattle.search_setup.specs.Chains.{Chains, Chained, Small, SettingFor};
 
 use assembly::link_symbolic_edge;

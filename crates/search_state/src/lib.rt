@@ -1,5 +1,6 @@
 // What the search goes by and what it carries along, as structs by value beside the lent slices. (Rust: the arguments and the locals of
 // find_junction_best_haplotypes)
+#![tactic(auto)]
 
 // The sizes of the tables, the sink, the far end of the symbolic edge, the least total that reaches the threshold, and the caller's numbers.
 #[derive(Drop)]

@@ -1,4 +1,6 @@
 // Threading of one stretch: its start, with the counting backwards, then kmer after kmer.
+#![tactic(auto)]
+
 ghost use Rattle.std.specs.Prelude.{not, ◌++◌, ◌+◌, eqb};
 ghost use Rattle.definition.specs.Threading.{start_at, thread};
 ghost use Rattle.assembly.specs.Store.{graph_of};

@@ -1,4 +1,6 @@
 // How long each slice must be: the call for lengths, and the lengths that rule 7 compares with.
+#![tactic(auto)]
+
 ghost use Rattle.std.specs.Prelude.{◌≡◌, ◌≤◌, max};
 ghost use Rattle.definition.specs.Refusal.{first_broken};
 ghost use Rattle.definition.specs.Limits.{lengths_rules};

@@ -1,4 +1,5 @@
 // How many numbers a row of each table has. What the numbers of a row are is known to the crate that owns the table, and named there.
+#![tactic(auto)]
 
 // the rows that the call for edges and trees writes
 pub const EDGE_ROW: usize = 6;

@@ -1,1 +1,2 @@
 // What is proved of the definition: proofs/ only, no code.
+#![tactic(auto)]

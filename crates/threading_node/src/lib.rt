@@ -4,6 +4,7 @@
 // are the nodes in order of birth, at most `cap` of them, so the table has a row more than that. Slot 0 is no node: its children are the roots, each
 // with its vertex as both ends, so that they stand in vertex order. Siblings rise by their edges. The slot of a vertex's root is kept by the caller, with
 // the vertex, and is 0 where it has none.
+#![tactic(auto)]
 
 ghost use Rattle.std.specs.Prelude.{◌≡◌, ◌+◌, ◌*◌, ◌-◌, ◌^◌, ◌<◌, ◌≤◌, length};
 ghost use Rattle.laws.specs.Records.{field};

@@ -5,6 +5,7 @@
 // never more than nodes.
 //
 // Callers use the relation HeldWalk of specs/Held: the tables hold a walk of the definition.
+#![tactic(auto)]
 
 ghost use Rattle.std.specs.Prelude.{◌≡◌, ◌+◌, ◌*◌, ◌-◌, ◌^◌, ◌<◌, ◌≤◌, length, [], ◌∷◌};
 ghost use Rattle.laws.specs.Records.{field, put_from};

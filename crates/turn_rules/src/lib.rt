@@ -1,4 +1,6 @@
 // The rules of a turn that are told from numbers alone, and the number of a step that is refused.
+#![tactic(auto)]
+
 ghost use Rattle.std.specs.Prelude.{◌≡◌, cond, ◌≤◌, eqb, leb, ltb};
 ghost use Rattle.turn_rules.specs.Rules.{first_new};
 ghost use Rattle.turn_rules.specs.Answers.{extend_refusal, step_refusal};

@@ -1,4 +1,6 @@
 // The usable stretches of a read: which bytes are usable, and where a run of them ends.
+#![tactic(auto)]
+
 ghost use Rattle.std.specs.Prelude.{◌≡◌, ◌≤◌, length};
 ghost use Rattle.definition.specs.Limits.{is_base};
 ghost use Rattle.definition.specs.Stretch.{usable};

@@ -1,4 +1,6 @@
 // An input read whole into a lent slice: a read that fails is told from the end of the input.
+#![tactic(auto)]
+
 ghost use Rattle.std.specs.Prelude.{◌≡◌, ◌-◌, ◌≤◌, length};
 ghost use Rattle.libc.specs.Io.{Moved};
 ghost use Rattle.whole_input.specs.Readings.{turn_of, ended_at, TookWithin, Within};
