@@ -8,11 +8,11 @@ ghost use Rattle.bio_ids.specs.Sizes.{size_of, tried_refusal, at_least_two, k_ru
 use refusals::K;
 
 // The number of bases of a kmer, made by `try_new`.
-#[derive(Drop)]
+#[derive(Clone, Copy)]
 pub struct KmerSize(pub u16);
 
 // The answer of `try_new`.
-#[derive(Drop)]
+#[derive(Clone, Copy)]
 pub enum TriedKmerSize {
     Size(KmerSize),
     Refused(u32),

@@ -24,7 +24,7 @@ use threading_tree::write_nodes;
 
 // The answer of `graph`: a refusal, or how many rows of edges and of nodes were written.
 #[repr(C)]
-#[derive(Drop)]
+#[derive(Clone, Copy)]
 pub struct GraphAnswer {
     pub refusal: u32,
     pub edges: u32,
@@ -32,7 +32,7 @@ pub struct GraphAnswer {
 }
 
 // The lengths of the slices lent: for rows, and as workspace.
-#[derive(Drop)]
+#[derive(Clone, Copy)]
 pub struct GraphLent {
     pub edge_rows: usize,
     pub node_rows: usize,

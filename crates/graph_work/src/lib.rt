@@ -13,7 +13,7 @@ use kmer_threading::Most;
 use limits::GraphMaxima;
 
 // A graph with its trees in the tables: how many kmers, threaded edges and tree nodes, and which kmer is the sink.
-#[derive(Drop)]
+#[derive(Clone, Copy)]
 pub struct Raise {
     pub vertices: usize,
     pub edges: usize,
@@ -21,7 +21,7 @@ pub struct Raise {
     pub nodes: usize,
 }
 
-#[derive(Drop)]
+#[derive(Clone, Copy)]
 pub enum Raised {
     Graph(Raise),
     Refused(u32),

@@ -19,14 +19,14 @@ use search_state::{Progress, Setting, Step};
 use turn_rules::{all_closed, extend_refusal, first_new, is_dropped, step_refusal, too_many};
 
 // The answer of the search: how far it has come when it ends, or a refusal.
-#[derive(Drop)]
+#[derive(Clone, Copy)]
 pub enum Search {
     Paths(Progress),
     Refused(u32),
 }
 
 // What comes of a turn: the search goes on, it ends as it is, or a refusal.
-#[derive(Drop)]
+#[derive(Clone, Copy)]
 pub enum Turned {
     More(Progress),
     Ended,

@@ -15,14 +15,14 @@ use read_threading::thread_reads;
 use sequence_threading::thread_sequence;
 
 // A graph in the tables: how many kmers and threaded edges it has. The symbolic vertex has the next number, and the symbolic edge is the next row.
-#[derive(Drop)]
+#[derive(Clone, Copy)]
 pub struct Built {
     pub vertices: usize,
     pub edges: usize,
     pub sink: usize,
 }
 
-#[derive(Drop)]
+#[derive(Clone, Copy)]
 pub enum Answer {
     Done(Built),
     Refused(u32),

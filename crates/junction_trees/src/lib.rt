@@ -89,7 +89,7 @@ fn vertex_warrants_junction_tree(vertices: &[u32], outs: usize, to: usize) -> bo
 // ---- one walk
 
 // What a walk goes over: k, how many vertices and edges the graph has, its sink, and how many nodes there may be.
-#[derive(Drop)]
+#[derive(Clone, Copy)]
 pub struct Ground {
     pub k: usize,
     pub vertices: usize,
@@ -99,14 +99,14 @@ pub struct Ground {
 }
 
 // Where a walk stands: its vertex, how many nodes there are, and how many pairs of active trees.
-#[derive(Drop)]
+#[derive(Clone, Copy)]
 pub struct Way {
     pub here: usize,
     pub nodes: usize,
     pub groups: usize,
 }
 
-#[derive(Drop)]
+#[derive(Clone, Copy)]
 pub enum Walked {
     Next(Way),
     Refused(u32),
@@ -123,7 +123,7 @@ fn walked_refusal(r: Walked) -> u32
 }
 
 // The trees of all walks so far, as the number of their nodes.
-#[derive(Drop)]
+#[derive(Clone, Copy)]
 pub enum Evidence {
     Trees(usize),
     Refused(u32),

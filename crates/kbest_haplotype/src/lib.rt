@@ -10,7 +10,7 @@ ghost use Rattle.kbest_haplotype.specs.Penalties.{penalty_of, penalty_refusal, p
 use refusals::NO_PLACE;
 
 // The answer of `log_penalty`.
-#[derive(Drop)]
+#[derive(Clone, Copy)]
 pub enum Penalty {
     Of(f64),
     Refused(u32),

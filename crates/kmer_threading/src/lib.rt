@@ -12,14 +12,14 @@ use graph_kmers::{byte_at, enter_kmer, find_in_bucket, kmer_bucket};
 use refusals::GRAPH_SIZE;
 
 // The most vertices and edges: of the caller's maxima the symbolic vertex and edge count, of those that threading keeps to they do not.
-#[derive(Drop)]
+#[derive(Clone, Copy)]
 pub struct Most {
     pub vertices: usize,
     pub edges: usize,
 }
 
 // How much of the tables is used, the vertex reached, and a bound of the counts made: no support is above it, so that all fit.
-#[derive(Drop)]
+#[derive(Clone, Copy)]
 pub struct At {
     pub vertices: usize,
     pub edges: usize,
@@ -27,7 +27,7 @@ pub struct At {
     pub steps: usize,
 }
 
-#[derive(Drop)]
+#[derive(Clone, Copy)]
 pub enum Step {
     Next(At),
     Refused(u32),

@@ -5,7 +5,7 @@ ghost use Rattle.known_answers.specs.Places.{Within};
 use text_form::numbers::Decimal;
 
 // How far the text is read: the digits of a number so far, and how many numbers are behind it.
-#[derive(Drop)]
+#[derive(Clone, Copy)]
 pub struct Scan {
     pub value: u32,
     pub in_number: bool,
@@ -108,7 +108,7 @@ pub fn behind<'a>(numbers: &'a [u32], place: usize) -> &'a [u32] {
 }
 
 // Where the elements of a list stand.
-#[derive(Drop)]
+#[derive(Clone, Copy)]
 pub struct Part {
     pub start: usize,
     pub end: usize,

@@ -13,7 +13,7 @@ use refusals::{COLUMN, MAXIMUM, READS, REFERENCE_BYTE, REFERENCE_LENGTH, SHORT_S
 
 // The caller's maxima for the graph and its trees; the symbolic vertex and edge count, and so do the roots.
 #[repr(C)]
-#[derive(Drop)]
+#[derive(Clone, Copy)]
 pub struct GraphMaxima {
     pub vertices: u32,
     pub edges: u32,
@@ -22,7 +22,7 @@ pub struct GraphMaxima {
 
 // The caller's maxima for the search: edges in a path, active trees in a path, pushes.
 #[repr(C)]
-#[derive(Drop)]
+#[derive(Clone, Copy)]
 pub struct SearchMaxima {
     pub path_edges: u32,
     pub active: u32,

@@ -9,7 +9,7 @@ use search_state::Progress;
 
 // What a run is asked for: k, the minimum quality, the number of paths, the threshold, recovery, and the maxima.
 #[repr(C)]
-#[derive(Drop)]
+#[derive(Clone, Copy)]
 pub struct Settings {
     // the kmer size
     pub k: u32,
@@ -27,7 +27,7 @@ pub struct Settings {
 
 // The answer of the call for the list: a refusal, or how many paths are listed, the pushes made, and the waiting mark.
 #[repr(C)]
-#[derive(Drop)]
+#[derive(Clone, Copy)]
 pub struct ListAnswer {
     pub refusal: u32,
     pub paths: u32,

@@ -13,7 +13,7 @@ use refusals::SHORT_SLICE;
 use slice_lengths::{LengthsTold, Workspace, lengths_within};
 
 // The lengths of the slices lent.
-#[derive(Drop)]
+#[derive(Clone, Copy)]
 pub struct Lent {
     pub rows: usize,
     pub bases: usize,

@@ -9,13 +9,13 @@ ghost use Rattle.origins.specs.Parts.{origin, fitted, Located, Names};
 use refusals::ORIGIN;
 
 // A part of k + 1 bytes: of the read bases or else of the reference, and where it starts.
-#[derive(Drop)]
+#[derive(Clone, Copy)]
 pub struct Part {
     pub in_reads: bool,
     pub start: usize,
 }
 
-#[derive(Drop)]
+#[derive(Clone, Copy)]
 pub enum Found {
     At(Part),
     Refused(u32),
@@ -117,7 +117,7 @@ pub fn origin_refusal(
 
 // An origin's part for callers that take no slice back: start and length, in the read bases (1) or in the reference (0).
 #[repr(C)]
-#[derive(Drop)]
+#[derive(Clone, Copy)]
 pub struct OriginAnswer {
     pub refusal: u32,
     pub in_reads: u32,

@@ -27,7 +27,7 @@ use search_state::Setting;
 use tables::{EDGE, OFFER};
 
 // The number of the next free record once the extensions are made, or a refusal.
-#[derive(Drop)]
+#[derive(Clone, Copy)]
 pub enum Extended {
     Made(u32),
     Refused(u32),
@@ -35,7 +35,7 @@ pub enum Extended {
 
 // A way on from a taken path beyond its chain: the edge, the score of the extension, whether a tree offers the edge, and whether it is the only way on,
 // which costs no decision.
-#[derive(Drop)]
+#[derive(Clone, Copy)]
 struct Way {
     pub edge: u32,
     pub score: f64,

@@ -14,7 +14,7 @@ use path_store::records::{PathRecord, path_at, path_put};
 use refusals::PATH_SIZE;
 
 // The number of the path that was made, or a refusal.
-#[derive(Drop)]
+#[derive(Clone, Copy)]
 pub enum PathAnswer {
     Made(u32),
     Refused(u32),
@@ -31,7 +31,7 @@ pub fn path_refusal(r: PathAnswer) -> u32
 }
 
 // A taken path, the length of the chain after it, and the vertex that the chain leads to.
-#[derive(Drop)]
+#[derive(Clone, Copy)]
 pub struct Taken {
     pub path: u32,
     pub chain: u32,
@@ -39,7 +39,7 @@ pub struct Taken {
 }
 
 // What an extension adds beyond the chain: an edge; and what it comes to: its score, the decisions since guidance, the number of active trees.
-#[derive(Drop)]
+#[derive(Clone, Copy)]
 pub struct Extension {
     pub edge: u32,
     pub score: f64,
@@ -48,7 +48,7 @@ pub struct Extension {
 }
 
 // A front of a path's edges: those of the path with this number + 1, then a chain of this length.
-#[derive(Drop)]
+#[derive(Clone, Copy)]
 pub struct Cut {
     pub parent: u32,
     pub chain: u32,

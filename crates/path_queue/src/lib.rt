@@ -24,14 +24,14 @@ use refusals::PUSHES;
 use search_state::{Progress, Setting, Step};
 
 // The path that was taken, and how far the search is without it.
-#[derive(Drop)]
+#[derive(Clone, Copy)]
 pub struct Taking {
     pub path: u32,
     pub left: Progress,
 }
 
 // What came of the next pivotal edge: there is none, the search goes on, with a path more or without, or a refusal.
-#[derive(Drop)]
+#[derive(Clone, Copy)]
 pub enum Recovery {
     Ended,
     Made(Progress),

@@ -6,7 +6,7 @@ ghost use Rattle.path_rows.specs.Rows.{Filled};
 
 // A path of the list. `is_ref` is the Rust's reference flag, which is always false.
 #[repr(C)]
-#[derive(Drop)]
+#[derive(Clone, Copy)]
 pub struct PathRow {
     pub score: f64,
     // its closing number: paths are counted from 1 as they close

@@ -47,7 +47,7 @@ pub fn next(index: &[u32], targets: &[u32], v: u32) -> u32
 }
 
 // The length of a chain, and the vertex that it leads to.
-#[derive(Drop)]
+#[derive(Clone, Copy)]
 pub struct Chain {
     pub steps: usize,
     pub vertex: u32,

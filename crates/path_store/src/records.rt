@@ -27,7 +27,7 @@ const MARKS: usize = 8;
 // chain followed from the parent's last vertex, then the last edge + 1, or 0 where it ends with the chain), how many edges it has in all, its last
 // vertex, the vertex that the chain leads to, the decisions since guidance, the vertex + 1 whose tree joined when the path was taken (0: none), how
 // many active trees it has, and whether it was recovered, so that all its vertices with a tree count as visited.
-#[derive(Drop)]
+#[derive(Clone, Copy)]
 pub struct PathRecord {
     pub score: f64,
     pub parent: u32,

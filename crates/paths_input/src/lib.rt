@@ -22,7 +22,7 @@ use whole_input::Reading;
 pub const MALFORMED: u32 = 14;
 
 // What was read is in order, or refused.
-#[derive(Drop)]
+#[derive(Clone, Copy)]
 pub enum Checked {
     Fine(Source),
     Refused(u32),

@@ -6,7 +6,7 @@ ghost use Rattle.definition.specs.Text.{lowest_first, column_of};
 ghost use Rattle.paths_text.specs.Entries.{Decoded};
 
 // How many entries there are, or a file ragged or too long, which is 14.
-#[derive(Drop)]
+#[derive(Clone, Copy)]
 pub enum Column {
     Entries(usize),
     Malformed,

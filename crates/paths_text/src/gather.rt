@@ -13,7 +13,7 @@ use bytes::reverse;
 use text_form::reads::{Pair, read_pair};
 
 // How far the reads are gathered: the place of the next one, the bases of those before it, and how many these are.
-#[derive(Drop)]
+#[derive(Clone, Copy)]
 pub struct Gathering {
     pub at: usize,
     pub bases: usize,

@@ -9,7 +9,7 @@ use text_form::reads::{Form, Layout, read_form};
 
 // Where the parts stand: the reference, the bases and behind them the qualities, each from its place to the next; how many ends of reads are told; and
 // the reads' tally. Uneven reads, and more than 512, are not gathered, since they are refused.
-#[derive(Drop)]
+#[derive(Clone, Copy)]
 pub struct Source {
     pub settings: Settings,
     pub reference: usize,
@@ -22,7 +22,7 @@ pub struct Source {
     pub even: bool,
 }
 
-#[derive(Drop)]
+#[derive(Clone, Copy)]
 pub enum Read {
     Source(Source),
     Malformed,

@@ -4,7 +4,7 @@ use known_answers::calls::{graph_agrees, lengths_agree, origin_agrees};
 use known_answers::numbers::{field, list_at, low_byte, unpack};
 use std::num::wrapping_add_u64;
 
-#[derive(Drop)]
+#[derive(Clone, Copy)]
 pub struct Total {
     pub passed: u64,
     pub failed: u64,

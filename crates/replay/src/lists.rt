@@ -354,7 +354,7 @@ fn list_agrees(
 // ---- which slices are short
 
 // The first and the last slice that is to be short, by its number in `Lent` from 1; 0 where none is.
-#[derive(Drop)]
+#[derive(Clone, Copy)]
 struct Shorts {
     first: u32,
     last: u32,

@@ -3,7 +3,7 @@
 #![tactic(auto)]
 
 // The sizes of the tables, the sink, the far end of the symbolic edge, the least total that reaches the threshold, and the caller's numbers.
-#[derive(Drop)]
+#[derive(Clone, Copy)]
 pub struct Setting {
     pub edges: usize,
     pub nodes: usize,
@@ -19,7 +19,7 @@ pub struct Setting {
 
 // How many path records are used, how many paths wait, how many have closed, the place of the next pivotal edge, how many edges are pivotal,
 // the pushes made, and the greatest number that have waited.
-#[derive(Drop)]
+#[derive(Clone, Copy)]
 pub struct Progress {
     pub records: u32,
     pub waiting: usize,
@@ -31,7 +31,7 @@ pub struct Progress {
 }
 
 // The answer of a step: how far the search is, or a refusal.
-#[derive(Drop)]
+#[derive(Clone, Copy)]
 pub enum Step {
     On(Progress),
     Refused(u32),

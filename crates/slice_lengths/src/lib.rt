@@ -16,7 +16,7 @@ use tables::{EDGE, EDGE_ROW, FORK, KMER, NODE, NODE_ROW, OPEN, PATH, QUEUED, VER
 // How many elements each workspace slice needs: numbers of 32 bits, but for `active`, of 16, and `scores`, of f64. The call for edges and trees is lent
 // the first five; the call for the list is lent all but `open`, and three slices of `columns`, the first of them f64.
 #[repr(C)]
-#[derive(Drop)]
+#[derive(Clone, Copy)]
 pub struct Workspace {
     // the graph's vertices
     pub vertices: usize,
@@ -52,7 +52,7 @@ pub struct Workspace {
 
 // The answer of `lengths`: a refusal, or how many elements each slice needs; there are two slices of `origins` numbers.
 #[repr(C)]
-#[derive(Drop)]
+#[derive(Clone, Copy)]
 pub struct LengthsTold {
     pub refusal: u32,
     pub edges: usize,

@@ -9,7 +9,7 @@ use crate::numbers::{
 };
 
 // The settings as the calls take them: k is 0 where it was below, and the paths asked are 9 where they were below 0.
-#[derive(Drop)]
+#[derive(Clone, Copy)]
 pub struct Settings {
     pub k: u32,
     pub quality: u8,
@@ -19,19 +19,19 @@ pub struct Settings {
 }
 
 // A number, and the place behind the space that ends it.
-#[derive(Drop)]
+#[derive(Clone, Copy)]
 pub struct Taken {
     pub number: Decimal,
     pub next: usize,
 }
 
-#[derive(Drop)]
+#[derive(Clone, Copy)]
 pub enum Field {
     Read(Taken),
     Malformed,
 }
 
-#[derive(Drop)]
+#[derive(Clone, Copy)]
 pub enum Header {
     Read(Settings),
     Malformed,

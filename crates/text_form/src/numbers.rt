@@ -7,19 +7,19 @@ ghost use Rattle.text_form.specs.Numbers.{bounded, digits_of, Parsed, value_of, 
 ghost use Rattle.definition.specs.Text.{size_of};
 
 // A number as it is written: its size, and whether a hyphen stands before it.
-#[derive(Drop)]
+#[derive(Clone, Copy)]
 pub struct Decimal {
     pub negative: bool,
     pub size: u32,
 }
 
-#[derive(Drop)]
+#[derive(Clone, Copy)]
 pub enum Digits {
     Value(u32),
     Malformed,
 }
 
-#[derive(Drop)]
+#[derive(Clone, Copy)]
 pub enum Number {
     Value(Decimal),
     Malformed,

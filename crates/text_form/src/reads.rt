@@ -9,33 +9,33 @@ use crate::header::{Header, Settings, read_header};
 use crate::numbers::find_byte;
 
 // Where a read's two lines end.
-#[derive(Drop)]
+#[derive(Clone, Copy)]
 pub struct Lines {
     pub bases: usize,
     pub qualities: usize,
 }
 
-#[derive(Drop)]
+#[derive(Clone, Copy)]
 pub enum Pair {
     At(Lines),
     Malformed,
 }
 
 // How many reads there are, and whether each one's two lines are of equal length.
-#[derive(Drop)]
+#[derive(Clone, Copy)]
 pub struct Tally {
     pub count: usize,
     pub even: bool,
 }
 
-#[derive(Drop)]
+#[derive(Clone, Copy)]
 pub enum Scan {
     Reads(Tally),
     Malformed,
 }
 
 // A text of the form: its settings, where the reference begins and the place past it, where the reads begin, and their tally.
-#[derive(Drop)]
+#[derive(Clone, Copy)]
 pub struct Layout {
     pub settings: Settings,
     pub reference: usize,
@@ -45,7 +45,7 @@ pub struct Layout {
     pub even: bool,
 }
 
-#[derive(Drop)]
+#[derive(Clone, Copy)]
 pub enum Form {
     Read(Layout),
     Malformed,

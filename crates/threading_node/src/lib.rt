@@ -30,7 +30,7 @@ const CHILD: usize = 3;
 const SIBLING: usize = 4;
 
 // Where a child stands in the row of its siblings, or where it is to stand: after which slot (0: first) and before which (0: last).
-#[derive(Drop)]
+#[derive(Clone, Copy)]
 pub enum Place {
     Here(usize),
     Gap(usize, usize),
@@ -149,13 +149,13 @@ pub fn find_child(nodes: &[u32], start: usize, a: u32, b: u32) -> Place
 }
 
 // How many nodes there are, and the slot where an open tree stands.
-#[derive(Drop)]
+#[derive(Clone, Copy)]
 pub struct Reached {
     pub nodes: usize,
     pub at: usize,
 }
 
-#[derive(Drop)]
+#[derive(Clone, Copy)]
 pub enum Step {
     Next(Reached),
     Refused(u32),

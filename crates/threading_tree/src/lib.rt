@@ -52,7 +52,7 @@ fn active_count(active: &[u32], i: usize) -> u32
     active[i * OPEN + STANDING]
 }
 
-#[derive(Drop)]
+#[derive(Clone, Copy)]
 pub enum Grown {
     Nodes(usize),
     Refused(u32),
@@ -97,14 +97,14 @@ pub fn add_edge_to_junction_tree_nodes(
 }
 
 // How many nodes there are, how many pairs of `active` are used, and the slot of the root that was opened.
-#[derive(Drop)]
+#[derive(Clone, Copy)]
 pub struct ThreadingState {
     pub nodes: usize,
     pub groups: usize,
     pub root: usize,
 }
 
-#[derive(Drop)]
+#[derive(Clone, Copy)]
 pub enum Joined {
     Next(ThreadingState),
     Refused(u32),

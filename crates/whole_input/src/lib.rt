@@ -6,14 +6,14 @@ ghost use Rattle.libc.specs.Io.{Moved};
 ghost use Rattle.whole_input.specs.Readings.{turn_of, ended_at, TookWithin, Within};
 
 // One read: how many bytes it put, 0 at the end of the input; or it failed.
-#[derive(Drop)]
+#[derive(Clone, Copy)]
 pub enum Turn {
     Took(usize),
     Failed,
 }
 
 // All reads of an input: it is whole, with so many bytes; or only a part was read, since a read failed or there is more than fits.
-#[derive(Drop)]
+#[derive(Clone, Copy)]
 pub enum Reading {
     Whole(usize),
     Partial,
