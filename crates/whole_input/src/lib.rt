@@ -2,8 +2,10 @@
 #![tactic(auto)]
 
 ghost use Rattle.std.specs.Prelude.{◌≡◌, ◌-◌, ◌≤◌, length};
-ghost use Rattle.libc.specs.Io.{Moved};
 ghost use Rattle.whole_input.specs.Readings.{turn_of, ended_at, TookWithin, Within};
+
+use std::io;
+use std::io::Read;
 
 // One read: how many bytes it put, 0 at the end of the input; or it failed.
 #[derive(Clone, Copy)]
@@ -19,27 +21,26 @@ pub enum Reading {
     Partial,
 }
 
-// C's answer to a read into `bytes`: below 0 it failed, also where a signal came before a byte did.
-fn turn_of(got: isize, bytes: &[u8]) -> Turn
-    requires { Moved (length bytes.now) got }
+// What a read answered: every error is a failure, also where a signal came before a byte did.
+fn turn_of(got: io::Result<usize>) -> Turn
     ensures { result ≡ turn_of got }
 {
-    if got < 0 {
+    let Ok(n) = got else {
         return Turn::Failed;
-    }
-    Turn::Took(io::count(got, bytes))
+    };
+    Turn::Took(n)
 }
 
 // One read into `bytes`.
-fn read_once(file: i32, bytes: &mut [u8]) -> Turn
+fn read_once<R: Read>(file: &mut R, bytes: &mut [u8]) -> Turn
     ensures { TookWithin result (length bytes.old) }
 {
-    let got = libc::read(file, bytes);
-    turn_of(got, bytes)
+    let got = file.read(bytes);
+    turn_of(got)
 }
 
 // One read behind the first `done` bytes.
-fn read_behind(file: i32, bytes: &mut [u8], done: usize) -> Turn
+fn read_behind<R: Read>(file: &mut R, bytes: &mut [u8], done: usize) -> Turn
     requires { done ≤ length bytes.old }
     ensures { TookWithin result (length bytes.old - done) }
 {
@@ -60,7 +61,7 @@ fn ended_at(n: usize, turn: Turn) -> Reading
 }
 
 // The slice is full: one byte more shows whether the input goes on.
-fn read_end(file: i32, n: usize) -> Reading
+fn read_end<R: Read>(file: &mut R, n: usize) -> Reading
     ensures { Within result n }
 {
     let mut more = [0u8; 1];
@@ -69,7 +70,7 @@ fn read_end(file: i32, n: usize) -> Reading
 }
 
 // Reads until the input ends; each turn leaves fewer bytes free.
-pub fn read_whole(file: i32, bytes: &mut [u8]) -> Reading
+pub fn read_whole<R: Read>(file: &mut R, bytes: &mut [u8]) -> Reading
     ensures { Within result (length bytes.new) }
 {
     let mut done: usize = 0;

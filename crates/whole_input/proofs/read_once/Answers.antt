@@ -1,0 +1,6 @@
+-- `read_once` meets its contract. Assumes nothing.
+use Rattle.whole_input.specs.Readings.{took-within}
+use Rattle.whole_input.proofs.read_once.Goals as goal
+
+pub returns : goal.returns
+returns g c = took-within _ _ _ _ c.read-got.ensures.bound c.read-got.auto.buf c.turn_of.ensures

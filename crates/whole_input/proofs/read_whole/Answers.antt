@@ -1,0 +1,35 @@
+-- `read_whole` meets its contract. Assumes nothing.
+use mathlib.Core.Path.{refl, ◌∙◌}
+use native.Mathlib.Omega.{arith}
+use Rattle.whole_input.specs.Readings.{took-is, within-as}
+use Rattle.whole_input.proofs.read_whole.Goals as goal
+
+pub loop-done-init : goal.loop-done-init
+loop-done-init g c = (omega arith, refl)
+
+pub read_behind-turn-requires : goal.read_behind-turn-requires
+read_behind-turn-requires g c = c.loop-done.invariant.0
+
+pub shape_of-bytes-in_default : goal.shape_of-bytes-in_default
+shape_of-bytes-in_default g c = c.read_behind-turn.auto.bytes ∙ c.loop-done.invariant.1
+
+pub shape_of-bytes-then-n-eq0 : goal.shape_of-bytes-then-n-eq0
+shape_of-bytes-then-n-eq0 g c = c.read_behind-turn.auto.bytes ∙ c.loop-done.invariant.1
+
+pub returns-then-n-eq0 : goal.returns-then-n-eq0
+returns-then-n-eq0 g c = omega (arith, c.loop-done.invariant.0, c.read_behind-turn.auto.bytes)
+
+pub overflow_add-done : goal.overflow_add-done
+overflow_add-done g c = omega (arith, took-is _ _ _ c.read_behind-turn.ensures c.in-Took.is, c.loop-done.invariant.0)
+
+pub loop-done-smaller : goal.loop-done-smaller
+loop-done-smaller g c = omega (arith, took-is _ _ _ c.read_behind-turn.ensures c.in-Took.is, c.loop-done.invariant.0, c.read_behind-turn.auto.bytes, c.if-n-eq0.false)
+
+pub loop-done-preserved : goal.loop-done-preserved
+loop-done-preserved g c = (omega (arith, took-is _ _ _ c.read_behind-turn.ensures c.in-Took.is, c.loop-done.invariant.0, c.read_behind-turn.auto.bytes), c.read_behind-turn.auto.bytes ∙ c.loop-done.invariant.1)
+
+pub shape_of-bytes : goal.shape_of-bytes
+shape_of-bytes g c = c.loop-done.invariant.1
+
+pub returns : goal.returns
+returns g c = within-as c.read_end.result _ _ c.read_end.ensures c.loop-done.invariant.0
