@@ -1,6 +1,6 @@
 -- What the formula says of the call's answer: with a maximum of pushes that is not below it 12 is never answered, and an accepted list was made within it. And with a
 -- column of 65,536 places 10 is never answered.
-use Rattle.std.specs.Prelude.{◌≡◌, refl, ℕ, zero, suc, ◌≤◌, true, List, [], length, Float}
+use Rattle.std.specs.Prelude.{◌≡◌, refl, ℕ, zero, suc, ◌≤◌, true, List, length, Float}
 use Rattle.std.proofs.Common.{sym, ap, subst, ◌∙◌, arith, le_trans, inl, inr}
 use Rattle.laws.specs.ListLaws.{clash}
 use Rattle.definition.specs.Refusal.{returned, keeps_workspace, ok, first_broken}

@@ -1,6 +1,5 @@
 -- `column_climbs` meets its contract. The invariant: what is left to read decides as the whole does, and the last entry read is finite.
 -- The measure is what is left of the length. Assumes nothing.
-use Prim.Native.Nat.{◌-◌}
 use borrow.Author.Tests.{not-true, not-false}
 use Rattle.kbest_haplotype.specs.Columns.{climbing-start, climbing-stop, climbing-next, climbing-end}
 use Rattle.kbest_haplotype.proofs.column_climbs.Goals as goal
