@@ -8,7 +8,7 @@ use Prim.Native.Nat.{ℕ, zero, suc, ◌+◌, ◌-◌, ◌<◌, ◌≤◌, Order
 use Rattle.std.proofs.Math.Decide.{ℕ_discrete}
 use Rattle.std.proofs.Math.ListN.{length, length-append, get_or-append}
 use Rattle.std.proofs.Math.Seq.{get_or_at}
-use Rattle.laws.specs.Lists.{last_or, position, sole}
+use Rattle.laws.specs.Lists.{last_or, sole}
 use Rattle.laws.specs.ListLaws.{All, nil, cons, all-mono, all-zip, all_keep, all-passed, all-find, all-sole}
 use Rattle.laws.specs.Numbers.{eq_list, eq_list-true, eq_list-self}
 use Rattle.definition.specs.Stretch.{Stretch, kmers}

@@ -3,7 +3,7 @@ use Rattle.std.specs.Prelude.{◌≡◌, refl, Bool, true, false, List, [], ℕ,
 use Rattle.std.proofs.Common.{sym, ap, ◌∙◌, mul-le-mul_right, suc-mul, arith, eq-eqb, ne_eqb}
 use Rattle.std.proofs.Math.Decide.{ℕ_discrete}
 use Rattle.definition.specs.Threading.{Ends, Graph, leaving}
-use Rattle.definition.specs.Evidence.{Walk, take_edge, pass, walk_bases, nodes}
+use Rattle.definition.specs.Evidence.{Walk, take_edge, pass, walk_bases}
 use Rattle.tables.specs.Widths.{open_numbers}
 use Rattle.assembly.specs.Fields.{HasVertex, tree_root, put_tree_root, HasEdges, HasEdge, edge_from, edge_to}
 use Rattle.assembly.specs.Store.{edge_at, edges_of, Good}

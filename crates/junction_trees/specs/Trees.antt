@@ -20,7 +20,6 @@ use Rattle.assembly.specs.Kmers.{length-of}
 use Rattle.junction_tree_graph.specs.declared.Built.{Built}
 use Rattle.junction_tree_graph.specs.Built.{Fits, fits-of, BuiltAt}
 use Rattle.read_threading.specs.Reads.{reads_of}
-use Rattle.threading_node.specs.Ends.{ends}
 use Rattle.threading_node.specs.Slots.{told, Beyond}
 use Rattle.threading_tree.specs.Held.{HeldWalk, held_start, held-under, held-nodes, held-room}
 use Rattle.junction_trees.specs.declared.Ground.{Ground}
