@@ -1,7 +1,7 @@
 -- "Evidence": the junction trees. A tree stands at a vertex; its nodes below the root stand for edges taken, with a count.
 -- Each read stretch longer than k is walked again over the graph as it was before the symbolic edge, and the walk counts in the trees that it has opened.
 use Prim.Native.Nat.{Ordering}
-use Prim.Native.Nat.{ℕ, suc, ◌+◌, compare}
+use Prim.Native.Nat.{ℕ, suc, compare}
 use Rattle.std.specs.Prelude.{Bool, true, false, ◌||◌, cond, List, [], ◌∷◌, ◌++◌, map, ltb, eqb, length, take, drop}
 use Rattle.std.proofs.Math.Option.{Option, none, some}
 use Rattle.laws.specs.Lists.{any, is_empty}

@@ -1,5 +1,5 @@
 -- The index through the threading: it has the kmers of the vertices made so far, and room for as many as may come. Assumes nothing.
-use Rattle.std.specs.Prelude.{◌≡◌, List, ℕ, ◌+◌, ◌-◌, ◌*◌, ◌^◌, ◌<◌, ◌≤◌, length, get_or}
+use Rattle.std.specs.Prelude.{◌≡◌, List, ℕ, ◌+◌, ◌-◌, ◌^◌, ◌<◌, ◌≤◌, length, get_or}
 use Rattle.std.proofs.Common.{sym, ◌∙◌, arith}
 use Rattle.laws.specs.Rows.{rows_none}
 use Rattle.definition.specs.Threading.{number_of}

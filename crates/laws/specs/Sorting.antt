@@ -2,7 +2,7 @@
 use Rattle.std.specs.Prelude.{◌≡◌, ◌⊎◌, ◌≢◌, Bool, true, false, List, [], ◌∷◌, map, length}
 use Rattle.std.proofs.Math.Path.{refl, ap}
 use Rattle.std.proofs.Common.{sym, ◌∙◌, inl, inr, eq-or-lt_of_le, arith}
-use Prim.Native.Nat.{ℕ, zero, suc, ◌-◌, ◌<◌}
+use Prim.Native.Nat.{ℕ, zero, suc, ◌<◌}
 use Rattle.laws.specs.ListLaws.{All, nil, cons, all_head, all_tail}
 use Rattle.laws.specs.BoolLaws.{Bool-cases, both_ways}
 use Rattle.laws.specs.Insertion.{insert, sorted, insert-past, insert-here, insert-front, all-sorted, length-sorted}

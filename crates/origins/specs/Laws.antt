@@ -15,7 +15,7 @@ use Rattle.definition.specs.Limits.{origin_rules}
 use Rattle.definition.specs.Threading.{Origin}
 use Rattle.definition.specs.Origins.{sequence_in, bytes_in}
 use Rattle.definition.specs.Calls.{OriginOutcome, origin_of, after_origin_checks, origin_call}
-use Rattle.origins.specs.Reads.{start_of, read_at, no_read, part_at, accepted-by, bounded}
+use Rattle.origins.specs.Reads.{start_of, read_get, no_read, part_at, accepted-by, bounded}
 use Rattle.origins.specs.Parts.{origin, fitted, is_read, start_in, lent, found_at, bytes_of, Inside, Tells, Located, slice_of, lent_by, answered, Names}
 use Rattle.origins.specs.declared.Part.{Part}
 use Rattle.origins.specs.declared.Found.{Found}
@@ -141,7 +141,7 @@ module _ (k : ℕ) (reference ends bases : List ℕ) (n : ℕ) (e : n ≡ first_
       let a = accepted-by k reference ends bases n e none-broken in
       let b = bounded k s ends bases a l in
       rw (call-accepted k reference ends bases (origin (suc s) place) n e none-broken)
-      (in-slice k reference ends bases (origin (suc s) place) a.small true (start_of ends s) (get_or ends s 0 - start_of ends s) (read_at s ends bases a.rise l) (omega arith) refl refl r f)
+      (in-slice k reference ends bases (origin (suc s) place) a.small true (start_of ends s) (get_or ends s 0 - start_of ends s) (read_get s ends bases a.rise l) (omega arith) refl refl r f)
 
   -- `start` is what the code found for the read's start
   pub in-read : (sequence place start : ℕ) (r : Found) → 1 ≤ sequence → sequence - 1 < length ends → start ≡ start_of ends (sequence - 1)

@@ -15,7 +15,7 @@ use Rattle.path_growth.specs.declared.Taken.{Taken}
 use Rattle.path_growth.specs.declared.Extension.{Extension}
 use Rattle.path_store.specs.Walk.{Graph}
 use Rattle.path_store.specs.Cells.{trees_of, count_of, end_of, score_of, Inside, path_at, put_cells, put_other}
-use Rattle.path_edges.specs.Path.{Table, Rooted, edges}
+use Rattle.path_edges.specs.Path.{Table, Rooted}
 use Rattle.path_growth.specs.Push.{Fresh, pushed, pushed-rooted, put_same, edges-kept}
 use Rattle.path_growth.specs.Cut.{cut_of}
 use Rattle.path_growth.specs.Grow.{start_row, extended_row, closed_row, recovered_row, joined_row, Following, Store, grow, Grown, join, Joined}

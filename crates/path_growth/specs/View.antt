@@ -18,7 +18,7 @@ use Rattle.definition.specs.Search as defs
 use Rattle.path_store.specs.declared.records.PathRecord.{PathRecord}
 use Rattle.path_growth.specs.declared.Taken.{Taken}
 use Rattle.path_growth.specs.declared.Extension.{Extension}
-use Rattle.path_store.specs.Walk.{times, end_from, chain}
+use Rattle.path_store.specs.Walk.{times}
 use Rattle.path_store.specs.Cells.{parent_of, count_of, end_of, since_of, joined_of, score_of, Inside, put_cells, put-at, put-recovered}
 use Rattle.path_edges.specs.Path.{Table, Rooted, Same, edges, edges-same}
 use Rattle.path_growth.specs.Push.{Fresh, pushed}

@@ -6,7 +6,7 @@ use Rattle.std.proofs.Math.Bool.{true, false, not, and-false, or-true, or-false}
 use Rattle.std.proofs.Math.Decide.{ℕ_discrete, dec_lt}
 use Rattle.std.proofs.Math.Dec.{ltb, eqb}
 use borrow.Author.Tests.{lt-ltb, le-ltb, eq-eqb, eqb-true}
-use Rattle.laws.specs.Lists.{keep, any}
+use Rattle.laws.specs.Lists.{keep}
 use Rattle.definition.specs.Threading.{Ends, Edge, eq_ends, leaving}
 use Rattle.definition.specs.Search.{among, ends_of}
 use Rattle.theorems.proofs.Fuel.{among-append}

@@ -1,4 +1,4 @@
-// The public calls as they are exported: each is a call of a crate below, and the list's rows are copied into the lent slice of records.
+// The public calls: each is a call of a crate below, and the list's rows are copied into the lent slice of records. `punelavoh_c` exports them.
 #![tactic(auto)]
 
 ghost use Rattle.definition.specs.Calls.{origin_call};
@@ -40,37 +40,10 @@ fn clear_columns(
     clear(row_edges, n);
 }
 
-// ---- for C and Rust
-
-// The parameters by name, for the header that tools/c-header makes; a workspace slice `w_x` is what `Workspace` says of x. In brackets stands where a
-// value or the length of a slice is told, where it is not told by the same name. In braces stand the numbers of a row.
-// settings: what the run is asked for
-// k: the kmer size
-// quality: the minimum quality: a base below it is not used
-// paths [settings.asked]: paths asked
-// graph: the maxima of the graph and its trees
-// search: the maxima of the search
-// maxima [settings.graph]: the maxima of the graph and its trees
-// reference: its bases, k to 1,024 letters of A C G T N
-// ends: for each read where it ends in `bases`, exclusive; they never fall, and the last is the number of bases; up to 512
-// bases: of all reads, one after the other; up to 32,768
-// qualities: one for each base, numbers and not the characters of a text
-// column: place n holds log10 of n; 2 to 65,536 places
-// sequence: 0 for the reference, else the read, from 1
-// place: of the first byte in that sequence, from 0
-// edges {from, to, support, is_ref, sequence, place}: all edges, rising by ends; is_ref is 1 for an edge of the reference, else 0
-// nodes {from, to, count, depth}: all tree nodes, tree after tree; a root has its vertex as both ends and depth 0
-// rows [told.paths]: the paths, best first
-// out_bases [told.bases]: the bases of the path in row r, from r * (k + path_edges) on
-// sequences [told.origins]: for each edge of the path in row r the sequence of its origin, from r * path_edges on
-// places [told.origins]: and the place in that sequence
-// row_scores [told.workspace.columns]: the column of the scores
-// row_closings [told.workspace.columns]: the column of the closing numbers
-// row_edges [told.workspace.columns]: the column of the edge counts
+// ---- the calls
 
 // Writes the rows of edges and of tree nodes.
-#[unsafe(no_mangle)]
-pub extern "C" fn punelavoh_graph(
+pub fn punelavoh_graph(
     k: u32,
     quality: u8,
     reference: &[u8],
@@ -96,8 +69,7 @@ pub extern "C" fn punelavoh_graph(
 }
 
 // Tells how many elements each slice needs.
-#[unsafe(no_mangle)]
-pub extern "C" fn punelavoh_lengths(
+pub fn punelavoh_lengths(
     k: u32,
     paths: u32,
     graph: GraphMaxima,
@@ -109,8 +81,7 @@ pub extern "C" fn punelavoh_lengths(
 }
 
 // Tells which part of the reference (in_reads 0) or of the read bases (in_reads 1) an origin names.
-#[unsafe(no_mangle)]
-pub extern "C" fn punelavoh_origin(
+pub fn punelavoh_origin(
     k: u32,
     reference: &[u8],
     ends: &[u32],
@@ -125,8 +96,7 @@ pub extern "C" fn punelavoh_origin(
 }
 
 // Writes the list. Its rows are first made in three columns, which are cleared like the rest of the workspace.
-#[unsafe(no_mangle)]
-pub extern "C" fn punelavoh_list(
+pub fn punelavoh_list(
     settings: Settings,
     reference: &[u8],
     ends: &[u32],

@@ -1,8 +1,7 @@
 -- The start of a stretch: its first kmer's vertex, known or new, and the count backwards from it. Assumes nothing.
-use Rattle.std.specs.Prelude.{◌≡◌, true, List, ℕ, ◌+◌, ◌-◌, ◌*◌, ◌^◌, ◌<◌, ◌≤◌, length, get_or}
+use Rattle.std.specs.Prelude.{◌≡◌, true, List, ℕ, ◌+◌, ◌-◌, ◌^◌, ◌<◌, ◌≤◌, length, get_or}
 use Rattle.std.proofs.Math.Path.{refl}
 use Rattle.std.proofs.Common.{sym, inl, arith}
-use Rattle.std.proofs.Math.Option.{some}
 use Rattle.definition.specs.Limits.{is_base}
 use Rattle.definition.specs.Threading.{Threading, number_of, with_kmer, backward, start_at}
 use Rattle.kmer_threading.specs.declared.Most.{Most}

@@ -11,7 +11,7 @@ use lib.ListN.{length, take, drop, get_or, length-append, length-drop, get_or-ap
 use lib.Seq.{drop-cons, drop-drop}
 use borrow.Author.Tests.{leb-true, leb-false, eqb-true}
 use Rattle.laws.specs.Lists.{sole, last_or}
-use Rattle.laws.specs.ListLaws.{All, nil, cons, Mem, here, all_head, all_tail, all-mono, all-zip, all_keep, all-passed, all-self, all-find, all-sole}
+use Rattle.laws.specs.ListLaws.{All, nil, cons, Mem, all_head, all_tail, all-mono, all-zip, all_keep, all-passed, all-self, all-find, all-sole}
 use Rattle.definition.specs.Limits.{Sample}
 use Rattle.definition.specs.Stretch.{Stretch, kmers, stretches}
 use Rattle.definition.specs.Threading.{Ends, compare_ends, Origin, Edge, Graph, Threading, leaving, entering, last_base, one_step, merge, put, number_of, with_kmer, follow, step_to, step, steps, backward, start_at, thread_kmers, thread, thread_all, threaded}

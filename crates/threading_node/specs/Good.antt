@@ -7,7 +7,7 @@ use Rattle.definition.specs.Threading.{Ends, compare_ends}
 use Rattle.threading_node.specs.Ends.{eq_ends-self}
 use Rattle.threading_node.specs.Nodes.{Nodes, nil, node, size, reach_n, take_n, seek_n, head_link, landed, At, here, down, along, kids_at, Rising, Fields, Links, Own, take_n-here, take_n-down, take_n-along, rising-take}
 use Rattle.threading_node.specs.Table.{Agree, Res, links-take}
-use Rattle.threading_node.specs.Rows.{Found, Bumped, Added, Stopped, head, inside, none, some, seek-here, seek-gap, bumped-off, row-bumped, added-off, row-added, seek_n-lt, seek_n-eq, seek_n-gt, gap_here, here-same}
+use Rattle.threading_node.specs.Rows.{Found, Bumped, Added, Stopped, head, inside, none, seek-here, seek-gap, bumped-off, row-bumped, added-off, row-added, seek_n-lt, seek_n-eq, seek_n-gt, gap_here, here-same}
 use Rattle.threading_node.specs.declared.Place.TheVariants.{Here, Gap}
 
 -- the table with n nodes holds the numbered tree t

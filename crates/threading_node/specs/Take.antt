@@ -1,9 +1,8 @@
 -- What taking an edge asks and ensures, and that the stores of the code are the change. (Rust: ThreadingNode::add_edge)
 use Rattle.std.specs.Prelude.{◌≡◌, refl, List, [], length}
 use Rattle.std.proofs.Common.{sym, ap, ◌∙◌, arith, add-one}
-use Prim.Native.Nat.{ℕ, suc, ◌+◌, ◌-◌, ◌^◌, ◌<◌, ◌≤◌, Ordering}
+use Prim.Native.Nat.{ℕ, suc, ◌+◌, ◌^◌, ◌<◌, ◌≤◌, Ordering}
 use Rattle.definition.specs.Threading.{Ends, compare_ends}
-use Rattle.threading_node.specs.Ends.{ends}
 use Rattle.threading_node.specs.Nodes.{Nodes, nil, node, size, take_n, seek_n, landed, At, kids_at, Fields, Links}
 use Rattle.threading_node.specs.Table.{long-not}
 use Rattle.threading_node.specs.Rows.{Bumped, Added, Stopped, head, inside, seek-gap, seek_n-lt, seek_n-eq, seek_n-gt, gap_here, gap-before}

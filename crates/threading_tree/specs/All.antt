@@ -2,13 +2,12 @@
 use Rattle.std.specs.Prelude.{◌≡◌, Bool, true, false, replicate}
 use Rattle.std.proofs.Math.Path.{refl, ap}
 use Rattle.std.proofs.Common.{sym, ◌∙◌, add-one, length-set, get_or-set_other}
-use Prim.Native.Nat.{ℕ, zero, suc, ◌+◌, ◌-◌, ◌*◌, ◌^◌, ◌<◌, ◌≤◌, Ordering}
+use Prim.Native.Nat.{ℕ, zero, suc, ◌+◌, ◌*◌, ◌^◌, ◌<◌, ◌≤◌, Ordering}
 use mathlib.Core.List.{List, [], ◌∷◌, ◌++◌, map, append_assoc}
 use native.Mathlib.Omega.{arith}
 use Rattle.std.proofs.Math.ListN.{length, length-append}
 use Rattle.laws.specs.Records.{field, put_field, field-same, field-other, row_other}
 use Rattle.definition.specs.Threading.{Ends, compare_ends, eq_ends}
-use Rattle.threading_node.specs.Ends.{ends}
 use Rattle.definition.specs.Evidence.{Branches}
 use Rattle.threading_node.specs.Nodes.{Fields, Nodes, nil, node, erase, size, reach_n, take_n, landed, At, kids_at, Rising, reach_n-lt, reach_n-eq, reach_n-gt, take_n-down, take_n-along, at_take, at_new, rising-take}
 use Rattle.threading_node.specs.Good.{Good, at-live}

@@ -1,6 +1,6 @@
 -- Distinct groups stand at distinct slots, so there are no more of them than nodes. And the walk as a whole: the groups take an edge as the definition's
 -- open trees do.
-use Rattle.std.specs.Prelude.{◌≡◌, refl, ℕ, zero, suc, ◌+◌, ◌-◌, ◌<◌, ◌≤◌, length}
+use Rattle.std.specs.Prelude.{◌≡◌, refl, ℕ, zero, suc, ◌<◌, ◌≤◌, length}
 use Rattle.std.proofs.Common.{sym, ap, ◌∙◌, length-append}
 use Rattle.std.proofs.Math.Decide.{ℕ_discrete}
 use mathlib.Core.List.{List, [], ◌∷◌, ◌++◌, map}
@@ -23,12 +23,19 @@ walk-takes e w t gs op r s h = same-take e w t (grow_n e gs t) gs h r (standing-
 
 -- ---- a path leads to one slot, and a slot is on one path
 
+at-same : {t t' : Nodes} {q q' s s' : ℕ} {p p' : List Ends} → At t q p s → At t' q' p' s' → t ≡ t' → q ≡ q' → p ≡ p' → s ≡ s'
+at-same here here u v w = v
+at-same here (down b) u v w = absurd (let z = ap length w in omega arith)
+at-same here (along m b) u v w = absurd (let z = ap length w in omega arith)
+at-same (down a) here u v w = absurd (let z = ap length w in omega arith)
+at-same (along n a) here u v w = absurd (let z = ap length w in omega arith)
+at-same (down a) (down b) u v w = at-same a b (cc) (cc) (cc)
+at-same (down {f = f} a) (along {f = f'} {d = d'} n b) u v w = let z : f' ≡ d' = cc in absurd (eq_ends-false d' f' n (sym z))
+at-same (along {f = f} {d = d} n a) (down {f = f'} b) u v w = let z : f ≡ d = cc in absurd (eq_ends-false d f n (sym z))
+at-same (along n a) (along m b) u v w = at-same a b (cc) v w
+
 pub at_one : {t : Nodes} {q s s' : ℕ} {p : List Ends} → At t q p s → At t q p s' → s ≡ s'
-at_one here here = refl
-at_one (down a) (down b) = at_one a b
-at_one (down {f = f} a) (along n b) = absurd (eq_ends-false f f n refl)
-at_one (along {f = f} n a) (down b) = absurd (eq_ends-false f f n refl)
-at_one (along n a) (along m b) = at_one a b
+at_one a b = at-same a b refl refl refl
 
 pub path-one : (f : Fields) (n : ℕ) (t : Nodes) (s : ℕ) (p q : List Ends) → Good f n t → At t 0 p s → At t 0 q s → p ≡ q
 path-one f n t s p q g a b = sym (own_at g.own [] a g.owned g.top) ∙ own_at g.own [] b g.owned g.top

@@ -6,7 +6,6 @@ use Rattle.std.proofs.Math.Option.{Option, none, some}
 use Rattle.definition.specs.Stretch.{Stretch}
 use Rattle.definition.specs.Threading.{Ends, compare_ends, eq_ends, Edge, Graph, leaving, follow, number_of}
 use Rattle.definition.specs.Evidence.{Branches, bare, branch, Tree, reach, take_at, at_tree, Opened, Walk, opens, growth, grow_all, take_edge, open_tree, pass, walk_bases, walk_stretch, walk_all, nodes}
-use Rattle.threading_node.specs.Ends.{ends}
 use Rattle.threading_tree.specs.Forest.{forest}
 use Rattle.threading_tree.specs.Listed.{size_b, forest-nodes}
 

@@ -1,6 +1,6 @@
 -- A tree is opened in a walk: its root joins the groups, or its group gains one. (Rust: add_tree_if_necessary)
-use Rattle.std.specs.Prelude.{◌≡◌, refl, ℕ, zero, suc, ◌+◌, ◌-◌, ◌*◌, ◌^◌, ◌<◌, ◌≤◌, List, [], ◌∷◌, ◌++◌, length}
-use Rattle.std.proofs.Common.{ap, ◌∙◌, add-one, zero-add, length-set, length-append, get_or-set_other}
+use Rattle.std.specs.Prelude.{◌≡◌, refl, ℕ, zero, suc, ◌+◌, ◌*◌, ◌^◌, ◌<◌, ◌≤◌, List, [], ◌∷◌, ◌++◌, length}
+use Rattle.std.proofs.Common.{ap, sym, subst, ◌∙◌, add-one, zero-add, length-set, length-append, get_or-set_other}
 use native.Mathlib.Omega.{arith}
 use Rattle.laws.specs.Records.{field, put_field, field-same, field-other, row_other}
 use Rattle.definition.specs.Threading.{Ends}
@@ -97,19 +97,21 @@ mult-kept t op j m i (g ∷ gs) k h = (kept t op j 1 m i g (omega arith) (λ z. 
 stand-raise : (t : Nodes) (op : List ℕ) (p : List Ends) (k i : ℕ) (gs : List Group) → HasAt p gs i → (k + i) * 2 + 1 < length op → Standing t op k gs
     → Standing t (put_field op 2 (k + i) 1 (field op 2 (k + i) 1 + 1)) k (raise gs i)
 unfolding Standing raise
+stand-raise t op p k zero [] x6 h s = elim x6 [ ]
+stand-raise t op p k (suc i) [] x7 h s = elim x7 [ ]
 stand-raise t op p k zero (g ∷ gs) (first z) h s =
-    let e : k + 0 ≡ k = omega arith in
-    rw e (
-      record {
-        at = rw (field-other op 2 k 1 (field op 2 k 1 + 1) k 0 (omega arith) (omega arith) (λ y. omega arith)) s.0.at;
-        mult-is = field-same op 2 k 1 (field op 2 k 1 + 1) (rw e at h) ∙ add-one (field op 2 k 1) ∙ ap suc s.0.mult-is;
-        some = omega arith;
-      },
-      mult-kept t op k (field op 2 k 1 + 1) (suc k) gs (omega arith) s.1,
+    let e : k + 0 ≡ k = omega arith in (
+      rw e
+          (record {
+            at = rw (field-other op 2 k 1 (field op 2 k 1 + 1) k 0 (omega arith) (omega arith) (λ y. omega arith)) s.0.at;
+            mult-is = field-same op 2 k 1 (field op 2 k 1 + 1) (rw e at h) ∙ add-one (field op 2 k 1) ∙ ap suc s.0.mult-is;
+            some = omega arith;
+          }),
+      mult-kept t op (k + 0) (field op 2 (k + 0) 1 + 1) (suc k) gs (omega arith) s.1,
     )
 stand-raise t op p k (suc i) (g ∷ gs) (after z) h s =
     let e : k + suc i ≡ suc k + i = omega arith in
-    (kept t op (k + suc i) 1 (field op 2 (k + suc i) 1 + 1) k g (omega arith) (λ y. omega arith) s.0, rw e (stand-raise t op p (suc k) i gs z (omega arith) s.1))
+    (kept t op (k + suc i) 1 (field op 2 (k + suc i) 1 + 1) k g (omega arith) (λ y. omega arith) s.0, subst (λ (j : ℕ). Standing t (put_field op 2 j 1 (field op 2 j 1 + 1)) (suc k) (raise gs i)) (sym e) (stand-raise t op p (suc k) i gs z (omega arith) s.1))
 
 -- one more at the end
 abbrev pub joined : List ℕ → ℕ → ℕ → List ℕ

@@ -7,7 +7,7 @@ use Prim.Native.Nat.{ℕ, ◌+◌, ◌*◌, ◌^◌, ◌<◌, ◌≤◌}
 use Rattle.std.proofs.Math.Bool.{true, false}
 use Rattle.std.proofs.Math.Decide.{ℕ_discrete}
 use Rattle.definition.specs.Threading.{Ends, Edge, leaving}
-use Rattle.definition.specs.Evidence.{Walk, opens, take_edge, open_tree, pass, nodes}
+use Rattle.definition.specs.Evidence.{Walk, opens, take_edge, open_tree, pass}
 use Rattle.threading_node.specs.Ends.{ends}
 use Rattle.threading_node.specs.Slots.{told, Beyond}
 use Rattle.threading_node.specs.Take.{Packable}

@@ -1,5 +1,5 @@
 -- A walk's open trees: the definition lists them with repetitions; the code holds groups, a slot with a multiplicity. Both take an edge alike.
-use Rattle.std.specs.Prelude.{◌≡◌, refl, ℕ, zero, suc, ◌+◌, List, [], ◌∷◌, ◌++◌, map, replicate}
+use Rattle.std.specs.Prelude.{◌≡◌, refl, ℕ, zero, suc, List, [], ◌∷◌, ◌++◌, map, replicate}
 use Rattle.std.proofs.Common.{sym, ap, ◌∙◌, append_assoc}
 use Rattle.definition.specs.Threading.{Ends}
 use Rattle.threading_node.specs.Ends.{ends}

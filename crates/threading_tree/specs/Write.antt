@@ -11,7 +11,6 @@ use Rattle.laws.specs.Records.{put_from, length-put_from}
 use Rattle.definition.specs.Threading.{Ends}
 use Rattle.definition.specs.Evidence.{Walk, Node, nodes_below, nodes}
 use Rattle.definition.specs.Calls.{written_at, flat, node_row}
-use Rattle.threading_node.specs.Ends.{ends}
 use Rattle.threading_node.specs.Nodes.{Nodes, nil, node, erase, size, Links}
 use Rattle.threading_node.specs.Good.{Good}
 use Rattle.threading_node.specs.Slots.{cols, Slot, Beyond}

@@ -1,0 +1,7 @@
+use mathlib.Core.Path.{refl}
+use Rattle.assembly.specs.Kmers.{born}
+use Rattle.assembly.proofs.create_vertex.Goals as goal
+
+pub returns : goal.returns
+unfolding born
+returns c = refl

@@ -1,0 +1,9 @@
+-- `climbs` meets its contract. Assumes nothing.
+use Rattle.kbest_haplotype.specs.Columns.{bits-sixteen}
+use Rattle.kbest_haplotype.proofs.climbs.Goals as goal
+
+pub returns-then-x-y : goal.returns-then-x-y
+returns-then-x-y c = rw (bits-sixteen, c.if-x-y.true)
+
+pub returns-else-x-y : goal.returns-else-x-y
+returns-else-x-y c = rw c.if-x-y.false

@@ -1,0 +1,16 @@
+-- `ends_rise` meets its contract. The invariant: what is left of the ends decides as the whole does, `last` being the end before. Assumes nothing.
+use Prim.Native.Nat.{◌-◌}
+use Rattle.limits.specs.Loops.{rising-start, rising-stop, rising-next, rising-end}
+use Rattle.limits.proofs.ends_rise.Goals as goal
+
+pub loop-read-init : goal.loop-read-init
+loop-read-init c = rising-start _
+
+pub returns-then-end-last : goal.returns-then-end-last
+returns-then-end-last c = rising-stop _ _ _ c.loop-read.invariant c.loop-read-test.true c.if-end-last.true
+
+pub loop-read-preserved : goal.loop-read-preserved
+loop-read-preserved c = rising-next _ _ _ c.loop-read.invariant c.loop-read-test.true c.if-end-last.false
+
+pub returns : goal.returns
+returns c = rising-end _ _ _ c.loop-read.invariant c.loop-read-test.false
