@@ -9,7 +9,6 @@ use borrow.Author.Tests.{eq-eqb, ne_eqb, le-leb, lt-leb}
 use Rattle.definition.specs.Threading.{Ends}
 use Rattle.definition.specs.Evidence.{Branches, bare, branch}
 use Rattle.definition.specs.Search.{SearchInput, Offer, real_branches, best}
-use Rattle.threading_node.specs.Ends.{ends}
 use Rattle.threading_node.specs.Slots.{cols, Slot}
 use Rattle.threading_node.specs.Cells.{left}
 use Rattle.threading_node.specs.Take.{Wide, wide-slot}

@@ -1,6 +1,6 @@
 -- The order of the waiting records: the greater score first, and of equal scores the smaller number. A linear order, whatever stands in the table:
 -- a NaN counts as the least score.
-use Rattle.std.specs.Prelude.{◌≡◌, ◌⊎◌, Bool, true, false, List, ℕ, ◌-◌, ◌<◌, ◌≤◌, ltb, length, get_or, Float}
+use Rattle.std.specs.Prelude.{◌≡◌, ◌⊎◌, Bool, true, false, List, ℕ, ◌<◌, ◌≤◌, ltb, length, get_or, Float}
 use Rattle.std.proofs.Common.{sym, ◌∙◌, inl, inr, arith, le-ltb, ltb-true, ltb-false}
 use Rattle.std.specs.Float.{nan, inf}
 use Rattle.std.specs.Float.Ieee.{lt, is_nan}

@@ -1,5 +1,5 @@
 -- The start: record 0 is the start path, which waits, and the pivotal edges are listed where recovery is asked for.
-use Rattle.std.specs.Prelude.{◌≡◌, refl, Bool, true, false, ℕ, ◌+◌, ◌-◌, ◌*◌, ◌<◌, ◌≤◌, ltb, pos, length, get_or, take, set, Float}
+use Rattle.std.specs.Prelude.{◌≡◌, refl, Bool, true, false, ℕ, ◌+◌, ◌<◌, ◌≤◌, ltb, pos, length, get_or, take, set, Float}
 use Rattle.std.proofs.Math.Path.{sym, ap}
 use Rattle.std.proofs.Common.{◌∙◌, arith, lt-ltb, length-set, get_or-set_same, get_or-set_other}
 use mathlib.Core.List.{List, [], ◌∷◌, map}

@@ -9,7 +9,6 @@ use native.Mathlib.Omega.{arith}
 use Rattle.std.proofs.Math.Seq.{get_or-set_same, get_or-set_other}
 use Rattle.std.specs.Float.Ieee.{nan, is_nan}
 use Rattle.laws.specs.ListLaws.{All, nil, cons, all-mono}
-use Rattle.laws.specs.Records.{field}
 use Rattle.definition.specs.Threading.{Ends}
 use Rattle.definition.specs.Evidence.{Branches}
 use Rattle.definition.specs.Score.{column_scoring}

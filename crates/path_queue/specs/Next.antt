@@ -1,5 +1,5 @@
 -- The next pivotal edge: the first from a place on whose mark is not 0.
-use Rattle.std.specs.Prelude.{◌≡◌, refl, List, [], ◌∷◌, ℕ, suc, ◌+◌, ◌-◌, ◌<◌, ◌≤◌, length, get_or, take, drop}
+use Rattle.std.specs.Prelude.{◌≡◌, refl, List, [], ◌∷◌, ℕ, suc, ◌+◌, ◌<◌, ◌≤◌, length, get_or, take, drop}
 use Rattle.std.proofs.Common.{sym, ap, ◌∙◌, add-one, arith, lt-ltb, le-ltb, drop_of_length-le, drop-cons, get_or-take, length-take-le}
 use Rattle.laws.specs.ListLaws.{All}
 use Rattle.closed_paths.specs.Cross.{unvisited}

@@ -1,5 +1,5 @@
 -- Where a path is split, and the record that is made of its front and an edge.
-use Rattle.std.specs.Prelude.{◌≡◌, refl, ◌⊎◌, List, ℕ, ◌+◌, ◌-◌, ◌<◌, ◌≤◌, length, get_or, take, set, Float}
+use Rattle.std.specs.Prelude.{◌≡◌, refl, ◌⊎◌, List, ℕ, ◌+◌, ◌<◌, ◌≤◌, length, get_or, take, set, Float}
 use Rattle.std.proofs.Common.{sym, ap, ◌∙◌, inl, inr, arith, get_or-take}
 use Rattle.std.proofs.lemmas.List.Edits.{sets}
 use Rattle.std.proofs.Math.Seq.{length-sets}

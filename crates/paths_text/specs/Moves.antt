@@ -13,8 +13,7 @@ use Rattle.laws.specs.ListLaws.{and_left, and_right}
 use Rattle.laws.specs.Stores.{sets_more}
 use Rattle.definition.specs.Text.{is_quality, values}
 use Rattle.definition.specs.Calls.{written_at}
-use Rattle.bytes.specs.Bytes.{rev}
-use Rattle.bytes.specs.Bytes as B
+use borrow.Rule.Slice.PartMut.{put_mid}
 use Rattle.paths_output.specs.Written.{written-sets, length-written, written-more}
 use Rattle.text_form.specs.Parts.{take-slice}
 
@@ -107,8 +106,7 @@ module _ (old : List ℕ) (from to dest less : ℕ) (m : Moves old from to dest 
 
 -- a part in the middle, reversed
 turned : (A X Z : List ℕ) (a t : ℕ) → length A ≡ a → length A + length X ≡ t
-    → take a (A ++ (X ++ Z)) ++ (rev (B.slice a t (A ++ (X ++ Z))) ++ drop t (A ++ (X ++ Z))) ≡ A ++ (rev X ++ Z)
-unfolding B.slice
+    → take a (A ++ (X ++ Z)) ++ (reverse (slice a t (A ++ (X ++ Z))) ++ drop t (A ++ (X ++ Z))) ≡ A ++ (reverse X ++ Z)
 turned A X Z a t e f =
     let p : take a (A ++ (X ++ Z)) ≡ A = take_at A (X ++ Z) a e in
     let w : A ++ (X ++ Z) ≡ (A ++ X) ++ Z = sym (append_assoc A X Z) in
@@ -117,12 +115,18 @@ turned A X Z a t e f =
     let r : drop a (take t (A ++ (X ++ Z))) ≡ X = ap (λ (y : List ℕ). drop a (take t y)) w ∙ ap (drop a) (take_at (A ++ X) Z t (omega arith)) ∙ drop_at A X a e in
     rw (p, q, r)
 
-rev-parts : (X Y : List ℕ) → rev (rev X ++ rev Y) ≡ Y ++ X
-unfolding rev
+-- the same of a part that was lent and is put back
+pub part_turned : (a t : ℕ) (T ys : List ℕ) → a ≤ t → ys ≡ reverse (take (t - a) (drop a T)) → put_mid a (t - a) T ys ≡ take a T ++ (reverse (slice a t T) ++ drop t T)
+part_turned a t T ys h e =
+    let z : a + (t - a) ≡ t = omega arith in
+    let w : take (t - a) (drop a T) ≡ slice a t T = take-slice (t - a) a T ∙ ap (λ (n : ℕ). slice a n T) z in
+    let v : drop (t - a) (drop a T) ≡ drop t T = drop-drop (t - a) a T ∙ ap (λ (n : ℕ). drop n T) z in
+    ap (λ (l : List ℕ). take a T ++ (l ++ drop (t - a) (drop a T))) (e ∙ ap reverse w) ∙ ap (λ (l : List ℕ). take a T ++ (reverse (slice a t T) ++ l)) v
+
+rev-parts : (X Y : List ℕ) → reverse (reverse X ++ reverse Y) ≡ Y ++ X
 rev-parts X Y = reverse-append (reverse X) (reverse Y) ∙ rw (reverse-reverse X, reverse-reverse Y)
 
-length-rev : (X : List ℕ) → length (rev X) ≡ length X
-unfolding rev
+length-rev : (X : List ℕ) → length (reverse X) ≡ length X
 length-rev X = length-reverse X
 
 module _ (T : List ℕ) (a m e : ℕ) (h : a ≤ m) (k : m ≤ e) (l : e ≤ length T) where
@@ -147,9 +151,9 @@ module _ (T : List ℕ) (a m e : ℕ) (h : a ≤ m) (k : m ≤ e) (l : e ≤ len
       sym (ap (λ (z : List ℕ). take a T ++ (X ++ z)) y ∙ ap (λ (z : List ℕ). take a T ++ z) x ∙ take-append-drop a T)
 
   pub rotated : (T1 T2 T3 : List ℕ)
-      → T1 ≡ take a T ++ (rev (B.slice a m T) ++ drop m T)
-      → T2 ≡ take m T1 ++ (rev (B.slice m e T1) ++ drop e T1)
-      → T3 ≡ take a T2 ++ (rev (B.slice a e T2) ++ drop e T2)
+      → T1 ≡ take a T ++ (reverse (slice a m T) ++ drop m T)
+      → T2 ≡ take m T1 ++ (reverse (slice m e T1) ++ drop e T1)
+      → T3 ≡ take a T2 ++ (reverse (slice a e T2) ++ drop e T2)
       → T3 ≡ take a T ++ (Y ++ (X ++ drop e T))
   rotated T1 T2 T3 p q r =
       let A : List ℕ = take a T in
@@ -159,22 +163,22 @@ module _ (T : List ℕ) (a m e : ℕ) (h : a ≤ m) (k : m ≤ e) (l : e ≤ len
       let ly : length Y ≡ e - m = length-slice m e T l in
       let lr = length-rev X in
       let ls = length-rev Y in
-      let p' : T1 ≡ A ++ (rev X ++ (Y ++ Z)) =
-      p ∙ ap (λ (t : List ℕ). take a t ++ (rev (B.slice a m t) ++ drop m t)) four ∙ turned A X (Y ++ Z) a m la (omega arith)
+      let p' : T1 ≡ A ++ (reverse X ++ (Y ++ Z)) =
+      p ∙ ap (λ (t : List ℕ). take a t ++ (reverse (slice a m t) ++ drop m t)) four ∙ turned A X (Y ++ Z) a m la (omega arith)
       in
-      let lb = length-append A (rev X) in
-      let q' : T2 ≡ (A ++ rev X) ++ (rev Y ++ Z) =
+      let lb = length-append A (reverse X) in
+      let q' : T2 ≡ (A ++ reverse X) ++ (reverse Y ++ Z) =
       q
-      ∙ ap (λ (t : List ℕ). take m t ++ (rev (B.slice m e t) ++ drop e t)) (p' ∙ sym (append_assoc A (rev X) (Y ++ Z)))
-      ∙ turned (A ++ rev X) Y Z m e (omega arith) (omega arith)
+      ∙ ap (λ (t : List ℕ). take m t ++ (reverse (slice m e t) ++ drop e t)) (p' ∙ sym (append_assoc A (reverse X) (Y ++ Z)))
+      ∙ turned (A ++ reverse X) Y Z m e (omega arith) (omega arith)
       in
-      let lc = length-append (rev X) (rev Y) in
-      let w : (A ++ rev X) ++ (rev Y ++ Z) ≡ A ++ ((rev X ++ rev Y) ++ Z) =
-      append_assoc A (rev X) (rev Y ++ Z) ∙ ap (λ (t : List ℕ). A ++ t) (sym (append_assoc (rev X) (rev Y) Z))
+      let lc = length-append (reverse X) (reverse Y) in
+      let w : (A ++ reverse X) ++ (reverse Y ++ Z) ≡ A ++ ((reverse X ++ reverse Y) ++ Z) =
+      append_assoc A (reverse X) (reverse Y ++ Z) ∙ ap (λ (t : List ℕ). A ++ t) (sym (append_assoc (reverse X) (reverse Y) Z))
       in
       r
-      ∙ ap (λ (t : List ℕ). take a t ++ (rev (B.slice a e t) ++ drop e t)) (q' ∙ w)
-      ∙ turned A (rev X ++ rev Y) Z a e la (omega arith)
+      ∙ ap (λ (t : List ℕ). take a t ++ (reverse (slice a e t) ++ drop e t)) (q' ∙ w)
+      ∙ turned A (reverse X ++ reverse Y) Z a e la (omega arith)
       ∙ ap (λ (t : List ℕ). A ++ (t ++ Z)) (rev-parts X Y)
       ∙ ap (λ (t : List ℕ). A ++ t) (append_assoc Y X Z)
 

@@ -9,7 +9,6 @@ ghost use Rattle.text_form.specs.Reads.{reads_from};
 ghost use Rattle.paths_text.specs.Moves.{Moves, lessened, Joins};
 ghost use Rattle.paths_text.specs.Gather.{Gathers, Gathered, Nexts, Nexted};
 
-use bytes::reverse;
 use text_form::reads::{Pair, read_pair};
 
 // How far the reads are gathered: the place of the next one, the bases of those before it, and how many these are.
@@ -38,9 +37,9 @@ fn rotate(text: &mut [u8], a: usize, m: usize, e: usize)
     requires { (a ≤ m) × (m ≤ e) × (e ≤ length text.old) }
     ensures { text.new ≡ take a text.old ++ (slice m e text.old ++ (slice a m text.old ++ drop e text.old)) }
 {
-    reverse(text, a, m);
-    reverse(text, m, e);
-    reverse(text, a, e);
+    text[a..m].reverse();
+    text[m..e].reverse();
+    text[a..e].reverse();
 }
 
 // The read's bases join those that end at `end`, and its qualities the `size` qualities behind them.

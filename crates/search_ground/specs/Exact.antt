@@ -1,5 +1,5 @@
 -- The edge table cut off behind the symbolic edge holds the built graph as well. Assumes nothing.
-use Rattle.std.specs.Prelude.{◌≡◌, List, ◌++◌, ℕ, ◌+◌, ◌*◌, ◌<◌, ◌≤◌, take}
+use Rattle.std.specs.Prelude.{◌≡◌, List, ◌++◌, ℕ, ◌+◌, ◌<◌, ◌≤◌, take}
 use Rattle.std.proofs.Common.{◌∙◌, arith, get_or-take}
 use Rattle.definition.specs.Limits.{Sample}
 use Rattle.assembly.specs.Fields.{edge_field, IsEdgeField, edge_cell, from_field, to_field, support_field, mark_field, sequence_field, place_field}

@@ -1,8 +1,8 @@
 // An input read whole into a lent slice: a read that fails is told from the end of the input.
 #![tactic(auto)]
 
-ghost use Rattle.std.specs.Prelude.{◌≡◌, ◌-◌, ◌≤◌, length};
-ghost use Rattle.whole_input.specs.Readings.{turn_of, ended_at, TookWithin, Within};
+ghost use Rattle.std.specs.Prelude.{◌≡◌, ◌-◌, ◌≤◌, length, take, drop};
+ghost use Rattle.whole_input.specs.Readings.{turn_of, ended_at, input_of, TookWithin, Within, Gave, Ends, Told};
 
 use std::io;
 use std::io::Read;
@@ -33,7 +33,8 @@ fn turn_of(got: io::Result<usize>) -> Turn
 
 // One read into `bytes`.
 fn read_once<R: Read>(file: &mut R, bytes: &mut [u8]) -> Turn
-    ensures { TookWithin result (length bytes.old) }
+    ensures within { TookWithin result (length bytes.old) }
+    ensures input { Gave result (R.remaining file.old) (R.remaining file.new) bytes.new }
 {
     let got = file.read(bytes);
     turn_of(got)
@@ -42,7 +43,9 @@ fn read_once<R: Read>(file: &mut R, bytes: &mut [u8]) -> Turn
 // One read behind the first `done` bytes.
 fn read_behind<R: Read>(file: &mut R, bytes: &mut [u8], done: usize) -> Turn
     requires { done ≤ length bytes.old }
-    ensures { TookWithin result (length bytes.old - done) }
+    ensures within { TookWithin result (length bytes.old - done) }
+    ensures front { take done bytes.new ≡ take done bytes.old }
+    ensures input { Gave result (R.remaining file.old) (R.remaining file.new) (drop done bytes.new) }
 {
     read_once(file, &mut bytes[done..])
 }
@@ -62,16 +65,19 @@ fn ended_at(n: usize, turn: Turn) -> Reading
 
 // The slice is full: one byte more shows whether the input goes on.
 fn read_end<R: Read>(file: &mut R, n: usize) -> Reading
-    ensures { Within result n }
+    ensures within { Within result n }
+    ensures input { Ends result n (R.remaining file.old) }
 {
     let mut more = [0u8; 1];
     let turn = read_once(file, &mut more);
     ended_at(n, turn)
 }
 
-// Reads until the input ends; each turn leaves fewer bytes free.
+// Reads until the input ends; each turn leaves fewer bytes free. Where it is known which bytes a reader has left, as of one over memory, an input told
+// whole is all of these.
 pub fn read_whole<R: Read>(file: &mut R, bytes: &mut [u8]) -> Reading
-    ensures { Within result (length bytes.new) }
+    ensures within { Within result (length bytes.new) }
+    ensures input { Told (R.remaining file.old) (input_of result bytes.new) }
 {
     let mut done: usize = 0;
     while done < bytes.len() {

@@ -1,5 +1,4 @@
 -- `ends_rise` meets its contract. The invariant: what is left of the ends decides as the whole does, `last` being the end before. Assumes nothing.
-use Prim.Native.Nat.{◌-◌}
 use Rattle.limits.specs.Loops.{rising-start, rising-stop, rising-next, rising-end}
 use Rattle.limits.proofs.ends_rise.Goals as goal
 

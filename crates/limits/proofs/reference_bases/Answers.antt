@@ -1,5 +1,4 @@
 -- `reference_bases` meets its contract. The invariant: what is left of the reference decides as the whole does. Assumes nothing.
-use Prim.Native.Nat.{◌-◌}
 use Rattle.limits.specs.Loops.{bases-start, bases-stop, bases-next, bases-end}
 use Rattle.limits.proofs.reference_bases.Goals as goal
 

@@ -1,4 +1,3 @@
-use Prim.Native.Nat.{◌-◌}
 use native.Mathlib.Omega.{arith}
 use Rattle.path_heap.specs.First.{Known, leads, leads-order}
 use Rattle.laws.specs.Heaps.{sink-start, sink-next}

@@ -21,7 +21,7 @@ pub returns : goal.returns
 returns c =
     let n : c.loop-i.i ≡ c.args.n = omega arith in
     let e : c.loop-i.rows ≡ written c.args.scores.now c.args.closings.now c.args.edges.now c.args.n c.args.rows.now =
-        c.loop-i.invariant.are ∙ ap (λ (m : ℕ). written c.args.scores.now c.args.closings.now c.args.edges.now m c.args.rows.now) n in
+    c.loop-i.invariant.are ∙ ap (λ (m : ℕ). written c.args.scores.now c.args.closings.now c.args.edges.now m c.args.rows.now) n in
     subst
     (λ (l : List PathRow). Filled c.args.scores.now c.args.closings.now c.args.edges.now c.args.n c.args.rows.now l)
     (sym e)

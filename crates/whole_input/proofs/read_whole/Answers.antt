@@ -1,11 +1,13 @@
 -- `read_whole` meets its contract. Assumes nothing.
 use mathlib.Core.Path.{refl, ◌∙◌}
 use native.Mathlib.Omega.{arith}
-use Rattle.whole_input.specs.Readings.{took-is, within-as}
+use Rattle.whole_input.specs.Readings.{took-is, within-as, gave-is, joined, joined-none, told-whole, told-ended}
+use Rattle.std.proofs.KnownBytes.{Consumes-nil}
+use Rattle.std.proofs.lemmas.List.{length-drop}
 use Rattle.whole_input.proofs.read_whole.Goals as goal
 
 pub loop-done-init : goal.loop-done-init
-loop-done-init g c = (omega arith, refl)
+loop-done-init g c = (omega arith, refl, Consumes-nil _)
 
 pub read_behind-turn-requires : goal.read_behind-turn-requires
 read_behind-turn-requires g c = c.loop-done.invariant.0
@@ -17,19 +19,30 @@ pub shape_of-bytes-then-n-eq0 : goal.shape_of-bytes-then-n-eq0
 shape_of-bytes-then-n-eq0 g c = c.read_behind-turn.auto.bytes ∙ c.loop-done.invariant.1
 
 pub returns-then-n-eq0 : goal.returns-then-n-eq0
-returns-then-n-eq0 g c = omega (arith, c.loop-done.invariant.0, c.read_behind-turn.auto.bytes)
+returns-then-n-eq0 g c =
+    record {
+      within = omega (arith, c.loop-done.invariant.0, c.read_behind-turn.auto.bytes);
+      input =
+          (let h = gave-is _ _ _ _ _ c.read_behind-turn.ensures.input c.in-Took.is in
+          let left = h.1 c.if-n-eq0.true (omega (arith, c.loop-done-test.true, c.read_behind-turn.auto.bytes, length-drop c.loop-done.done c.read_behind-turn.new.bytes)) in
+          told-whole _ _ _ _ (joined-none _ _ _ _ _ _ _ c.read_behind-turn.ensures.front c.loop-done.invariant.2 h.0 c.if-n-eq0.true) left);
+    }
 
 pub overflow_add-done : goal.overflow_add-done
-overflow_add-done g c = omega (arith, took-is _ _ _ c.read_behind-turn.ensures c.in-Took.is, c.loop-done.invariant.0)
+overflow_add-done g c = omega (arith, took-is _ _ _ c.read_behind-turn.ensures.within c.in-Took.is, c.loop-done.invariant.0)
 
 pub loop-done-smaller : goal.loop-done-smaller
-loop-done-smaller g c = omega (arith, took-is _ _ _ c.read_behind-turn.ensures c.in-Took.is, c.loop-done.invariant.0, c.read_behind-turn.auto.bytes, c.if-n-eq0.false)
+loop-done-smaller g c = omega (arith, took-is _ _ _ c.read_behind-turn.ensures.within c.in-Took.is, c.loop-done.invariant.0, c.read_behind-turn.auto.bytes, c.if-n-eq0.false)
 
 pub loop-done-preserved : goal.loop-done-preserved
-loop-done-preserved g c = (omega (arith, took-is _ _ _ c.read_behind-turn.ensures c.in-Took.is, c.loop-done.invariant.0, c.read_behind-turn.auto.bytes), c.read_behind-turn.auto.bytes ∙ c.loop-done.invariant.1)
+loop-done-preserved g c = (omega (arith, took-is _ _ _ c.read_behind-turn.ensures.within c.in-Took.is, c.loop-done.invariant.0, c.read_behind-turn.auto.bytes), c.read_behind-turn.auto.bytes ∙ c.loop-done.invariant.1, joined _ _ _ _ _ _ _ c.read_behind-turn.ensures.front c.loop-done.invariant.2 (gave-is _ _ _ _ _ c.read_behind-turn.ensures.input c.in-Took.is).0)
 
 pub shape_of-bytes : goal.shape_of-bytes
 shape_of-bytes g c = c.loop-done.invariant.1
 
 pub returns : goal.returns
-returns g c = within-as c.read_end.result _ _ c.read_end.ensures c.loop-done.invariant.0
+returns g c =
+    record {
+      within = within-as c.read_end.result _ _ c.read_end.ensures.within c.loop-done.invariant.0;
+      input = told-ended _ _ _ _ _ c.read_end.ensures.input c.loop-done.invariant.2;
+    }
