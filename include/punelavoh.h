@@ -1,4 +1,4 @@
-/* The calls of the static library libpunelavoh.a, which `rt staticlib punelavoh` proves and writes. Made by tools/c-header, and not by hand.
+/* The calls of the static library libpunelavoh.a, which `tools/staticlib` proves and writes. Made by tools/c-header, and not by hand.
 
    All memory is the caller's, before, during and after a call: no call allocates, and none keeps a pointer. Calls may be made from several threads at
    once, each with memory of its own to write to.

@@ -10,7 +10,7 @@ fn main() {
     let folder = env::var_os("PUNELAVOH_STATICLIB").map_or(here.join("../../target/staticlib"), PathBuf::from);
     let library = folder.join("libpunelavoh.a");
     if !library.is_file() {
-        let mend = "make it with `rt staticlib punelavoh`, or let PUNELAVOH_STATICLIB hold the absolute path of its folder";
+        let mend = "make it with `tools/staticlib`, or let PUNELAVOH_STATICLIB hold the absolute path of its folder";
         println!("cargo:warning=there is no {}: {mend}", library.display());
     }
     println!("cargo:rerun-if-changed={}", library.display());

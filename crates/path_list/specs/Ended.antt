@@ -3,7 +3,7 @@ use Rattle.std.specs.Prelude.{◌≡◌, ◌⊎◌, length, get_or, take, Float}
 use Rattle.std.proofs.Common.{sym, ◌∙◌, inl, inr, get_or-take, length-take-le}
 use Rattle.std.proofs.Math.Path.{ap}
 use mathlib.Core.List.{List, [], ◌∷◌, ◌++◌, map}
-use Prim.Native.Nat.{ℕ, zero, suc, ◌+◌, ◌-◌, ◌*◌, ◌^◌, ◌<◌, ◌≤◌}
+use Prim.Native.Nat.{ℕ, zero, suc, ◌+◌, ◌*◌, ◌^◌, ◌<◌, ◌≤◌}
 use native.Mathlib.Omega.{arith}
 use Rattle.laws.specs.ListLaws.{All, nil, cons}
 use Rattle.laws.specs.Sorting.{same_or}
@@ -18,7 +18,7 @@ use Rattle.assembly.specs.Table.{Distinct}
 use Rattle.assembly.specs.Store.{edge_at, edges_of, graph_of}
 use Rattle.assembly.specs.Moves.{kmers-same}
 use Rattle.junction_tree_graph.specs.Built.{BuiltAt}
-use Rattle.path_edges.specs.Path.{Table, edges}
+use Rattle.path_edges.specs.Path.{Table}
 use Rattle.closed_paths.specs.Recover.{all-at, edges-in}
 use Rattle.search_state.specs.declared.Setting.{Setting}
 use Rattle.search_state.specs.declared.Progress.{Progress}

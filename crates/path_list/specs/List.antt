@@ -1,5 +1,5 @@
 -- What the writer of the list asks of its slices, and what it leaves there.
-use Rattle.std.specs.Prelude.{◌≡◌, refl, Bool, List, map, ℕ, ◌+◌, ◌-◌, ◌*◌, ◌^◌, ◌<◌, ◌≤◌, length, take, drop, Float}
+use Rattle.std.specs.Prelude.{◌≡◌, refl, Bool, List, map, ℕ, ◌+◌, ◌*◌, ◌^◌, ◌<◌, ◌≤◌, length, take, drop, Float}
 use Rattle.std.proofs.Math.Path.{sym}
 use Rattle.std.proofs.Common.{ap, ◌∙◌, arith, length-drop, get_or-take, length-take-le}
 use Rattle.std.proofs.Math.Bool.{false}

@@ -1,6 +1,6 @@
 -- The text as it was read, and checked.
 use Rattle.std.specs.Prelude.{◌≡◌, refl, ◌⊎◌, List, ◌++◌, ℕ, ◌-◌, ◌<◌, ◌≤◌, length, take, drop}
-use Rattle.std.proofs.Common.{sym, ap, subst, ◌∙◌, inl, inr, arith, length-append, length-drop}
+use Rattle.std.proofs.Common.{sym, ap, ◌∙◌, inl, inr, arith, length-append, length-drop}
 use Rattle.std.proofs.Math.Option.{Option, none, some}
 use Rattle.std.proofs.lemmas.List.{take-append-le, drop-append-le}
 use Rattle.definition.specs.Refusal.{first_broken}
@@ -9,7 +9,6 @@ use Rattle.whole_input.specs.Readings.{Within, input_of}
 use Rattle.whole_input.specs.declared.Reading.{Reading}
 use Rattle.whole_input.specs.declared.Reading.TheVariants as W
 use Rattle.text_form.specs.Parts.{part}
-use Rattle.paths_text.specs.Checks.{Handed}
 use Rattle.paths_text.specs.Sources.{Ready, TextSays}
 use Rattle.paths_text.specs.declared.source.Source.{Source}
 use Rattle.paths_text.specs.declared.source.Read.{Read}

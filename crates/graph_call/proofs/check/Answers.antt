@@ -1,4 +1,5 @@
 -- `check` meets its contract. Assumes nothing.
+use Rattle.std.proofs.Common.{ap, not}
 use mathlib.Core.Path.{sym}
 use mathlib.Core.List.{[]}
 use Rattle.limits.specs.Long.{none-short}
@@ -19,7 +20,7 @@ pub lent_fits-fits-requires : goal.lent_fits-fits-requires
 lent_fits-fits-requires c = tt
 
 pub returns-then-not-fits : goal.returns-then-not-fits
-returns-then-not-fits c = λ quality. late-refused _ _ _ (c.check_graph-refusal.ensures quality [] [] (sym none-short)) c.if-refusal-gt0.false _ c.told_for-told.ensures _ (told-no _ _ c.lent_fits-fits.ensures c.if-not-fits.true-raw)
+returns-then-not-fits c = λ quality. late-refused _ _ _ (c.check_graph-refusal.ensures quality [] [] (sym none-short)) c.if-refusal-gt0.false _ c.told_for-told.ensures _ (told-no _ _ c.lent_fits-fits.ensures (ap not c.if-not-fits.true))
 
 pub returns : goal.returns
-returns c = λ quality. late-accepted _ _ _ (c.check_graph-refusal.ensures quality [] [] (sym none-short)) c.if-refusal-gt0.false _ c.told_for-told.ensures _ (told-yes _ _ c.lent_fits-fits.ensures c.if-not-fits.false-raw)
+returns c = λ quality. late-accepted _ _ _ (c.check_graph-refusal.ensures quality [] [] (sym none-short)) c.if-refusal-gt0.false _ c.told_for-told.ensures _ (told-yes _ _ c.lent_fits-fits.ensures (ap not c.if-not-fits.false))

@@ -33,7 +33,7 @@ pub edge_to-t-requires : goal.edge_to-t-requires
 edge_to-t-requires c = list-room c.requires c.loop-p.invariant c.loop-p-test.true c.next_out-r.ensures c.if-r-eq0.false
 
 pub overflow_add-t : goal.overflow_add-t
-overflow_add-t c = let e = c.edge_to-t.ensures in omega (arith, c.shared_slice_known-2-1.given (edge_cell (c.next_out-r.result - 1) to_field))
+overflow_add-t c = let e = c.edge_to-t.ensures in omega (arith, c.type_inv.edges (edge_cell (c.next_out-r.result - 1) to_field))
 
 pub loop-p-smaller : goal.loop-p-smaller
 loop-p-smaller c = let l = c.loop-p-test.true in omega arith

@@ -19,7 +19,7 @@ pub bounds-edges-i : goal.bounds-edges-i
 bounds-edges-i c = let h = c.requires.1 (let z = c.if-slot-eq0.false in omega arith) in let g = c.well_formed.0 in omega arith
 
 pub overflow_cast-w : goal.overflow_cast-w
-overflow_cast-w c = let a = c.args in omega (arith, c.shared_slice_known-1.given ((a.slot - 1) * 6 + 1))
+overflow_cast-w c = let a = c.args in omega (arith, c.type_inv.edges ((a.slot - 1) * 6 + 1))
 
 pub returns-then-w-t : goal.returns-then-w-t
 returns-then-w-t c = lesser-low _ _ _ _ c.if-w-t.true
@@ -40,7 +40,7 @@ pub bounds-edges-j : goal.bounds-edges-j
 bounds-edges-j c = let h = c.requires.0 (let z = c.if-best-eq0.false in omega arith) in let g = c.well_formed.0 in omega arith
 
 pub overflow_cast-to : goal.overflow_cast-to
-overflow_cast-to c = let a = c.args in omega (arith, c.shared_slice_known-2-1.given ((a.best - 1) * 6 + 1))
+overflow_cast-to c = let a = c.args in omega (arith, c.type_inv.edges ((a.best - 1) * 6 + 1))
 
 pub returns-then-w-to : goal.returns-then-w-to
 returns-then-w-to c = lesser-new _ _ _ _ c.if-slot-eq0.false c.if-w-t.false c.if-w-to.true

@@ -19,7 +19,7 @@ pub bounds-vertices-v : goal.bounds-vertices-v
 bounds-vertices-v c = let h = c.requires.0 in let l = c.loop-c-test.true in let g = c.well_formed.0 in omega arith
 
 pub overflow_cast-slot : goal.overflow_cast-slot
-overflow_cast-slot c = let a = c.args in omega (arith, c.shared_slice_known-in-loop-c-1.given (a.v * 12 + c.loop-c.c))
+overflow_cast-slot c = let a = c.args in omega (arith, c.type_inv.vertices (a.v * 12 + c.loop-c.c))
 
 pub lesser-best-requires : goal.lesser-best-requires
 lesser-best-requires c = (c.loop-c.invariant.1, c.requires.1 c.loop-c.c c.loop-c-test.true)
