@@ -1,5 +1,5 @@
 -- Between turns: the stores hold the definition's state, and there is room for whatever a turn makes.
-use Rattle.std.specs.Prelude.{◌≡◌, true, List, ℕ, ◌+◌, ◌-◌, ◌*◌, ◌<◌, ◌≤◌, length, Float}
+use Rattle.std.specs.Prelude.{◌≡◌, true, List, ℕ, ◌+◌, ◌*◌, ◌<◌, ◌≤◌, length, Float}
 use Rattle.std.proofs.Common.{mul-le-mul_right, arith}
 use Rattle.definition.specs.Limits.{column_fits}
 use Rattle.definition.specs.Score.{column_scoring}
@@ -9,10 +9,8 @@ use Rattle.theorems.proofs.Column.{NotNan, column-keeps}
 use Rattle.theorems.proofs.Walks.{GoodState}
 use Rattle.theorems.proofs.Turns.{turn_more}
 use Rattle.tables.specs.Widths.{offer_numbers}
-use Rattle.path_heap.specs.Heap.{waiting}
 use Rattle.search_state.specs.declared.Setting.{Setting}
 use Rattle.search_state.specs.declared.Progress.{Progress}
-use Rattle.search_state.specs.declared.Step.TheVariants.{Refused}
 use Rattle.search_state.specs.Ground.{Ground}
 use Rattle.search_state.specs.State.{Holds, Made as Counted, Room}
 use Rattle.junction_kbest.specs.Turn.{Stopped}

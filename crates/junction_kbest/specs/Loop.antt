@@ -23,7 +23,7 @@ use Rattle.junction_kbest.specs.Run.{rest, pivotal_for, rest-start, rest_ended, 
 use Rattle.junction_kbest.specs.Counts.{waiting-many, closed-many}
 use Rattle.junction_kbest.specs.Between.{At, turn_of, Onward, TurnBy, TurnAsks, NextTurn, room-kept}
 use Rattle.junction_kbest.specs.Pivot.{TurnMadeIn, PivotTurn}
-use Rattle.junction_kbest.specs.Find.{searched, Finds, Ended, Found}
+use Rattle.junction_kbest.specs.Find.{searched, Finds, Found}
 
 -- ---- one turn
 module _ (g : Setting) (vs es x index targets : List ℕ) (column : List Float) (t : List ℕ) (sc : List Float) (ac queue closed order marks walks : List ℕ) (p : Progress)

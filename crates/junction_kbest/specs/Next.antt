@@ -1,5 +1,5 @@
 -- A turn where paths wait, by what each callee answers.
-use Rattle.std.specs.Prelude.{◌≡◌, refl, Bool, true, false, cond, List, [], ◌∷◌, ℕ, ◌-◌, ◌<◌, ◌≤◌, eqb, ltb, length, Float}
+use Rattle.std.specs.Prelude.{◌≡◌, refl, Bool, true, false, cond, List, [], ◌∷◌, ℕ, ◌<◌, ◌≤◌, eqb, ltb, length, Float}
 use Rattle.std.proofs.Common.{sym, ap, subst, ◌∙◌, arith, ltb-true, ltb-false}
 use Rattle.definition.specs.Score.{column_scoring}
 use Rattle.definition.specs.Evidence.{Branches}
