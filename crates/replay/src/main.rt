@@ -31,10 +31,7 @@ fn main(rt: HostRuntime) -> io::Result<()> {
     let mut text = [0u8; 327680];
     let reading = read_whole(&mut rt.stdin(), &mut text);
     let Reading::Whole(n) = reading else {
-        return Err(Error::new(
-            ErrorKind::InvalidData,
-            "the data could not be read whole",
-        ));
+        return Err(Error::new(ErrorKind::InvalidData, "the data could not be read whole"));
     };
     let total = replay_text(&rt, &text[..n]);
     let passed = total.passed;

@@ -173,4 +173,3 @@ slice_bounds-search_tables_left-end-3 c = array-kept 2863311530 _ c.lengths_lent
 
 pub slice_bounds-search_tables_left-end-4 : goal.slice_bounds-search_tables_left-end-4
 slice_bounds-search_tables_left-end-4 c = array-kept 2863311530 _ c.lengths_lent-l.result.walks c.list_columns-answer.new.w_walks c.list_columns-answer.auto.w_walks
-
