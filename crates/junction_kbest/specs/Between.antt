@@ -22,7 +22,7 @@ use Rattle.junction_kbest.specs.declared.Turned.TheVariants as turned
 -- the stores as a search f has them between turns
 pub record At (f : SearchInput) (g : Setting) (vs es x index targets : List ℕ) (column : List Float) (bs : ℕ → List Branches) (closing : ℕ → ℕ) (t : List ℕ) (sc : List Float) (ac queue closed order marks : List ℕ)
     (p : Progress) (s : State Float) : Type 0 where
-  pub ground : Ground f g vs es x index targets
+  pub on_ground : Ground f g vs es x index targets
   pub fits : column_fits column ≡ true
   pub holds : Holds f g es x index targets bs closing t sc ac queue closed order marks p s
   pub counted : Counted p 0
@@ -95,8 +95,8 @@ module _ (f : SearchInput) (g : Setting) (vs es x index targets : List ℕ) (col
       let b = A.room.scores in
       let c = A.room.actives in
       let d = A.room.closed-room in
-      let h = A.ground.pushes-fit in
-      let k = A.ground.asked-fits in
+      let h = A.on_ground.pushes-fit in
+      let k = A.on_ground.asked-fits in
       let m : (p.records + 9) * g.active ≤ (g.pushes + g.asked + 8) * g.active = mul-le-mul_right g.active (omega arith) in
       record { paths = omega arith; scores = omega arith; actives = omega arith; number = omega arith; closed-room = omega arith }
 

@@ -42,7 +42,7 @@ pub record Roomy (g : Setting) (t : List ℕ) (sc : List Float) (ac closed : Lis
 -- the stores as a search f has them, once the path is taken and its chain is known
 pub record Extending (f : SearchInput) (g : Setting) (vs es x index targets : List ℕ) (column : List Float) (bs : ℕ → List Branches) (closing : ℕ → ℕ) (t : List ℕ) (sc : List Float) (ac queue closed order marks : List ℕ)
     (p : Progress) (s : State Float) (taken : Taken) : Type 0 where
-  pub ground : Ground f g vs es x index targets
+  pub on_ground : Ground f g vs es x index targets
   pub fits : column_fits column ≡ true
   pub holds : Holds f g es x index targets bs closing t sc ac queue closed order marks p s
   pub idle : Idle t p.records taken.path
@@ -187,7 +187,7 @@ module _ (f : SearchInput) (g : Setting) (vs es x index targets : List ℕ) (col
       let b : p.records * g.active ≤ (p.records + 9) * g.active = mul-le-mul_right g.active (omega arith) in
       let c = E.roomy.number in
       record {
-        ground = E.ground;
+        on_ground = E.on_ground;
         records = E.holds.records;
         known = E.idle.known;
         following = E.following;
@@ -215,7 +215,7 @@ module _ (f : SearchInput) (g : Setting) (vs es x index targets : List ℕ) (col
         let c = E.roomy.actives in
         let d : (p.records + 1) * g.active ≤ (p.records + 9) * g.active = mul-le-mul_right g.active (omega arith) in
         let e = E.roomy.number in
-        joined-closing f g vs es x index targets bs cl t sc ac queue closed order marks p s taken E.holds E.idle.known E.apart t₁ sc₁ ac₁ J E.ground E.roomy.closed-room (omega arith)
+        joined-closing f g vs es x index targets bs cl t sc ac queue closed order marks p s taken E.holds E.idle.known E.apart t₁ sc₁ ac₁ J E.on_ground E.roomy.closed-room (omega arith)
         (omega arith) (omega arith) (omega arith)
 
     closed-want : {o : Result (State Float)} → closing f es index targets J.branches t₁ sc₁ taken s ≡ o → close_at f v second (chain_after f first) s ≡ o
@@ -233,7 +233,7 @@ module _ (f : SearchInput) (g : Setting) (vs es x index targets : List ℕ) (col
       chain-third = ap (chain_after f) C.path ∙ same-chain
 
       pub takes : Taking g vs es x index targets t₂ sc₂ ac₁ p₁.records taken f C.branches
-      takes = record { ground = E.ground; records = C.holds.records; known = C.known; follows = C.following }
+      takes = record { on_ground = E.on_ground; records = C.holds.records; known = C.known; follows = C.following }
 
       closer : Closer p p₁
       closer = closer-of p p₁ C.progress

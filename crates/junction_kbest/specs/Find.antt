@@ -19,7 +19,7 @@ searched column f g recovery = search (column_scoring column) f g.asked g.pushes
 
 pub record Finds (g : Setting) (vs es x index targets : List ℕ) (column : List Float) (t : List ℕ) (sc : List Float) (ac queue closed order marks walks : List ℕ) : Type 0 where
   pub input : SearchInput
-  pub ground : Ground input g vs es x index targets
+  pub on_ground : Ground input g vs es x index targets
   pub fits : column_fits column ≡ true
   pub room : Room g t sc ac queue closed
   pub allowed : 0 < g.pushes

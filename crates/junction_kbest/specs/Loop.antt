@@ -49,7 +49,7 @@ pub record Left (f : SearchInput) (g : Setting) (vs es x index targets : List �
 
 pub record Running (g : Setting) (vs es x index targets : List ℕ) (column : List Float) (recovery : Bool) (t : List ℕ) (sc : List Float) (ac queue closed order marks walks : List ℕ) (p : Progress) : Type 0 where
   pub input : SearchInput
-  pub ground : Ground input g vs es x index targets
+  pub on_ground : Ground input g vs es x index targets
   pub run : (f : SearchInput) → Ground f g vs es x index targets → Left f g vs es x index targets column recovery t sc ac queue closed order marks p
   pub walks-room : g.most ≤ length walks
   pub rows : offer_numbers ≤ length walks
@@ -76,7 +76,7 @@ module _ (g : Setting) (vs es x index targets : List ℕ) (column : List Float) 
       record {
         lists =
             record {
-              based = record { f = F.input; x = x; index = index; targets = targets; ground = F.ground };
+              based = record { f = F.input; x = x; index = index; targets = targets; on_ground = F.on_ground };
               queue-room = F.queued;
               order-room = F.order-room;
               marks-room = F.marks-room;
@@ -96,7 +96,7 @@ module _ (g : Setting) (vs es x index targets : List ℕ) (column : List Float) 
       let b = F.rows in
       record {
         input = F.input;
-        ground = F.ground;
+        on_ground = F.on_ground;
         run = λ f G.
             record {
               branches = λ r. [];
@@ -104,7 +104,7 @@ module _ (g : Setting) (vs es x index targets : List ℕ) (column : List Float) 
               state = first_state (column_scoring column) (pivotal_for f recovery);
               at =
                   record {
-                    ground = G;
+                    on_ground = G;
                     fits = F.fits;
                     holds = B.each f x index targets ac closed column G;
                     counted = counted p B.is;
@@ -145,7 +145,7 @@ module _ (g : Setting) (vs es x index targets : List ℕ) (column : List Float) 
     module _ (unmet : p.closed < g.asked) where
       pub find-turn : TurnAsks g vs es x index targets column t sc ac queue closed order marks walks p
       find-turn =
-          let L = R.run R.input R.ground in
+          let L = R.run R.input R.on_ground in
           record { input = R.input; branches = L.branches; closings = L.closings; state = L.state; at = L.at; unmet = unmet; walks-room = R.walks-room; rows = R.rows }
 
       module _ (r : Turned) (t₁ : List ℕ) (sc₁ : List Float) (ac₁ queue₁ closed₁ marks₁ : List ℕ)
@@ -165,7 +165,7 @@ module _ (g : Setting) (vs es x index targets : List ℕ) (column : List Float) 
               let b = R.rows in
               record {
                 input = R.input;
-                ground = R.ground;
+                on_ground = R.on_ground;
                 run = λ f G.
                     (let L = R.run f G in
                     let O = onward f G in
@@ -185,8 +185,8 @@ module _ (g : Setting) (vs es x index targets : List ℕ) (column : List Float) 
           pub find-less : turns_left g order marks₁ q < turns_left g order marks p
           find-less =
               let f = R.input in
-              let L = R.run f R.ground in
-              let O = onward f R.ground in
+              let L = R.run f R.on_ground in
+              let O = onward f R.on_ground in
               let T = turn_more (column-keeps column L.at.fits) f g.pushes g.asked L.state O.state L.at.good O.is in
               let l = T.lower in
               let a = left_is f g vs es x index targets column L.branches L.closings t sc ac queue closed order marks p L.state L.at in

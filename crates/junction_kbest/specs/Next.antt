@@ -77,7 +77,7 @@ module _ (g : Setting) (vs es x index targets : List ℕ) (column : List Float) 
       going =
           subst (λ (q : Progress). Going f g vs es x index targets column bs cl t sc ac queue₁ closed order marks q (with_waiting s taken.rest) r.path) (sym T.left)
           (record {
-            ground = A.ground;
+            on_ground = A.on_ground;
             fits = A.fits;
             holds = taken.holds;
             idle = taken.idle;
@@ -226,7 +226,7 @@ module _ (g : Setting) (vs es x index targets : List ℕ) (column : List Float) 
                           is = is;
                           at =
                               record {
-                                ground = A.ground;
+                                on_ground = A.on_ground;
                                 fits = A.fits;
                                 holds = E.holds;
                                 counted = omega arith;

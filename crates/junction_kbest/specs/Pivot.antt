@@ -106,7 +106,7 @@ module _ (g : Setting) (es index targets t : List ℕ) (sc : List Float) (queue 
     resting =
         let a = space.actives in
         let m : (p.records + 1) * g.active ≤ (p.records + 9) * g.active = mul-le-mul_right g.active (omega arith) in
-        record { ground = A.ground; holds = A.holds; none = none; actives = omega arith }
+        record { on_ground = A.on_ground; holds = A.holds; none = none; actives = omega arith }
 
     still : s.waiting ≡ []
     still = none-wait A.holds none
@@ -194,7 +194,7 @@ module _ (g : Setting) (es index targets t : List ℕ) (sc : List Float) (queue 
                     is = is;
                     at =
                         record {
-                          ground = A.ground;
+                          on_ground = A.on_ground;
                           fits = A.fits;
                           holds = E.holds;
                           counted = omega arith;

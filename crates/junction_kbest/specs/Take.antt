@@ -33,7 +33,7 @@ use Rattle.junction_kbest.specs.Extend.{Roomy, Extending, MakesBy, ExtendsTaken,
 -- the stores as a search f has them, once the path is taken
 pub record Going (f : SearchInput) (g : Setting) (vs es x index targets : List ℕ) (column : List Float) (bs : ℕ → List Branches) (closing : ℕ → ℕ) (t : List ℕ) (sc : List Float) (ac queue closed order marks : List ℕ)
     (p : Progress) (s : State Float) (path : ℕ) : Type 0 where
-  pub ground : Ground f g vs es x index targets
+  pub on_ground : Ground f g vs es x index targets
   pub fits : column_fits column ≡ true
   pub holds : Holds f g es x index targets bs closing t sc ac queue closed order marks p s
   pub idle : Idle t p.records path
@@ -122,7 +122,7 @@ module _ (g : Setting) (vs es x index targets : List ℕ) (column : List Float) 
         let q = F.path in
         let d : since_of t path ≤ 5 = rw (ap (λ (r : PathRecord). r.since) e) at h in
         record {
-          ground = G.ground;
+          on_ground = G.on_ground;
           fits = G.fits;
           holds = G.holds;
           idle = rw q G.idle;
@@ -153,7 +153,7 @@ module _ (g : Setting) (vs es x index targets : List ℕ) (column : List Float) 
         let own = following-own index targets t path taken F in
         let k : taken.path < p.records = rw q G.idle.known in
         let view : ℕ → Path Float = λ r. path_of f es index targets bs t sc r in
-        let z = vertex-is f g vs es x index targets bs cl t sc ac queue closed order marks p s taken G.ground G.holds k own in
+        let z = vertex-is f g vs es x index targets bs cl t sc ac queue closed order marks p s taken G.on_ground G.holds k own in
         ap (λ (v : ℕ). extend_at (column_scoring column) f (view taken.path) (chain_after f (view taken.path)) v s) (sym z)
         ∙ ap (λ (r : ℕ). extend_at (column_scoring column) f (view r) (chain_after f (view r)) (defs.end_from (defs.end_from f.source (view r).edges) (chain_after f (view r))) s) q
         ∙ sym (take-extends (column_scoring column) f (view path) s d)

@@ -167,8 +167,8 @@ module _ {i : Input} {o : Outputs} {w : Tables} {b : Raise} (q : Searches i o w 
 
   module _ {vs₁ index₁ targets₁ : List ℕ} (k : Chained w.vertices w.edges b vs₁ index₁ targets₁) (lo : length index₁ ≡ length w.index) {g : Setting}
       (ge : g ≡ setting_for i b.vertices b.edges b.sink b.nodes i.graph_maxima.nodes g.least) (gl : Least i.threshold g.least) where
-    ground : Ground (search_input i (built_for i.sample)) g vs₁ w.edges w.nodes index₁ targets₁
-    ground =
+    on_ground : Ground (search_input i (built_for i.sample)) g vs₁ w.edges w.nodes index₁ targets₁
+    on_ground =
         subst (λ (h : Setting). Ground f h vs₁ w.edges w.nodes index₁ targets₁) (sym ge)
         (ground-of i rules q.checks.settings-fit at k.vertices (lies k.vertices lo) q.raised.there k.tabled g.least gl limits.nodes-most)
 
@@ -187,7 +187,7 @@ module _ {i : Input} {o : Outputs} {w : Tables} {b : Raise} (q : Searches i o w 
         let l-marks = q.marks in
         record {
           input = f;
-          ground = ground;
+          on_ground = on_ground;
           fits = q.checks.column_fits;
           room = rw ge (record {
             paths = (let z = q.paths in omega arith);
@@ -211,14 +211,14 @@ module _ {i : Input} {o : Outputs} {w : Tables} {b : Raise} (q : Searches i o w 
 
       pub search-stop : {n : ℕ} → r ≡ Refused n → {m : ℕ} → m ≡ search_refusal r → {a : ListAnswer} → a ≡ refused_answer m → Listed i (found i) a o o
       search-stop {n} d e {a} h =
-          let s : Stopped (searched i.column f g i.recovery) n = rw d at (F.is f ground) in
+          let s : Stopped (searched i.column f g i.recovery) n = rw d at (F.is f on_ground) in
           listed-refused i (found i) n a o
           (found-is i q.some (raised-built q.raised) _ searched-is ∙ none-stopped i (searched i.column f g i.recovery) n s)
           (h ∙ ap refused_answer (e ∙ ap search_refusal d))
 
       module _ {p : Progress} (d : r ≡ Paths p) where
         there : Ended f g w.edges w.nodes index₁ targets₁ i.column i.recovery t' sc' ac' queue' closed' order' marks' p
-        there = rw d at (F.is f ground)
+        there = rw d at (F.is f on_ground)
 
         reached : last_of (search (column_scoring i.column) f i.asked i.search_maxima.pushes i.recovery) ≡ some there.state
         reached = ap last_of (searched-is ∙ there.is)
@@ -287,7 +287,7 @@ module _ {i : Input} {o : Outputs} {w : Tables} {b : Raise} (q : Searches i o w 
             let asked_low = limits.asked-most in
             subst (λ (m : ℕ). list.Listable (i.sample.reference ++ i.sample.bases) vs₁ w.edges index₁ targets₁ t' sc' closed' i.sample.k m p.closed walks rank
             (length o.scores) (length o.closings) (length o.edges) (length o.bases) (length o.sequences) (length o.places)) most-is
-            (ended-listable i.sample i.graph_maxima.vertices i.graph_maxima.edges w.vertices w.edges b.vertices b.edges b.sink at vs₁ kept f g w.nodes index₁ targets₁ ground
+            (ended-listable i.sample i.graph_maxima.vertices i.graph_maxima.edges w.vertices w.edges b.vertices b.edges b.sink at vs₁ kept f g w.nodes index₁ targets₁ on_ground
             (ap (λ (h : Setting). h.edges) ge) (ap (λ (h : Setting). h.sink) ge) there.branches there.closings t' sc' ac' queue' closed' order' marks' p there.state there.holds good.0
             (omega arith) text-small (omega arith) (omega arith)
             walks rank (length o.scores) (length o.closings) (length o.edges) (length o.bases) (length o.sequences) (length o.places)
@@ -295,7 +295,7 @@ module _ {i : Input} {o : Outputs} {w : Tables} {b : Raise} (q : Searches i o w 
 
         shows : Shows (i.sample.reference ++ i.sample.bases) vs₁ w.edges index₁ targets₁ t' sc' closed' i.sample.k p.closed (built_for i.sample) there.state.closed
         shows =
-            ended-shows i.sample i.graph_maxima.vertices i.graph_maxima.edges w.vertices w.edges b.vertices b.edges b.sink at vs₁ kept f g w.nodes index₁ targets₁ ground
+            ended-shows i.sample i.graph_maxima.vertices i.graph_maxima.edges w.vertices w.edges b.vertices b.edges b.sink at vs₁ kept f g w.nodes index₁ targets₁ on_ground
             (ap (λ (h : Setting). h.edges) ge) (ap (λ (h : Setting). h.sink) ge) there.branches there.closings t' sc' ac' queue' closed' order' marks' p there.state there.holds good.0
             (built_for i.sample) refl refl good.1
 

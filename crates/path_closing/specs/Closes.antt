@@ -46,7 +46,7 @@ use Rattle.path_closing.specs.Joins.{Joined}
 -- the stores as a search f has them, with room for one record more
 pub record Closing (f : SearchInput) (g : Setting) (vs es x index targets : List ℕ) (bs : ℕ → List Branches) (closing : ℕ → ℕ) (t : List ℕ) (sc : List Float) (ac queue closed order marks : List ℕ)
     (p : Progress) (s : State Float) (taken : Taken) : Type 0 where
-  pub ground : Ground f g vs es x index targets
+  pub on_ground : Ground f g vs es x index targets
   pub holds : Holds f g es x index targets bs closing t sc ac queue closed order marks p s
   pub known : taken.path < p.records
   pub following : Following index targets t taken.path taken
@@ -244,7 +244,7 @@ module _ (f : SearchInput) (g : Setting) (vs es x index targets : List ℕ) (bs 
   G = H.records.held
 
   A : Agrees f index targets (name_of es)
-  A = C.ground.agrees
+  A = C.on_ground.agrees
 
   I : Inside t sc n
   I = let a = C.paths in let b = C.scores in record { cells = omega arith; score = omega arith }
@@ -268,7 +268,7 @@ module _ (f : SearchInput) (g : Setting) (vs es x index targets : List ℕ) (bs 
         branches = bs;
         closings = cl;
         state = s;
-        is = close-elsewhere f (name_of es) index targets A t sc n taken G.table G.rooted I C.known C.following (bs r) taken.vertex s (λ e. h (e ∙ C.ground.sink));
+        is = close-elsewhere f (name_of es) index targets A t sc n taken G.table G.rooted I C.known C.following (bs r) taken.vertex s (λ e. h (e ∙ C.on_ground.sink));
         holds = H;
         path = refl;
         following = C.following;
@@ -279,7 +279,7 @@ module _ (f : SearchInput) (g : Setting) (vs es x index targets : List ℕ) (bs 
 
   module _ (at : taken.vertex ≡ g.sink) where
     sunk : taken.vertex ≡ f.sink
-    sunk = at ∙ sym C.ground.sink
+    sunk = at ∙ sym C.on_ground.sink
 
     own : All (λ e. e < length targets) (edges index targets t r)
     own = edges-in index targets t sc n G.table r C.known
@@ -304,7 +304,7 @@ module _ (f : SearchInput) (g : Setting) (vs es x index targets : List ℕ) (bs 
       pub closed-over : g.most < (closed_row t sc taken).edges → closing f es index targets bs t sc taken s ≡ refused 11
       closed-over h =
           close-over f (name_of es) index targets A t sc n taken G.table G.rooted I C.known C.following (bs r) taken.vertex s sunk e
-          (let q = C.ground.most in omega arith)
+          (let q = C.on_ground.most in omega arith)
 
       module _ (h : (closed_row t sc taken).edges ≤ g.most) where
         row : PathRecord
@@ -354,7 +354,7 @@ module _ (f : SearchInput) (g : Setting) (vs es x index targets : List ℕ) (bs 
             let a = row_step g.active n (n + 1) (omega arith) in
             let b = C.actives in
             let z : n * g.active + trees_of t' n ≡ n * g.active = let q = trees-new in omega arith in
-            rw (z, branches-own bs n) (actives-none g.cap g.nodes x ac (n * g.active) (omega arith) C.ground.nodes C.ground.wide)
+            rw (z, branches-own bs n) (actives-none g.cap g.nodes x ac (n * g.active) (omega arith) C.on_ground.nodes C.on_ground.wide)
 
         records : Records f g es x index targets bs' t' sc' ac (n + 1)
         unfolding t' sc' bs'
@@ -408,7 +408,7 @@ module _ (f : SearchInput) (g : Setting) (vs es x index targets : List ℕ) (bs 
               branches = bs';
               closings = closing_with cl n c;
               state = crossed_state (map (name_of es) (edges index targets t r)) (closed_state (closed_of (name_of es) index targets t' sc' c n) s);
-              is = close-made f (name_of es) index targets A t sc n taken G.table G.rooted I C.known C.following (bs r) taken.vertex s sunk e (let q = C.ground.most in omega arith);
+              is = close-made f (name_of es) index targets A t sc n taken G.table G.rooted I C.known C.following (bs r) taken.vertex s sunk e (let q = C.on_ground.most in omega arith);
               holds =
                   holds-crossed f g es x index targets bs' (closing_with cl n c) t' sc' ac queue (set closed p.closed n) order marks (with_closed p) (closed_state (closed_of (name_of es) index targets t' sc' c n) s)
                   (holds-closed f g es x index targets bs' cl t' sc' ac queue closed order marks p s held H.closed-known C.more c) A (edges index targets t r) own marks' y;
@@ -455,7 +455,7 @@ module _ (g : Setting) (x index targets t : List ℕ) (sc : List Float) (ac clos
   module _ (at : taken.vertex ≡ g.sink) (a : Step) (t' : List ℕ) (sc' : List Float) (closed' : List ℕ) (Z : ClosingTaken g x ac t sc closed taken p a t' sc' closed') where
     module _ (f : SearchInput) (vs es : List ℕ) (bs : ℕ → List Branches) (cl : ℕ → ℕ) (queue order : List ℕ) (s : State Float) (C : Closing f g vs es x index targets bs cl t sc ac queue closed order marks p s taken) where
       evidence : Z.evidence ≡ has_stopping_evidence f (bs taken.path)
-      evidence = Z.stops.is f (bs taken.path) C.ground.settings.symbolic C.ground.settings.threshold (C.holds.records.actives taken.path C.known)
+      evidence = Z.stops.is f (bs taken.path) C.on_ground.settings.symbolic C.on_ground.settings.threshold (C.holds.records.actives taken.path C.known)
 
       refused-by : (b : Bool) (k : ℕ) → b ≡ has_stopping_evidence f (bs taken.path) → ClosedTakenBy g t sc closed taken p b (Refused k) t' sc' closed' → closing f es index targets bs t sc taken s ≡ refused k
       refused-by false k e u = refused-on u.answer
@@ -522,7 +522,7 @@ module _ (f : SearchInput) (g : Setting) (vs es x index targets : List ℕ) (bs 
       → p.records + 1 < 2147483648 → Closing f g vs es x index targets J.branches cl t' sc' ac' queue closed order marks p s taken
   joined-closing G more a b c few =
       record {
-        ground = G;
+        on_ground = G;
         holds = joined-holds;
         known = known;
         following = J.following;

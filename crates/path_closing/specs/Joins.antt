@@ -41,7 +41,7 @@ use Rattle.search_state.specs.State.{path_of, Records, Kept}
 
 -- the stores as a search f has them, when the path is taken: nothing has joined it yet, and no path has been made from it
 pub record Joining (f : SearchInput) (g : Setting) (vs es x index targets : List ℕ) (bs : ℕ → List Branches) (t : List ℕ) (sc : List Float) (ac : List ℕ) (n : ℕ) (taken : Taken) : Type 0 where
-  pub ground : Ground f g vs es x index targets
+  pub on_ground : Ground f g vs es x index targets
   pub records : Records f g es x index targets bs t sc ac n
   pub known : taken.path < n
   pub following : Following index targets t taken.path taken
@@ -118,11 +118,11 @@ module _ (f : SearchInput) (g : Setting) (vs es x index targets : List ℕ) (bs 
   pub joining-vertex : taken.vertex < length index
   joining-vertex =
       subst (λ (d : ℕ). d < length index) (sym J.following.vertex)
-      (after-low index targets J.ground.agrees.graph _ taken.chain (T.rows r J.known).low J.following.chain.runs)
+      (after-low index targets J.on_ground.agrees.graph _ taken.chain (T.rows r J.known).low J.following.chain.runs)
 
   pub joining-rootable : Rootable vs x taken.vertex
   joining-rootable =
-      let G = J.ground in
+      let G = J.on_ground in
       let l = joining-vertex in
       record {
         inside = let q = G.vertices in omega arith;
@@ -155,9 +155,9 @@ module _ (f : SearchInput) (g : Setting) (vs es x index targets : List ℕ) (bs 
   joined-none k = go (k.none refl)
     where
       go : (tree_root vs v ≡ 0) ⊎ ((tree_root vs v ≡ 0 → ⊥) × ((cols x).kid (tree_root vs v) ≡ 0)) → Joined f g es x index targets bs t sc n taken t sc ac
-      go (inl z) = left (join-none index targets t sc n r v T J.known f (name_of es) (bs r) (J.ground.no-tree v joining-vertex z))
+      go (inl z) = left (join-none index targets t sc n r v T J.known f (name_of es) (bs r) (J.on_ground.no-tree v joining-vertex z))
       go (inr (ne, z)) =
-          let w = J.ground.tree v joining-vertex ne in
+          let w = J.on_ground.tree v joining-vertex ne in
           let h : has_branch w.below ≡ false = leads-has g.nodes x _ w.below w.leads ∙ ap not (eq-eqb _ 0 z) in
           left (join-bare index targets t sc n r v T J.known f (name_of es) (bs r) w.below w.is h)
 
@@ -167,21 +167,21 @@ module _ (f : SearchInput) (g : Setting) (vs es x index targets : List ℕ) (bs 
     at-root = (k.some ne).0
 
     tree : TreeIn f x g.nodes (tree_root vs v) v
-    tree = J.ground.tree v joining-vertex (λ z. ne (at-root ∙ z))
+    tree = J.on_ground.tree v joining-vertex (λ z. ne (at-root ∙ z))
 
     has : has_branch tree.below ≡ true
     has = leads-has g.nodes x _ tree.below tree.leads ∙ ap not (ne_eqb _ 0 (k.some ne).1)
 
     seen-is : any (eqb v) (seen index targets 0 t r) ≡ any (eqb v) (visited (has_tree f) index targets f.source t r)
     seen-is =
-        ap (λ (d : ℕ). any (eqb v) (seen index targets d t r)) (sym J.ground.source)
+        ap (λ (d : ℕ). any (eqb v) (seen index targets d t r)) (sym J.on_ground.source)
         ∙ seen-visited (has_tree f) index targets f.source v (rw tree.is) t r
 
     pub joining-small : s < 65536
     joining-small =
         let a = tree.live in
-        let b = J.ground.nodes in
-        let c = J.ground.cap-fits in
+        let b = J.on_ground.nodes in
+        let c = J.on_ground.cap-fits in
         let d = at-root in
         omega arith
 
@@ -196,7 +196,7 @@ module _ (f : SearchInput) (g : Setting) (vs es x index targets : List ℕ) (bs 
       -- "More active trees than the maximum is 11."
       pub joined-over : g.active ≤ trees_of t taken.path → join_tree f taken.vertex (path_of f es index targets bs t sc taken.path) ≡ refused 11
       joined-over h =
-          join-over index targets t sc n r v T J.known f (name_of es) (bs r) tree.below tree.is has not_yet many (let q = J.ground.active in omega arith)
+          join-over index targets t sc n r v T J.known f (name_of es) (bs r) tree.below tree.is has not_yet many (let q = J.on_ground.active in omega arith)
 
       module _ (h : trees_of t taken.path < g.active) where
         -- the place in `active` where the slot is stored
@@ -281,7 +281,7 @@ module _ (f : SearchInput) (g : Setting) (vs es x index targets : List ℕ) (bs 
             go-trees q l (no d) = rw (trees-other q d) (J.records.trees q l)
 
             go-small : (q : ℕ) → q < n → Dec (q ≡ r) → All (Small 65535) (bs' q)
-            go-small q l (yes e) = rw (e, own) (all_append (J.records.small r J.known) (cons (J.ground.small v tree.below tree.is) nil))
+            go-small q l (yes e) = rw (e, own) (all_append (J.records.small r J.known) (cons (J.on_ground.small v tree.below tree.is) nil))
             go-small q l (no d) = rw (other q d) (J.records.small q l)
 
         made : Joined f g es x index targets bs t sc n taken t' sc ac'
@@ -290,7 +290,7 @@ module _ (f : SearchInput) (g : Setting) (vs es x index targets : List ℕ) (bs 
             record {
               branches = bs';
               is =
-                  join-made index targets t sc n r v T J.known f (name_of es) (bs r) tree.below tree.is has not_yet many J.unjoined (let q = J.ground.active in omega arith)
+                  join-made index targets t sc n r v T J.known f (name_of es) (bs r) tree.below tree.is has not_yet many J.unjoined (let q = J.on_ground.active in omega arith)
                   ∙ ap (λ (d : List Branches). ok (view_of f (name_of es) index targets d t' sc r)) (sym own);
               records = records;
               kept =
@@ -333,10 +333,10 @@ module _ (g : Setting) (vs x index targets t : List ℕ) (sc : List Float) (ac :
     joins-path = let a = P.all.known in let b = P.all.few in omega arith
 
     pub joins-vertex : taken.vertex + 1 < 4294967296
-    joins-vertex = let a = joining-vertex P.input g vs P.edges x index targets P.branches t sc ac P.count taken P.all in let b = P.all.ground.few in omega arith
+    joins-vertex = let a = joining-vertex P.input g vs P.edges x index targets P.branches t sc ac P.count taken P.all in let b = P.all.on_ground.few in omega arith
 
     pub joins-active : g.active ≤ 64
-    joins-active = P.all.ground.active-fits
+    joins-active = P.all.on_ground.active-fits
 
   module _ (w : ℕ) (e : w ≡ taken.vertex) (s : ℕ) (k : Rooted vs x w s) where
     here : Rooted vs x taken.vertex s

@@ -81,7 +81,7 @@ module _ {g : Setting} {es x index targets t : List ℕ} {sc : List Float} {ac :
         = (let h = actives-many g.cap g.nodes x ac (taken.path * g.active) (taken.path * g.active + trees_of t taken.path) (bs taken.path) (H.records.actives taken.path H.known) in omega arith) in
         let a : is_empty (bs taken.path) ≡ eqb (trees_of t taken.path) 0 = empty-is (bs taken.path) (trees_of t taken.path) m in
         let b : times targets 0 taken.vertex (edges index targets t taken.path) ≡ defs.times taken.vertex (defs.vertices_from f.source (map (name_of es) (edges index targets t taken.path))) =
-        ap (λ (s : ℕ). times targets s taken.vertex (edges index targets t taken.path)) (sym H.ground.source) ∙ times-view f (name_of es) index targets H.ground.agrees t taken.path taken.vertex
+        ap (λ (s : ℕ). times targets s taken.vertex (edges index targets t taken.path)) (sym H.on_ground.source) ∙ times-view f (name_of es) index targets H.on_ground.agrees t taken.path taken.vertex
         in
         ap (λ (z : Bool). not z || leb (times targets 0 taken.vertex (edges index targets t taken.path)) 1) (sym a) ∙ ap (λ (k : ℕ). not (is_empty (bs taken.path)) || leb k 1) b
 

@@ -20,7 +20,7 @@ use Rattle.search_state.specs.State.{path_of, Records, Kept, New, Idle, up_from}
 -- the search's tables, of which n records are made, and a taken one of them with the chain after it
 pub record Here (g : Setting) (es x index targets t : List ℕ) (sc : List Float) (ac : List ℕ) (n : ℕ) (taken : Taken) (f : SearchInput) (bs : ℕ → List Branches) : Type 0 where
   pub vertices : List ℕ
-  pub ground : Ground f g vertices es x index targets
+  pub on_ground : Ground f g vertices es x index targets
   pub records : Records f g es x index targets bs t sc ac n
   pub known : taken.path < n
   pub follows : Following index targets t taken.path taken
@@ -183,7 +183,7 @@ here-after g es x index targets t sc ac n taken f bs H t' sc' ac' n' ps M =
     let b = H.known in
     record {
       vertices = H.vertices;
-      ground = H.ground;
+      on_ground = H.on_ground;
       records = M.records;
       known = omega arith;
       follows = record { path = refl; chain = rw e H.follows.chain; vertex = rw e H.follows.vertex };

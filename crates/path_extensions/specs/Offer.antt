@@ -219,8 +219,8 @@ module _ {g : Setting} {es x index targets : List ℕ} {column : List Float} {t 
       module _ {b : Bool} (hb : b ≡ keeps index targets 0 t' n) where
         ruled : b ≡ repeat_rule f it.one
         ruled =
-            hb ∙ ap (λ (s : ℕ). keeps index targets s t' n) (sym H.ground.source)
-            ∙ keeps-view f (name_of es) index targets H.ground.agrees (run.made.bs' n) t' sc' m n run.made.records.held.rooted (let z = next in omega arith) ∙ ap (repeat_rule f) (sym read)
+            hb ∙ ap (λ (s : ℕ). keeps index targets s t' n) (sym H.on_ground.source)
+            ∙ keeps-view f (name_of es) index targets H.on_ground.agrees (run.made.bs' n) t' sc' m n run.made.records.held.rooted (let z = next in omega arith) ∙ ap (repeat_rule f) (sym read)
 
         kept_run : b ≡ true → Run f g es x index targets bs t sc n taken.path t' sc' ac' 1 (tried column es out row f (path_of f es index targets bs t sc taken.path)) m
         kept_run h =

@@ -170,7 +170,7 @@ module _ (g : Setting) (es x index targets t : List ℕ) (sc : List Float) (ac :
           active = record { branches = bs taken.path; stands = stood };
           apart = inr (before taken.path H.known);
           room = omega arith;
-          few = omega (arith, H.ground.cap-fits);
+          few = omega (arith, H.on_ground.cap-fits);
         }
 
     module _ (i k j : ℕ) (ei : i ≡ taken.path * g.active) (ek : k ≡ trees_of t taken.path) (ej : j ≡ n * g.active) where
@@ -206,7 +206,7 @@ module _ (g : Setting) (es x index targets t : List ℕ) (sc : List Float) (ac :
         row = extended_row t targets taken new
 
         pub known-edge : w.edge < length targets
-        known-edge = omega (arith, H.ground.size)
+        known-edge = omega (arith, H.on_ground.size)
 
         since-is : since ≡ cond (not (is_empty walked) || w.guided) 0 (cond w.free (since_of t taken.path) (suc (since_of t taken.path)))
         since-is = hd ∙ ap (λ (z : Bool). cond (not z || w.guided) 0 (cond w.free (since_of t taken.path) (suc (since_of t taken.path)))) (sym (empty-is walked r many))
@@ -214,8 +214,8 @@ module _ (g : Setting) (es x index targets t : List ℕ) (sc : List Float) (ac :
         one-refused : g.most < row.edges → lengthened es w f (path_of f es index targets bs t sc taken.path) ≡ refused 11
         one-refused h =
             ap (λ (y : Result (Path Float)). and_then y (λ q. ok (q ∷ [])))
-            (extended-full f (name_of es) index targets H.ground.agrees t sc n taken H.records.held.table H.records.held.rooted place_inside H.known H.follows new known-edge (bs taken.path)
-            w.guided w.free (omega (arith, H.ground.most)))
+            (extended-full f (name_of es) index targets H.on_ground.agrees t sc n taken H.records.held.table H.records.held.rooted place_inside H.known H.follows new known-edge (bs taken.path)
+            w.guided w.free (omega (arith, H.on_ground.most)))
 
         module _ (fits : row.edges ≤ g.most) where
           abbrev u : List ℕ
@@ -282,8 +282,8 @@ module _ (g : Setting) (es x index targets t : List ℕ) (sc : List Float) (ac :
           unfolding walked
           one-is =
               ap (λ (y : Result (Path Float)). and_then y (λ q. ok (q ∷ [])))
-              (extended-made f (name_of es) index targets H.ground.agrees t sc n taken H.records.held.table H.records.held.rooted place_inside H.known H.follows new known-edge
-              (bs taken.path) w.guided w.free (omega (arith, H.ground.most)) since-is)
+              (extended-made f (name_of es) index targets H.on_ground.agrees t sc n taken H.records.held.table H.records.held.rooted place_inside H.known H.follows new known-edge
+              (bs taken.path) w.guided w.free (omega (arith, H.on_ground.most)) since-is)
 
           one-made : MadeTo f g es x index targets bs t sc n taken.path u sd ad (n + 1) (view ∷ [])
           one-made =
@@ -322,13 +322,13 @@ module _ {g : Setting} {es x targets t : List ℕ} {sc : List Float} {ac : List 
   parent-inside = paths.inside index targets t sc n there.records.held.table taken.path there.known
 
   pub taken-product : {p : ℕ} → p ≡ taken.path → p * g.active < 18446744073709551616
-  taken-product {p} e = product p g.active (let h = there.known in let k = L.place.number in omega arith) there.ground.active-fits
+  taken-product {p} e = product p g.active (let h = there.known in let k = L.place.number in omega arith) there.on_ground.active-fits
 
   pub new-product : {p : ℕ} → p ≡ n → p * g.active < 18446744073709551616
-  new-product {p} e = product p g.active (let k = L.place.number in omega arith) there.ground.active-fits
+  new-product {p} e = product p g.active (let k = L.place.number in omega arith) there.on_ground.active-fits
 
   pub edge-inside : {e : ℕ} → e ≡ w.edge → HasEdge es e
-  edge-inside {e} h = let a = L.edge in let b = there.ground.linked.room in omega arith
+  edge-inside {e} h = let a = L.edge in let b = there.on_ground.linked.room in omega arith
 
   module _ {row : PathRecord} (hr : row ≡ path_at t sc taken.path) where
     pub few-since : row.since ≤ 5
@@ -350,14 +350,14 @@ module _ {g : Setting} {es x targets t : List ℕ} {sc : List Float} {ac : List 
             let h = W.few in
             let z = many-trees in
             let k = there.records.trees taken.path there.known in
-            let l = there.ground.active-fits in
+            let l = there.on_ground.active-fits in
             omega arith
 
         pub extend-asks : Growable t sc n taken.path × (w.edge < length targets) × (w.edge + 1 < 4294967296) × (r < 2147483648)
         extend-asks =
             let a = L.edge in
-            let b = there.ground.size in
-            let d = there.ground.linked.few in
+            let b = there.on_ground.size in
+            let d = there.on_ground.linked.few in
             let h = few-trees in
             (record { room = place_inside g es x index targets t sc ac n taken L.place; known = there.known }, omega arith, omega arith, omega arith)
 

@@ -39,7 +39,7 @@ use Rattle.path_extensions.specs.Alone.{AloneStands, alone, alone-is}
 
 -- the search's tables, of which n records are made, and a taken one of them with the chain after it
 pub record Taking (g : Setting) (vs es x index targets t : List ℕ) (sc : List Float) (ac : List ℕ) (n : ℕ) (taken : Taken) (f : SearchInput) (bs : ℕ → List Branches) : Type 0 where
-  pub ground : Ground f g vs es x index targets
+  pub on_ground : Ground f g vs es x index targets
   pub records : Records f g es x index targets bs t sc ac n
   pub known : taken.path < n
   pub follows : Following index targets t taken.path taken
@@ -71,7 +71,7 @@ pub record Extensions (g : Setting) (vs es x index targets : List ℕ) (column :
 module _ {g : Setting} {vs es x index targets t : List ℕ} {sc : List Float} {ac : List ℕ} {n : ℕ} {taken : Taken} {f : SearchInput} {bs : ℕ → List Branches}
     (H : Taking g vs es x index targets t sc ac n taken f bs) where
   here_of : Here g es x index targets t sc ac n taken f bs
-  here_of = record { vertices = vs; ground = H.ground; records = H.records; known = H.known; follows = H.follows }
+  here_of = record { vertices = vs; on_ground = H.on_ground; records = H.records; known = H.known; follows = H.follows }
 
   vertex-low : taken.vertex < length index
   vertex-low =
@@ -79,10 +79,10 @@ module _ {g : Setting} {vs es x index targets t : List ℕ} {sc : List Float} {a
       rw H.follows.vertex (after-low index targets T.graph (end_of t taken.path) taken.chain (T.rows taken.path H.known).low H.follows.chain.runs)
 
   pub vertex-here : {v : ℕ} → v ≡ taken.vertex → outs.Here vs es g.edges v
-  vertex-here {v} e = let a = vertex-low in let b = H.ground.vertices in record { linked = H.ground.linked; v-in = omega arith }
+  vertex-here {v} e = let a = vertex-low in let b = H.on_ground.vertices in record { linked = H.on_ground.linked; v-in = omega arith }
 
   leaving-is : {v : ℕ} → v ≡ taken.vertex → leaving (edges_of es g.edges) v ≡ leaving f.edges taken.vertex
-  leaving-is {v} e = ap (leaving (edges_of es g.edges)) e ∙ ap (λ (l : List Edge). leaving l taken.vertex) (sym H.ground.settings.edges)
+  leaving-is {v} e = ap (leaving (edges_of es g.edges)) e ∙ ap (λ (l : List Edge). leaving l taken.vertex) (sym H.on_ground.settings.edges)
 
 -- ---- the offers, as rows
 
@@ -110,7 +110,7 @@ module _ {g : Setting} {vs es x t : List ℕ} {sc : List Float} {ac out : List �
   lists-inside = paths.inside L.index L.targets t sc L.records L.taking.records.held.table taken.path L.taking.known
 
   pub lists-product : {p : ℕ} → p < 4294967296 → p * g.active < 18446744073709551616
-  lists-product {p} h = let k = L.taking.ground.active-fits in let z : p * g.active ≤ 4294967296 * g.active = mul-le-mul_right g.active (omega arith) in omega arith
+  lists-product {p} h = let k = L.taking.on_ground.active-fits in let z : p * g.active ≤ 4294967296 * g.active = mul-le-mul_right g.active (omega arith) in omega arith
 
   module _ {row : PathRecord} (hr : row ≡ path_at t sc taken.path) {p k v : ℕ} (hp : p ≡ taken.path) (hk : k ≡ row.trees) (hv : v ≡ taken.vertex) where
     starts : p * g.active ≡ taken.path * g.active
@@ -126,21 +126,21 @@ module _ {g : Setting} {vs es x t : List ℕ} {sc : List Float} {ac out : List �
     at_most : (index targets : List ℕ) (n : ℕ) (f : SearchInput) (bs : ℕ → List Branches) → Taking g vs es x index targets t sc ac n taken f bs
         → length (offers f (leaving f.edges taken.vertex) [] (bs taken.path)) ≤ 6
     at_most index targets n f bs H =
-        actives-few f g vs es x index targets H.ground taken.vertex (bs taken.path) ac (p * g.active) (p * g.active + k) (stood index targets n f bs H)
+        actives-few f g vs es x index targets H.on_ground taken.vertex (bs taken.path) ac (p * g.active) (p * g.active + k) (stood index targets n f bs H)
 
     pub lists-asks : Forks vs es g.edges g.cap g.nodes x ac (p * g.active) (p * g.active + k) v (ends g.sink g.symbolic) g.least out
     lists-asks =
         let H = L.taking in
         let o = vertex-here H hv in
-        let s = H.ground.support taken.vertex in
+        let s = H.on_ground.support taken.vertex in
         let m = at_most L.index L.targets L.records L.input L.trees H in
         let r = L.rows in
-        let few = H.ground.linked.few in
+        let few = H.on_ground.linked.few in
         record {
-          fork = record { slots = H.ground.linked.slots v o.v-in; distinct = H.ground.linked.distinct; room-v = o.v-in; room-e = H.ground.linked.room; few = omega arith };
+          fork = record { slots = H.on_ground.linked.slots v o.v-in; distinct = H.on_ground.linked.distinct; room-v = o.v-in; room-e = H.on_ground.linked.room; few = omega arith };
           active = record { branches = L.trees taken.path; stands = stood L.index L.targets L.records L.input L.trees H };
           input = L.input;
-          settings = H.ground.settings;
+          settings = H.on_ground.settings;
           small = smalls-of 65535 (L.trees taken.path) (omega arith) (H.records.small taken.path H.known);
           support = rw (leaving-is H hv) (small-support (total support_of (leaving L.input.edges taken.vertex)) s);
           room = rw hv (rowed (length (offers L.input (leaving L.input.edges taken.vertex) [] (L.trees taken.path))) m);
@@ -156,7 +156,7 @@ module _ {g : Setting} {vs es x t : List ℕ} {sc : List Float} {ac out : List �
       listed-is : (index targets : List ℕ) (n : ℕ) (f : SearchInput) (bs : ℕ → List Branches) → Taking g vs es x index targets t sc ac n taken f bs
           → offers_of es out' r ≡ offers f (leaving f.edges taken.vertex) [] (bs taken.path)
       listed-is index targets n f bs H =
-          O.is f (bs taken.path) H.ground.settings (stood index targets n f bs H) ∙ ap (λ (i : ℕ). offers f (leaving f.edges i) [] (bs taken.path)) hv
+          O.is f (bs taken.path) H.on_ground.settings (stood index targets n f bs H) ∙ ap (λ (i : ℕ). offers f (leaving f.edges i) [] (bs taken.path)) hv
 
       pub lists-listed : Listed g vs es x t sc ac taken out' r
       lists-listed =
@@ -228,7 +228,7 @@ module _ {g : Setting} {vs es x index targets : List ℕ} {column : List Float} 
           first-row = next_row outs-here nexts some_first
 
           pub first-low : first - 1 < 8192
-          first-low = let a = next-in outs-here nexts some_first in let b = E.taking.ground.linked.few in omega arith
+          first-low = let a = next-in outs-here nexts some_first in let b = E.taking.on_ground.linked.few in omega arith
 
           begins : leaving (edges_of es g.edges) v ≡ edge_at es (first - 1) ∷ out_from (edges_of es g.edges) v (edge_to es (first - 1) + 1)
           begins = sym (leaving-from (edges_of es g.edges) v) ∙ next-some outs-here nexts some_first

@@ -58,7 +58,7 @@ pub record Based (g : Setting) (vs es : List ℕ) : Type 0 where
   pub x : List ℕ
   pub index : List ℕ
   pub targets : List ℕ
-  pub ground : Ground f g vs es x index targets
+  pub on_ground : Ground f g vs es x index targets
 
 pub record ListsPivotal (g : Setting) (vs es queue order marks : List ℕ) : Type 0 where
   pub based : Based g vs es
@@ -86,7 +86,7 @@ module _ {g : Setting} {vs es queue order marks : List ℕ} (L : ListsPivotal g 
   pub pivotal-asks : (clear : List ℕ) → length clear ≡ length marks → MarksSet g.edges 0 clear → Pivots vs es g.edges queue clear order
   pivotal-asks clear l c =
       record {
-        linked = L.based.ground.linked;
+        linked = L.based.on_ground.linked;
         room-q = L.queue-room;
         marks-in = omega (arith, L.marks-room);
         clear = c;

@@ -46,7 +46,7 @@ pub record Around : Type 0 where
 
 -- nothing waits
 pub record Resting (A : Around) (es index targets t : List ℕ) (sc : List Float) (closed order marks : List ℕ) (g : Setting) (p : Progress) (s : State Float) : Type 0 where
-  pub ground : Ground A.f g A.vs es A.x index targets
+  pub on_ground : Ground A.f g A.vs es A.x index targets
   pub holds : Holds A.f g es A.x index targets A.bs A.closing t sc A.ac A.queue closed order marks p s
   pub none : p.waiting ≡ 0
   pub actives : (p.records + 1) * g.active ≤ length A.ac
@@ -199,7 +199,7 @@ module _ {A : Around} {es index targets t : List ℕ} {sc : List Float} {closed 
         go r (inr e) =
             rw e
             (actives-none g.cap g.nodes A.x A.ac (p.records * g.active) (p.records * g.active + trees_of new-cells p.records) (with_none A.bs p.records p.records)
-            (with-new A.bs p.records p.records refl) (omega (arith, new-trees)) row_room R.ground.nodes R.ground.wide)
+            (with-new A.bs p.records p.records refl) (omega (arith, new-trees)) row_room R.on_ground.nodes R.on_ground.wide)
 
         few : (r : ℕ) → (r < p.records) ⊎ (r ≡ p.records) → trees_of new-cells r ≤ g.active
         few r (inl a) = omega (arith, ap (λ y. y / 2) (old-cell r 8 a (omega arith)), R.holds.records.trees r a)
@@ -259,38 +259,38 @@ module _ {A : Around} {es index targets t : List ℕ} {sc : List Float} {closed 
   -- ---- `recover`, by what the edge came to
   module _ (column : List Float) (e : ℕ) where
     best-source : best_for es index targets t sc closed p e ≡ best_of index targets A.f.source t sc (name_of es e).from (take p.closed closed)
-    best-source = rw R.ground.source
+    best-source = rw R.on_ground.source
 
     gives_none : best_for es index targets t sc closed p e ≡ 0 → recover (column_scoring column) A.f (name_of es e) s ≡ made s []
     gives_none z =
-        recover-none A.f (name_of es) index targets R.ground.agrees column A.closing t sc p.records R.holds.records.held.table e (take p.closed closed) s R.holds.closed_is
+        recover-none A.f (name_of es) index targets R.on_ground.agrees column A.closing t sc p.records R.holds.records.held.table e (take p.closed closed) s R.holds.closed_is
         (best_for es index targets t sc closed p e) best-source z
 
     module _ (b : ℕ) (B : suc b ≡ best_for es index targets t sc closed p e) (l : b < p.records) where
       gives-lost : kept index targets t b (edge_from es e) ≡ 0 → recover (column_scoring column) A.f (name_of es e) s ≡ made s []
       gives-lost z =
-          recover-lost A.f (name_of es) index targets R.ground.agrees column A.closing t sc p.records R.holds.records.held.table e (take p.closed closed) s R.holds.closed_is
+          recover-lost A.f (name_of es) index targets R.on_ground.agrees column A.closing t sc p.records R.holds.records.held.table e (take p.closed closed) s R.holds.closed_is
           b (B ∙ best-source) l z
 
       module _ (pos : 0 < kept index targets t b (edge_from es e)) where
         keeps_low : kept index targets t b (edge_from es e) ≤ count_of t b
         keeps_low =
-            recover-low A.f (name_of es) index targets R.ground.agrees column A.closing t sc p.records R.holds.records.held.table e (take p.closed closed) s R.holds.closed_is
+            recover-low A.f (name_of es) index targets R.on_ground.agrees column A.closing t sc p.records R.holds.records.held.table e (take p.closed closed) s R.holds.closed_is
             b (B ∙ best-source) l (kept index targets t b (edge_from es e)) refl pos
 
         module _ (I : Inside t sc p.records) (h : e < length targets) where
           gives-over : g.most < kept index targets t b (edge_from es e) + 1 → recover (column_scoring column) A.f (name_of es e) s ≡ broken 11
           gives-over o =
-              recover-over A.f (name_of es) index targets R.ground.agrees column A.closing t sc p.records R.holds.records.held.table e (take p.closed closed) s R.holds.closed_is
-              b (B ∙ best-source) l (kept index targets t b (edge_from es e)) refl pos I h (omega (arith, R.ground.most))
+              recover-over A.f (name_of es) index targets R.on_ground.agrees column A.closing t sc p.records R.holds.records.held.table e (take p.closed closed) s R.holds.closed_is
+              b (B ∙ best-source) l (kept index targets t b (edge_from es e)) refl pos I h (omega (arith, R.on_ground.most))
 
           gives_made : kept index targets t b (edge_from es e) + 1 ≤ g.most
               → recover (column_scoring column) A.f (name_of es e) s
               ≡ made s
               (view_of A.f (name_of es) index targets [] (put_cells t p.records (recovered_row index t sc targets b (kept index targets t b (edge_from es e)) e)) (set sc p.records (score_of sc b)) p.records ∷ [])
           gives_made o =
-              recover-made A.f (name_of es) index targets R.ground.agrees column A.closing t sc p.records R.holds.records.held.table e (take p.closed closed) s R.holds.closed_is
-              b (B ∙ best-source) l (kept index targets t b (edge_from es e)) refl pos I h (omega (arith, R.ground.most))
+              recover-made A.f (name_of es) index targets R.on_ground.agrees column A.closing t sc p.records R.holds.records.held.table e (take p.closed closed) s R.holds.closed_is
+              b (B ∙ best-source) l (kept index targets t b (edge_from es e)) refl pos I h (omega (arith, R.on_ground.most))
 
 -- ---- the next pivotal edge
 
@@ -332,7 +332,7 @@ module _ {A : Around} {es index targets t : List ℕ} {sc : List Float} {closed 
       next-resting =
           let H = R.holds in
           record {
-            ground = R.ground;
+            on_ground = R.on_ground;
             holds =
                 record {
                   records = H.records;
@@ -384,7 +384,7 @@ module _ {es index targets t : List ℕ} {sc : List Float} {closed order marks w
     module _ (h : place < p.pivotal) where
       pub step-tries : TriesEdge es index targets t sc closed walks g (next_at p place) (get_or order place 0)
       step-tries =
-          let G = T.resting.ground in
+          let G = T.resting.on_ground in
           let H = T.resting.holds in
           record {
             f = T.around.f;

@@ -1,0 +1,387 @@
+-- `list_within` meets its contract: the work over the parts told, each of which is cleared afterwards. Assumes nothing.
+use mathlib.Core.Path.{sym, ◌∙◌}
+use lib.Seq.{length-take-le, length_front}
+use Rattle.list_interface.specs.Handed.{input_for}
+use Rattle.list_call.specs.Outcome.{float_zero}
+use Rattle.list_call.specs.Parts.{in-limits, room-told, part-kept, part-cleared, parts-lent, all-cleared}
+use Rattle.list_call.proofs.list_within.Goals as goal
+
+pub workspace_told-told-requires : goal.workspace_told-told-requires
+workspace_told-told-requires c =
+    in-limits _ c.requires.checks
+
+pub slice_bounds-work-end : goal.slice_bounds-work-end
+slice_bounds-work-end c =
+    let k = c.workspace_told-told in
+    let m = room-told _ _ _ c.requires _ k.ensures in
+    m.vertices
+
+pub slice_bounds-work-end-2 : goal.slice_bounds-work-end-2
+slice_bounds-work-end-2 c =
+    let k = c.workspace_told-told in
+    let m = room-told _ _ _ c.requires _ k.ensures in
+    sym (length-take-le k.result.vertices c.args.w_vertices.now m.vertices)
+
+pub slice_bounds-work-end-3 : goal.slice_bounds-work-end-3
+slice_bounds-work-end-3 c =
+    let k = c.workspace_told-told in
+    let m = room-told _ _ _ c.requires _ k.ensures in
+    m.edges
+
+pub slice_bounds-work-end-4 : goal.slice_bounds-work-end-4
+slice_bounds-work-end-4 c =
+    let k = c.workspace_told-told in
+    let m = room-told _ _ _ c.requires _ k.ensures in
+    sym (length-take-le k.result.edges c.args.w_edges.now m.edges)
+
+pub slice_bounds-work-end-5 : goal.slice_bounds-work-end-5
+slice_bounds-work-end-5 c =
+    let k = c.workspace_told-told in
+    let m = room-told _ _ _ c.requires _ k.ensures in
+    m.index
+
+pub slice_bounds-work-end-6 : goal.slice_bounds-work-end-6
+slice_bounds-work-end-6 c =
+    let k = c.workspace_told-told in
+    let m = room-told _ _ _ c.requires _ k.ensures in
+    sym (length-take-le k.result.index c.args.w_index.now m.index)
+
+pub slice_bounds-work-end-7 : goal.slice_bounds-work-end-7
+slice_bounds-work-end-7 c =
+    let k = c.workspace_told-told in
+    let m = room-told _ _ _ c.requires _ k.ensures in
+    m.nodes
+
+pub slice_bounds-work-end-8 : goal.slice_bounds-work-end-8
+slice_bounds-work-end-8 c =
+    let k = c.workspace_told-told in
+    let m = room-told _ _ _ c.requires _ k.ensures in
+    sym (length-take-le k.result.nodes c.args.w_nodes.now m.nodes)
+
+pub slice_bounds-work-end-9 : goal.slice_bounds-work-end-9
+slice_bounds-work-end-9 c =
+    let k = c.workspace_told-told in
+    let m = room-told _ _ _ c.requires _ k.ensures in
+    m.targets
+
+pub slice_bounds-work-end-10 : goal.slice_bounds-work-end-10
+slice_bounds-work-end-10 c =
+    let k = c.workspace_told-told in
+    let m = room-told _ _ _ c.requires _ k.ensures in
+    sym (length-take-le k.result.targets c.args.w_targets.now m.targets)
+
+pub slice_bounds-work-end-11 : goal.slice_bounds-work-end-11
+slice_bounds-work-end-11 c =
+    let k = c.workspace_told-told in
+    let m = room-told _ _ _ c.requires _ k.ensures in
+    m.paths
+
+pub slice_bounds-work-end-12 : goal.slice_bounds-work-end-12
+slice_bounds-work-end-12 c =
+    let k = c.workspace_told-told in
+    let m = room-told _ _ _ c.requires _ k.ensures in
+    sym (length-take-le k.result.paths c.args.w_paths.now m.paths)
+
+pub slice_bounds-work-end-13 : goal.slice_bounds-work-end-13
+slice_bounds-work-end-13 c =
+    let k = c.workspace_told-told in
+    let m = room-told _ _ _ c.requires _ k.ensures in
+    m.scores
+
+pub slice_bounds-work-end-14 : goal.slice_bounds-work-end-14
+slice_bounds-work-end-14 c =
+    let k = c.workspace_told-told in
+    let m = room-told _ _ _ c.requires _ k.ensures in
+    sym (length-take-le k.result.scores c.args.w_scores.now m.scores)
+
+pub slice_bounds-work-end-15 : goal.slice_bounds-work-end-15
+slice_bounds-work-end-15 c =
+    let k = c.workspace_told-told in
+    let m = room-told _ _ _ c.requires _ k.ensures in
+    m.active
+
+pub slice_bounds-work-end-16 : goal.slice_bounds-work-end-16
+slice_bounds-work-end-16 c =
+    let k = c.workspace_told-told in
+    let m = room-told _ _ _ c.requires _ k.ensures in
+    sym (length-take-le k.result.active c.args.w_active.now m.active)
+
+pub slice_bounds-work-end-17 : goal.slice_bounds-work-end-17
+slice_bounds-work-end-17 c =
+    let k = c.workspace_told-told in
+    let m = room-told _ _ _ c.requires _ k.ensures in
+    m.queue
+
+pub slice_bounds-work-end-18 : goal.slice_bounds-work-end-18
+slice_bounds-work-end-18 c =
+    let k = c.workspace_told-told in
+    let m = room-told _ _ _ c.requires _ k.ensures in
+    sym (length-take-le k.result.queue c.args.w_queue.now m.queue)
+
+pub slice_bounds-work-end-19 : goal.slice_bounds-work-end-19
+slice_bounds-work-end-19 c =
+    let k = c.workspace_told-told in
+    let m = room-told _ _ _ c.requires _ k.ensures in
+    m.closed
+
+pub slice_bounds-work-end-20 : goal.slice_bounds-work-end-20
+slice_bounds-work-end-20 c =
+    let k = c.workspace_told-told in
+    let m = room-told _ _ _ c.requires _ k.ensures in
+    sym (length-take-le k.result.closed c.args.w_closed.now m.closed)
+
+pub slice_bounds-work-end-21 : goal.slice_bounds-work-end-21
+slice_bounds-work-end-21 c =
+    let k = c.workspace_told-told in
+    let m = room-told _ _ _ c.requires _ k.ensures in
+    m.order
+
+pub slice_bounds-work-end-22 : goal.slice_bounds-work-end-22
+slice_bounds-work-end-22 c =
+    let k = c.workspace_told-told in
+    let m = room-told _ _ _ c.requires _ k.ensures in
+    sym (length-take-le k.result.order c.args.w_order.now m.order)
+
+pub slice_bounds-work-end-23 : goal.slice_bounds-work-end-23
+slice_bounds-work-end-23 c =
+    let k = c.workspace_told-told in
+    let m = room-told _ _ _ c.requires _ k.ensures in
+    m.marks
+
+pub slice_bounds-work-end-24 : goal.slice_bounds-work-end-24
+slice_bounds-work-end-24 c =
+    let k = c.workspace_told-told in
+    let m = room-told _ _ _ c.requires _ k.ensures in
+    sym (length-take-le k.result.marks c.args.w_marks.now m.marks)
+
+pub slice_bounds-work-end-25 : goal.slice_bounds-work-end-25
+slice_bounds-work-end-25 c =
+    let k = c.workspace_told-told in
+    let m = room-told _ _ _ c.requires _ k.ensures in
+    m.walks
+
+pub slice_bounds-work-end-26 : goal.slice_bounds-work-end-26
+slice_bounds-work-end-26 c =
+    let k = c.workspace_told-told in
+    let m = room-told _ _ _ c.requires _ k.ensures in
+    sym (length-take-le k.result.walks c.args.w_walks.now m.walks)
+
+pub work-r-requires : goal.work-r-requires
+work-r-requires c =
+    parts-lent _ _ _ c.requires _ c.workspace_told-told.ensures
+
+pub clear-requires : goal.clear-requires
+clear-requires c =
+    let k = c.workspace_told-told in
+    let m = room-told _ _ _ c.requires _ k.ensures in
+    let w = c.work-r in
+    part-kept c.args.w_vertices.now w.new.1.1.1.1.1.1.1.1.1.1.1.1.0 k.result.vertices w.auto.1.1.1.1.1.1.1.1.1.1.1.1.0 m.vertices
+
+pub clear-requires-2 : goal.clear-requires-2
+clear-requires-2 c =
+    let k = c.workspace_told-told in
+    let m = room-told _ _ _ c.requires _ k.ensures in
+    let w = c.work-r in
+    part-kept c.args.w_edges.now w.new.1.1.1.1.1.1.1.1.1.1.1.1.1.0 k.result.edges w.auto.1.1.1.1.1.1.1.1.1.1.1.1.1.0 m.edges
+
+pub clear-requires-3 : goal.clear-requires-3
+clear-requires-3 c =
+    let k = c.workspace_told-told in
+    let m = room-told _ _ _ c.requires _ k.ensures in
+    let w = c.work-r in
+    part-kept c.args.w_index.now w.new.1.1.1.1.1.1.1.1.1.1.1.1.1.1.0 k.result.index w.auto.1.1.1.1.1.1.1.1.1.1.1.1.1.1.0 m.index
+
+pub clear-requires-4 : goal.clear-requires-4
+clear-requires-4 c =
+    let k = c.workspace_told-told in
+    let m = room-told _ _ _ c.requires _ k.ensures in
+    let w = c.work-r in
+    part-kept c.args.w_nodes.now w.new.1.1.1.1.1.1.1.1.1.1.1.1.1.1.1.0 k.result.nodes w.auto.1.1.1.1.1.1.1.1.1.1.1.1.1.1.1.0 m.nodes
+
+pub clear-requires-5 : goal.clear-requires-5
+clear-requires-5 c =
+    let k = c.workspace_told-told in
+    let m = room-told _ _ _ c.requires _ k.ensures in
+    let w = c.work-r in
+    part-kept c.args.w_targets.now w.new.1.1.1.1.1.1.1.1.1.1.1.1.1.1.1.1.0 k.result.targets w.auto.1.1.1.1.1.1.1.1.1.1.1.1.1.1.1.1.0 m.targets
+
+pub clear-requires-6 : goal.clear-requires-6
+clear-requires-6 c =
+    let k = c.workspace_told-told in
+    let m = room-told _ _ _ c.requires _ k.ensures in
+    let w = c.work-r in
+    part-kept c.args.w_paths.now w.new.1.1.1.1.1.1.1.1.1.1.1.1.1.1.1.1.1.0 k.result.paths w.auto.1.1.1.1.1.1.1.1.1.1.1.1.1.1.1.1.1.0 m.paths
+
+pub clear_scores-requires : goal.clear_scores-requires
+clear_scores-requires c =
+    let k = c.workspace_told-told in
+    let m = room-told _ _ _ c.requires _ k.ensures in
+    let w = c.work-r in
+    part-kept c.args.w_scores.now w.new.1.1.1.1.1.1.1.1.1.1.1.1.1.1.1.1.1.1.0 k.result.scores w.auto.1.1.1.1.1.1.1.1.1.1.1.1.1.1.1.1.1.1.0 m.scores
+
+pub clear_slots-requires : goal.clear_slots-requires
+clear_slots-requires c =
+    let k = c.workspace_told-told in
+    let m = room-told _ _ _ c.requires _ k.ensures in
+    let w = c.work-r in
+    part-kept c.args.w_active.now w.new.1.1.1.1.1.1.1.1.1.1.1.1.1.1.1.1.1.1.1.0 k.result.active w.auto.1.1.1.1.1.1.1.1.1.1.1.1.1.1.1.1.1.1.1.0 m.active
+
+pub clear-requires-7 : goal.clear-requires-7
+clear-requires-7 c =
+    let k = c.workspace_told-told in
+    let m = room-told _ _ _ c.requires _ k.ensures in
+    let w = c.work-r in
+    part-kept c.args.w_queue.now w.new.1.1.1.1.1.1.1.1.1.1.1.1.1.1.1.1.1.1.1.1.0 k.result.queue w.auto.1.1.1.1.1.1.1.1.1.1.1.1.1.1.1.1.1.1.1.1.0 m.queue
+
+pub clear-requires-8 : goal.clear-requires-8
+clear-requires-8 c =
+    let k = c.workspace_told-told in
+    let m = room-told _ _ _ c.requires _ k.ensures in
+    let w = c.work-r in
+    part-kept c.args.w_closed.now w.new.1.1.1.1.1.1.1.1.1.1.1.1.1.1.1.1.1.1.1.1.1.0 k.result.closed w.auto.1.1.1.1.1.1.1.1.1.1.1.1.1.1.1.1.1.1.1.1.1.0 m.closed
+
+pub clear-requires-9 : goal.clear-requires-9
+clear-requires-9 c =
+    let k = c.workspace_told-told in
+    let m = room-told _ _ _ c.requires _ k.ensures in
+    let w = c.work-r in
+    part-kept c.args.w_order.now w.new.1.1.1.1.1.1.1.1.1.1.1.1.1.1.1.1.1.1.1.1.1.1.0 k.result.order w.auto.1.1.1.1.1.1.1.1.1.1.1.1.1.1.1.1.1.1.1.1.1.1.0 m.order
+
+pub clear-requires-10 : goal.clear-requires-10
+clear-requires-10 c =
+    let k = c.workspace_told-told in
+    let m = room-told _ _ _ c.requires _ k.ensures in
+    let w = c.work-r in
+    part-kept c.args.w_marks.now w.new.1.1.1.1.1.1.1.1.1.1.1.1.1.1.1.1.1.1.1.1.1.1.1.0 k.result.marks w.auto.1.1.1.1.1.1.1.1.1.1.1.1.1.1.1.1.1.1.1.1.1.1.1.0 m.marks
+
+pub clear-requires-11 : goal.clear-requires-11
+clear-requires-11 c =
+    let k = c.workspace_told-told in
+    let m = room-told _ _ _ c.requires _ k.ensures in
+    let w = c.work-r in
+    part-kept c.args.w_walks.now w.new.1.1.1.1.1.1.1.1.1.1.1.1.1.1.1.1.1.1.1.1.1.1.1.1.0 k.result.walks w.auto.1.1.1.1.1.1.1.1.1.1.1.1.1.1.1.1.1.1.1.1.1.1.1.1.0 m.walks
+
+pub shape_of-row_scores : goal.shape_of-row_scores
+shape_of-row_scores c = c.work-r.auto.row_scores
+
+pub shape_of-row_closings : goal.shape_of-row_closings
+shape_of-row_closings c = c.work-r.auto.row_closings
+
+pub shape_of-row_edges : goal.shape_of-row_edges
+shape_of-row_edges c = c.work-r.auto.row_edges
+
+pub shape_of-out_bases : goal.shape_of-out_bases
+shape_of-out_bases c = c.work-r.auto.out_bases
+
+pub shape_of-sequences : goal.shape_of-sequences
+shape_of-sequences c = c.work-r.auto.sequences
+
+pub shape_of-places : goal.shape_of-places
+shape_of-places c = c.work-r.auto.places
+
+pub shape_of-w_vertices : goal.shape_of-w_vertices
+shape_of-w_vertices c =
+    let k = c.workspace_told-told in
+    let w = c.work-r in
+    c.clear.auto.words ∙ length_front c.args.w_vertices.now w.new.1.1.1.1.1.1.1.1.1.1.1.1.0 k.result.vertices w.auto.1.1.1.1.1.1.1.1.1.1.1.1.0
+
+pub shape_of-w_edges : goal.shape_of-w_edges
+shape_of-w_edges c =
+    let k = c.workspace_told-told in
+    let w = c.work-r in
+    c.clear-2.auto.words ∙ length_front c.args.w_edges.now w.new.1.1.1.1.1.1.1.1.1.1.1.1.1.0 k.result.edges w.auto.1.1.1.1.1.1.1.1.1.1.1.1.1.0
+
+pub shape_of-w_index : goal.shape_of-w_index
+shape_of-w_index c =
+    let k = c.workspace_told-told in
+    let w = c.work-r in
+    c.clear-3.auto.words ∙ length_front c.args.w_index.now w.new.1.1.1.1.1.1.1.1.1.1.1.1.1.1.0 k.result.index w.auto.1.1.1.1.1.1.1.1.1.1.1.1.1.1.0
+
+pub shape_of-w_nodes : goal.shape_of-w_nodes
+shape_of-w_nodes c =
+    let k = c.workspace_told-told in
+    let w = c.work-r in
+    c.clear-4.auto.words ∙ length_front c.args.w_nodes.now w.new.1.1.1.1.1.1.1.1.1.1.1.1.1.1.1.0 k.result.nodes w.auto.1.1.1.1.1.1.1.1.1.1.1.1.1.1.1.0
+
+pub shape_of-w_targets : goal.shape_of-w_targets
+shape_of-w_targets c =
+    let k = c.workspace_told-told in
+    let w = c.work-r in
+    c.clear-5.auto.words ∙ length_front c.args.w_targets.now w.new.1.1.1.1.1.1.1.1.1.1.1.1.1.1.1.1.0 k.result.targets w.auto.1.1.1.1.1.1.1.1.1.1.1.1.1.1.1.1.0
+
+pub shape_of-w_paths : goal.shape_of-w_paths
+shape_of-w_paths c =
+    let k = c.workspace_told-told in
+    let w = c.work-r in
+    c.clear-6.auto.words ∙ length_front c.args.w_paths.now w.new.1.1.1.1.1.1.1.1.1.1.1.1.1.1.1.1.1.0 k.result.paths w.auto.1.1.1.1.1.1.1.1.1.1.1.1.1.1.1.1.1.0
+
+pub shape_of-w_scores : goal.shape_of-w_scores
+shape_of-w_scores c =
+    let k = c.workspace_told-told in
+    let w = c.work-r in
+    c.clear_scores.auto.scores ∙ length_front c.args.w_scores.now w.new.1.1.1.1.1.1.1.1.1.1.1.1.1.1.1.1.1.1.0 k.result.scores w.auto.1.1.1.1.1.1.1.1.1.1.1.1.1.1.1.1.1.1.0
+
+pub shape_of-w_active : goal.shape_of-w_active
+shape_of-w_active c =
+    let k = c.workspace_told-told in
+    let w = c.work-r in
+    c.clear_slots.auto.slots ∙ length_front c.args.w_active.now w.new.1.1.1.1.1.1.1.1.1.1.1.1.1.1.1.1.1.1.1.0 k.result.active w.auto.1.1.1.1.1.1.1.1.1.1.1.1.1.1.1.1.1.1.1.0
+
+pub shape_of-w_queue : goal.shape_of-w_queue
+shape_of-w_queue c =
+    let k = c.workspace_told-told in
+    let w = c.work-r in
+    c.clear-7.auto.words ∙ length_front c.args.w_queue.now w.new.1.1.1.1.1.1.1.1.1.1.1.1.1.1.1.1.1.1.1.1.0 k.result.queue w.auto.1.1.1.1.1.1.1.1.1.1.1.1.1.1.1.1.1.1.1.1.0
+
+pub shape_of-w_closed : goal.shape_of-w_closed
+shape_of-w_closed c =
+    let k = c.workspace_told-told in
+    let w = c.work-r in
+    c.clear-8.auto.words ∙ length_front c.args.w_closed.now w.new.1.1.1.1.1.1.1.1.1.1.1.1.1.1.1.1.1.1.1.1.1.0 k.result.closed w.auto.1.1.1.1.1.1.1.1.1.1.1.1.1.1.1.1.1.1.1.1.1.0
+
+pub shape_of-w_order : goal.shape_of-w_order
+shape_of-w_order c =
+    let k = c.workspace_told-told in
+    let w = c.work-r in
+    c.clear-9.auto.words ∙ length_front c.args.w_order.now w.new.1.1.1.1.1.1.1.1.1.1.1.1.1.1.1.1.1.1.1.1.1.1.0 k.result.order w.auto.1.1.1.1.1.1.1.1.1.1.1.1.1.1.1.1.1.1.1.1.1.1.0
+
+pub shape_of-w_marks : goal.shape_of-w_marks
+shape_of-w_marks c =
+    let k = c.workspace_told-told in
+    let w = c.work-r in
+    c.clear-10.auto.words ∙ length_front c.args.w_marks.now w.new.1.1.1.1.1.1.1.1.1.1.1.1.1.1.1.1.1.1.1.1.1.1.1.0 k.result.marks w.auto.1.1.1.1.1.1.1.1.1.1.1.1.1.1.1.1.1.1.1.1.1.1.1.0
+
+pub shape_of-w_walks : goal.shape_of-w_walks
+shape_of-w_walks c =
+    let k = c.workspace_told-told in
+    let w = c.work-r in
+    c.clear-11.auto.words ∙ length_front c.args.w_walks.now w.new.1.1.1.1.1.1.1.1.1.1.1.1.1.1.1.1.1.1.1.1.1.1.1.1.0 k.result.walks w.auto.1.1.1.1.1.1.1.1.1.1.1.1.1.1.1.1.1.1.1.1.1.1.1.1.0
+
+pub returns : goal.returns
+returns c =
+    let k = c.workspace_told-told in
+    let m = room-told _ _ _ c.requires _ k.ensures in
+    let w = c.work-r in
+    record {
+      listed = w.ensures;
+      tables =
+          all-cleared
+          (input_for c.args.a c.args.reference.now c.args.ends.now c.args.bases.now c.args.qualities.now c.args.column.now)
+          k.result
+          (record { vertices = c.args.w_vertices.now; edges = c.args.w_edges.now; index = c.args.w_index.now; nodes = c.args.w_nodes.now; targets = c.args.w_targets.now; paths = c.args.w_paths.now; scores = c.args.w_scores.now; active = c.args.w_active.now; queue = c.args.w_queue.now; closed = c.args.w_closed.now; order = c.args.w_order.now; marks = c.args.w_marks.now; walks = c.args.w_walks.now })
+          (record { vertices = c.clear.new.0; edges = c.clear-2.new.0; index = c.clear-3.new.0; nodes = c.clear-4.new.0; targets = c.clear-5.new.0; paths = c.clear-6.new.0; scores = c.clear_scores.new.0; active = c.clear_slots.new.0; queue = c.clear-7.new.0; closed = c.clear-8.new.0; order = c.clear-9.new.0; marks = c.clear-10.new.0; walks = c.clear-11.new.0 })
+          k.ensures
+          (part-cleared c.args.w_vertices.now w.new.1.1.1.1.1.1.1.1.1.1.1.1.0 k.result.vertices 0 c.clear.new.0 w.auto.1.1.1.1.1.1.1.1.1.1.1.1.0 m.vertices c.clear.ensures)
+          (part-cleared c.args.w_edges.now w.new.1.1.1.1.1.1.1.1.1.1.1.1.1.0 k.result.edges 0 c.clear-2.new.0 w.auto.1.1.1.1.1.1.1.1.1.1.1.1.1.0 m.edges c.clear-2.ensures)
+          (part-cleared c.args.w_index.now w.new.1.1.1.1.1.1.1.1.1.1.1.1.1.1.0 k.result.index 0 c.clear-3.new.0 w.auto.1.1.1.1.1.1.1.1.1.1.1.1.1.1.0 m.index c.clear-3.ensures)
+          (part-cleared c.args.w_nodes.now w.new.1.1.1.1.1.1.1.1.1.1.1.1.1.1.1.0 k.result.nodes 0 c.clear-4.new.0 w.auto.1.1.1.1.1.1.1.1.1.1.1.1.1.1.1.0 m.nodes c.clear-4.ensures)
+          (part-cleared c.args.w_targets.now w.new.1.1.1.1.1.1.1.1.1.1.1.1.1.1.1.1.0 k.result.targets 0 c.clear-5.new.0 w.auto.1.1.1.1.1.1.1.1.1.1.1.1.1.1.1.1.0 m.targets c.clear-5.ensures)
+          (part-cleared c.args.w_paths.now w.new.1.1.1.1.1.1.1.1.1.1.1.1.1.1.1.1.1.0 k.result.paths 0 c.clear-6.new.0 w.auto.1.1.1.1.1.1.1.1.1.1.1.1.1.1.1.1.1.0 m.paths c.clear-6.ensures)
+          (part-cleared c.args.w_scores.now w.new.1.1.1.1.1.1.1.1.1.1.1.1.1.1.1.1.1.1.0 k.result.scores float_zero c.clear_scores.new.0 w.auto.1.1.1.1.1.1.1.1.1.1.1.1.1.1.1.1.1.1.0 m.scores c.clear_scores.ensures)
+          (part-cleared c.args.w_active.now w.new.1.1.1.1.1.1.1.1.1.1.1.1.1.1.1.1.1.1.1.0 k.result.active 0 c.clear_slots.new.0 w.auto.1.1.1.1.1.1.1.1.1.1.1.1.1.1.1.1.1.1.1.0 m.active c.clear_slots.ensures)
+          (part-cleared c.args.w_queue.now w.new.1.1.1.1.1.1.1.1.1.1.1.1.1.1.1.1.1.1.1.1.0 k.result.queue 0 c.clear-7.new.0 w.auto.1.1.1.1.1.1.1.1.1.1.1.1.1.1.1.1.1.1.1.1.0 m.queue c.clear-7.ensures)
+          (part-cleared c.args.w_closed.now w.new.1.1.1.1.1.1.1.1.1.1.1.1.1.1.1.1.1.1.1.1.1.0 k.result.closed 0 c.clear-8.new.0 w.auto.1.1.1.1.1.1.1.1.1.1.1.1.1.1.1.1.1.1.1.1.1.0 m.closed c.clear-8.ensures)
+          (part-cleared c.args.w_order.now w.new.1.1.1.1.1.1.1.1.1.1.1.1.1.1.1.1.1.1.1.1.1.1.0 k.result.order 0 c.clear-9.new.0 w.auto.1.1.1.1.1.1.1.1.1.1.1.1.1.1.1.1.1.1.1.1.1.1.0 m.order c.clear-9.ensures)
+          (part-cleared c.args.w_marks.now w.new.1.1.1.1.1.1.1.1.1.1.1.1.1.1.1.1.1.1.1.1.1.1.1.0 k.result.marks 0 c.clear-10.new.0 w.auto.1.1.1.1.1.1.1.1.1.1.1.1.1.1.1.1.1.1.1.1.1.1.1.0 m.marks c.clear-10.ensures)
+          (part-cleared c.args.w_walks.now w.new.1.1.1.1.1.1.1.1.1.1.1.1.1.1.1.1.1.1.1.1.1.1.1.1.0 k.result.walks 0 c.clear-11.new.0 w.auto.1.1.1.1.1.1.1.1.1.1.1.1.1.1.1.1.1.1.1.1.1.1.1.1.0 m.walks c.clear-11.ensures);
+    }
