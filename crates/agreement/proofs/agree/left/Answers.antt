@@ -1,5 +1,4 @@
 -- `agree::left` meets its contract, by what is seen of its two parts. Assumes nothing.
-use borrow.Author.Tests.{not-false}
 use Rattle.agreement.specs.Agree.{left_is}
 use mathlib.Core.Bool.{false≢true}
 use Rattle.agreement.proofs.agree.left.Goals as goal
@@ -11,4 +10,4 @@ pub returns-then-not-all_are : goal.returns-then-not-all_are
 returns-then-not-all_are c = λ e. absurd (false≢true e)
 
 pub returns : goal.returns
-returns c = λ e. left_is c.args.slice.now _ _ _ (c.all_are.ensures (not-false _ c.if-not-all_are.false-raw)) (c.all_are-2.ensures e)
+returns c = λ e. left_is c.args.slice.now _ _ _ (c.all_are.ensures c.if-not-all_are.false) (c.all_are-2.ensures e)

@@ -1,5 +1,4 @@
 -- `agree::written` meets its contract, by what is seen of its two parts. Assumes nothing.
-use borrow.Author.Tests.{not-false}
 use Rattle.agreement.specs.Agree.{written_is}
 use mathlib.Core.Bool.{false≢true}
 use Rattle.agreement.proofs.agree.written.Goals as goal
@@ -11,4 +10,4 @@ pub returns-then-not-same : goal.returns-then-not-same
 returns-then-not-same c = λ e. absurd (false≢true e)
 
 pub returns : goal.returns
-returns c = λ e. written_is c.args.slice.now _ _ (c.same.ensures (not-false _ c.if-not-same.false-raw)) (c.all_are.ensures e)
+returns c = λ e. written_is c.args.slice.now _ _ (c.same.ensures c.if-not-same.false) (c.all_are.ensures e)

@@ -1,5 +1,4 @@
 -- `scores::scores_left` meets its contract, by what is seen of its two parts. Assumes nothing.
-use borrow.Author.Tests.{not-false}
 use Rattle.agreement.specs.Scores.{bits-left-is}
 use mathlib.Core.Bool.{false≢true}
 use Rattle.agreement.proofs.scores.scores_left.Goals as goal
@@ -11,4 +10,4 @@ pub returns-then-not-all_scores_are : goal.returns-then-not-all_scores_are
 returns-then-not-all_scores_are c = λ e. absurd (false≢true e)
 
 pub returns : goal.returns
-returns c = λ e. bits-left-is c.args.scores.now _ _ _ (c.all_scores_are.ensures (not-false _ c.if-not-all_scores_are.false-raw)) (c.all_scores_are-2.ensures e)
+returns c = λ e. bits-left-is c.args.scores.now _ _ _ (c.all_scores_are.ensures c.if-not-all_scores_are.false) (c.all_scores_are-2.ensures e)

@@ -11,7 +11,7 @@ overflow_cast-paths c = let p = c.requires.0.paths-most in omega arith
 
 pub write_first-at-requires : goal.write_first-at-requires
 write_first-at-requires c =
-    let m = list-most c.requires.0 (λ i. (omega (arith, c.shared_slice_known-2-1.given i))) c.args.pushes
+    let m = list-most c.requires.0 (λ i. (omega (arith, (c.type_inv.closings i).fits))) c.args.pushes
     c.ranges.pushes.fits in
     let a = length-append (first_line c.args.paths c.args.pushes)
     (lines_from c.args.scores.now c.args.closings.now c.args.edges.now c.args.bases.now c.args.k 0 c.args.paths)
@@ -22,7 +22,7 @@ pub loop-i-init : goal.loop-i-init
 loop-i-init c =
     list-start c.args.scores.now c.args.closings.now c.args.edges.now c.args.bases.now c.args.k
     c.args.paths c.args.pushes
-    (let m = list-most c.requires.0 (λ i. (omega (arith, c.shared_slice_known-2-1.given i))) c.args.pushes c.ranges.pushes.fits in omega (arith, c.requires.1))
+    (let m = list-most c.requires.0 (λ i. (omega (arith, (c.type_inv.closings i).fits))) c.args.pushes c.ranges.pushes.fits in omega (arith, c.requires.1))
     c.write_first-at.ensures c.write_first-at.auto.out
 
 pub write_row-at-requires : goal.write_row-at-requires
@@ -50,5 +50,5 @@ pub returns : goal.returns
 returns c =
     list-end c.args.scores.now c.args.closings.now c.args.edges.now c.args.bases.now c.args.k
     c.args.paths c.loop-i.invariant c.args.pushes c.loop-i-test.false
-    (let m = list-most c.requires.0 (λ i. (omega (arith, c.shared_slice_known-2-1.given i))) c.args.pushes c.ranges.pushes.fits in omega (arith, c.requires.1))
+    (let m = list-most c.requires.0 (λ i. (omega (arith, (c.type_inv.closings i).fits))) c.args.pushes c.ranges.pushes.fits in omega (arith, c.requires.1))
     c.write_first-at.ensures

@@ -1,5 +1,4 @@
 -- `read_pair` meets its contract. Assumes nothing.
-use borrow.Author.Tests.{not-true, not-false}
 use Rattle.text_form.specs.Reads.{bases-unended, qualities-unended, qualities-bad, pair_read}
 use Rattle.text_form.proofs.reads.read_pair.Goals as goal
 
@@ -16,11 +15,11 @@ returns-then-not-qualities_fit c =
     qualities-bad _ _ _ c.requires
     c.find_byte-bases.ensures c.if-bases-size.false _
     c.find_byte-qualities.ensures c.if-qualities-size.false _ c.qualities_fit.ensures
-    (not-true _ c.if-not-qualities_fit.true-raw)
+    c.if-not-qualities_fit.true
 
 pub returns : goal.returns
 returns c =
     pair_read _ _ _ c.requires
     c.find_byte-bases.ensures c.if-bases-size.false _
     c.find_byte-qualities.ensures c.if-qualities-size.false _ c.qualities_fit.ensures
-    (not-false _ c.if-not-qualities_fit.false-raw)
+    c.if-not-qualities_fit.false
