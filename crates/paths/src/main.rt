@@ -9,37 +9,40 @@ ghost use Rattle.paths.specs.Printing.{Printed};
 
 use answer::answer;
 use paths_input::take_column;
+use std::fs;
+use std::io::Read;
+use std::rt::Files;
 use whole_input::{Reading, read_whole};
 
 // The column file; one that is missing is answered like one that could not be read whole.
-fn read_file(bytes: &mut [u8]) -> Reading
+fn read_file(files: &impl Files, bytes: &mut [u8]) -> Reading
     ensures { Within result (length bytes.new) }
 {
-    let file = os::open_read(b"column.f64");
-    if file < 0 {
+    let opened = fs::open(files, "column.f64");
+    let Ok(mut file) = opened else {
         return Reading::Partial;
-    }
-    let reading = read_whole(file, bytes);
-    libc::close(file);
-    reading
+    };
+    read_whole(&mut file, bytes)
 }
 
 // What is printed. The buffer of the text holds the column file first, and at the end what is printed.
-fn run(text: &mut [u8], column: &mut [f64]) -> usize
+fn run<R: Read>(files: &impl Files, input: &mut R, text: &mut [u8], column: &mut [f64]) -> usize
     requires { (length text.old ≡ 8192) × (length column.old ≡ 512) }
     ensures { Printed text.new result }
 {
-    let file = read_file(text);
+    let file = read_file(files, text);
     let entries = take_column(file, text, column);
-    let input = read_whole(0, text);
-    answer(entries, input, text, column)
+    let reading = read_whole(input, text);
+    answer(entries, reading, text, column)
 }
 
-fn main() {
+// Standard input is read without a buffer of its own.
+fn main(rt: HostRuntime) {
     let mut text = [0u8; 8192];
     let mut column = [0.0f64; 512];
-    let size = run(&mut text, &mut column);
-    if !io::write_all(1, &text[..size]) {
-        io::write_all(2, b"paths: the output could not be written whole\n");
+    let size = run(&rt, &mut rt.stdin(), &mut text, &mut column);
+    let written = rt.write_all(&text[..size]);
+    if written.is_err() {
+        let _ = eprintln!(rt; "paths: the output could not be written whole");
     }
 }

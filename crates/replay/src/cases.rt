@@ -2,7 +2,6 @@
 use crate::lists::list_agrees_over;
 use known_answers::calls::{graph_agrees, lengths_agree, origin_agrees};
 use known_answers::numbers::{field, list_at, low_byte, unpack};
-use std::num::wrapping_add_u64;
 
 #[derive(Clone, Copy)]
 pub struct Total {
@@ -11,24 +10,22 @@ pub struct Total {
 }
 
 // Tells the number of a call that failed, counted from 1 over all files.
-fn report(total: Total) {
-    let before = wrapping_add_u64(total.passed, total.failed);
-    io::write_all(1, b"not as told: call ");
-    io::print_decimal(1, wrapping_add_u64(before, 1));
-    io::write_all(1, b"\n");
+fn report(rt: &impl Print, total: Total) {
+    let number = total.passed.wrapping_add(total.failed).wrapping_add(1);
+    let _ = println!(rt; "not as told: call {number}");
 }
 
-fn counted(total: Total, agrees: bool) -> Total {
+fn counted(rt: &impl Print, total: Total, agrees: bool) -> Total {
     if agrees {
         return Total {
-            passed: wrapping_add_u64(total.passed, 1),
+            passed: total.passed.wrapping_add(1),
             failed: total.failed,
         };
     }
-    report(total);
+    report(rt, total);
     Total {
         passed: total.passed,
-        failed: wrapping_add_u64(total.failed, 1),
+        failed: total.failed.wrapping_add(1),
     }
 }
 
@@ -55,6 +52,7 @@ fn replay_call<'a>(
 
 // All calls of a case, the lists from a place on.
 fn replay_calls<'a>(
+    rt: &impl Print,
     case: &[u32],
     place: usize,
     k: u32,
@@ -82,7 +80,7 @@ fn replay_calls<'a>(
             qualities,
             log10,
         );
-        sum = counted(sum, agrees);
+        sum = counted(rt, sum, agrees);
         at = end;
     }
     sum
@@ -90,6 +88,7 @@ fn replay_calls<'a>(
 
 // The lists from a place on: where reads end, bases, qualities; then the calls.
 fn replay_reads(
+    rt: &impl Print,
     case: &[u32],
     place: usize,
     reference: &[u8],
@@ -110,6 +109,7 @@ fn replay_reads(
     let f = part.end;
     let quality_count = unpack(&case[e..f], &mut qualities);
     replay_calls(
+        rt,
         case,
         f,
         field(case, 0),
@@ -124,17 +124,17 @@ fn replay_reads(
 }
 
 // A case: k, the minimum quality, the reference as a list, the reads and the calls.
-fn replay_case(case: &[u32], log10: &[f64], total: Total) -> Total {
+fn replay_case(rt: &impl Print, case: &[u32], log10: &[f64], total: Total) -> Total {
     let mut reference = [0u8; 2048];
     let part = list_at(case, 2);
     let a = part.start;
     let b = part.end;
     let length = unpack(&case[a..b], &mut reference);
-    replay_reads(case, b, &reference[0..length], log10, total)
+    replay_reads(rt, case, b, &reference[0..length], log10, total)
 }
 
 // All cases, the lists of the data.
-pub fn replay(numbers: &[u32], log10: &[f64]) -> Total {
+pub fn replay(rt: &impl Print, numbers: &[u32], log10: &[f64]) -> Total {
     let mut total = Total {
         passed: 0,
         failed: 0,
@@ -144,7 +144,7 @@ pub fn replay(numbers: &[u32], log10: &[f64]) -> Total {
         let case = list_at(numbers, at);
         let start = case.start;
         let end = case.end;
-        total = replay_case(&numbers[start..end], log10, total);
+        total = replay_case(rt, &numbers[start..end], log10, total);
         at = end;
     }
     total
