@@ -16,7 +16,7 @@ pub struct PathRow {
     pub is_ref: bool,
 }
 
-// The first n rows are those of the three columns; the others stay. Its proof is made by `tools/walk`, since a slice of records is not covered.
+// The first n rows are those of the three columns; the others stay.
 pub fn write_rows(rows: &mut [PathRow], n: usize, scores: &[f64], closings: &[u32], edges: &[u32])
     requires { (n ≤ length rows.old) × (n ≤ length scores.now) × (n ≤ length closings.now) × (n ≤ length edges.now) }
     ensures { Filled scores.now closings.now edges.now n rows.old rows.new }
