@@ -1,7 +1,7 @@
 //! The exported functions as C sees them, and each as a safe call over borrowed slices.
 //!
 //! This is for those who place every slice themselves; [`Caller`](crate::Caller) owns slices of the lengths told and hands the answers back as types.
-//! All unsafe code of the crate stands here. Names, types and order are those of the Rattle sources (crates/punelavoh/src/lib.rt and the structs that
+//! All unsafe code of the crate stands here. Names, types and order are those of the Rattle sources (crates/punelavoh_c/src/lib.rt and the structs that
 //! it uses), and a test holds them to these.
 //!
 //! A call takes its arguments as a struct, so that each is named where it is given:

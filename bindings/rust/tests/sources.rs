@@ -64,7 +64,7 @@ fn structs_are_those_of_the_library() {
 #[test]
 fn functions_are_those_exported() {
     let Some(crates) = crates() else { return };
-    let source = read(&crates.join("punelavoh/src/lib.rt"));
+    let source = read(&crates.join("punelavoh_c/src/lib.rt"));
     let mut theirs = Declared::new();
     for part in source.split("pub extern \"C\" fn ").skip(1) {
         let (name, rest) = part.split_once("(\n").expect("arguments, a line each");

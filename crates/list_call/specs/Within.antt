@@ -1,7 +1,7 @@
 -- The whole call for the list: refused by the rules with nothing touched, or the work over the parts told, which are zero afterwards. Assumes nothing.
 use Rattle.std.specs.Prelude.{◌≡◌, ℕ, ◌≤◌, length}
 use Rattle.definition.specs.Limits.{Input}
-use Rattle.definition.specs.Listing.{refusal, answer}
+use Rattle.definition.specs.Listing.{answer}
 use Rattle.theorems.proofs.Checks.{Checked}
 use Rattle.slice_lengths.specs.declared.Workspace.{Workspace}
 use Rattle.list_interface.specs.declared.ListAnswer.{ListAnswer}

@@ -1,5 +1,4 @@
 -- `clear_scores` meets its contract. The invariant: the first i scores are 0 and the rest as before. Assumes nothing.
-use Prim.Native.Nat.{◌-◌}
 use lib.Ieee.{of_bits}
 use Rattle.graph_rows.specs.Zeros.{clear-start, clear_in, clear_next, clear-end}
 use borrow.Author.Rules.{rules}

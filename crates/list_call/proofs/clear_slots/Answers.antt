@@ -1,5 +1,4 @@
 -- `clear_slots` meets its contract. The invariant: the first i slots are 0 and the rest as before. Assumes nothing.
-use Prim.Native.Nat.{◌-◌}
 use Rattle.graph_rows.specs.Zeros.{clear-start, clear_in, clear_next, clear-end}
 use borrow.Author.Rules.{rules}
 use Rattle.list_call.proofs.clear_slots.Goals as goal

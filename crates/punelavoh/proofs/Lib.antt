@@ -1,3 +1,0 @@
-mod Again
-mod Leaving
-mod Sharing
