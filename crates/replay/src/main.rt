@@ -4,11 +4,12 @@
 mod cases;
 mod lists;
 
+ghost use Rattle.std.specs.Prelude.{◌≤◌, length, IfOk};
+
 use known_answers::column::read_entries;
 use known_answers::numbers::{list_at, read_numbers};
 use std::io;
-use std::io::{Error, ErrorKind};
-use whole_input::{Reading, read_whole};
+use std::io::Read;
 
 // The data tell the first places of log10; those behind them hold the largest entry that a column may have, and are not read by any call of the sample.
 fn replay_data(rt: &impl Print, numbers: &[u32]) -> cases::Total {
@@ -26,13 +27,24 @@ fn replay_text(rt: &impl Print, text: &[u8]) -> cases::Total {
     replay_data(rt, &numbers[0..count])
 }
 
-// Data that could not be read whole, or that have no room, are not replayed.
+// Reads until the input ends or the slice is full; a read that fails ends it.
+fn read_full<R: Read>(input: &mut R, bytes: &mut [u8]) -> io::Result<usize>
+    ensures { IfOk result (λ n. n ≤ length bytes.new) }
+{
+    let mut done: usize = 0;
+    while done < bytes.len() {
+        let n = input.read(&mut bytes[done..])?;
+        if n == 0 {
+            return Ok(done);
+        }
+        done += n;
+    }
+    Ok(done)
+}
+
 fn main(rt: HostRuntime) -> io::Result<()> {
     let mut text = [0u8; 327680];
-    let reading = read_whole(&mut rt.stdin(), &mut text);
-    let Reading::Whole(n) = reading else {
-        return Err(Error::new(ErrorKind::InvalidData, "the data could not be read whole"));
-    };
+    let n = read_full(&mut rt.stdin(), &mut text)?;
     let total = replay_text(&rt, &text[..n]);
     let passed = total.passed;
     let failed = total.failed;
