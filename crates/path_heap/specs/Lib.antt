@@ -1,3 +1,2 @@
 pub mod First
 pub mod Heap
-pub mod Link

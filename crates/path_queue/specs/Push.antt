@@ -12,7 +12,7 @@ use Rattle.definition.specs.Score.{column_scoring}
 use Rattle.definition.specs.Search.{Path, State, Turn, more, full, wait, push, push_all}
 use Rattle.path_heap.specs.First.{Known}
 use Rattle.path_heap.specs.Heap.{Pushable, Pushed, waiting, ahead_of, waiting-length, waiting-all, pushed-all}
-use Rattle.path_heap.specs.Link.{pushed-view}
+use Rattle.path_heap.proofs.Link.{pushed-view}
 use Rattle.search_state.specs.declared.Setting.{Setting}
 use Rattle.search_state.specs.declared.Progress.{Progress}
 use Rattle.search_state.specs.declared.Step.{Step}

@@ -3,7 +3,7 @@ use Prim.Native.Nat.{◌-◌}
 use native.Mathlib.Omega.{arith}
 use Rattle.path_heap.specs.First.{Known, leads, leads-order}
 use Rattle.laws.specs.Heaps.{pop-one, pop_start, pop-hole, pop-end}
-use Rattle.path_heap.specs.Heap.{popped}
+use Rattle.path_heap.proofs.Laws.{popped}
 use Rattle.path_heap.proofs.heap_pop.Goals as goal
 
 pub returns-then-m-eq0 : goal.returns-then-m-eq0

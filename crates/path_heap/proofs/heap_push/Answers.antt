@@ -1,6 +1,6 @@
 use Rattle.path_heap.specs.First.{Known, leads, leads-order}
 use Rattle.laws.specs.Heaps.{push-start, push-end}
-use Rattle.path_heap.specs.Heap.{pushed}
+use Rattle.path_heap.proofs.Laws.{pushed}
 use Rattle.path_heap.proofs.heap_push.Goals as goal
 
 pub raise-requires : goal.raise-requires

@@ -29,12 +29,12 @@ use Rattle.theorems.proofs.Allowance.{NotFull, search-allowed}
 use Rattle.theorems.proofs.Checks.{holds-first}
 use Rattle.theorems.proofs.Twice.{any-keeps}
 use Rattle.theorems.proofs.Refuses.{OnlyTurn}
-use Rattle.allowance.specs.Ways.{five-offered}
-use Rattle.allowance.specs.Weights.{below, below_up}
-use Rattle.allowance.specs.Spent.{Lean, Within, spent-pushes, turns-within}
-use Rattle.allowance.specs.Joins.{joins-always}
-use Rattle.allowance.specs.Free.{run-free}
-use Rattle.allowance.specs.Covered.{only-eleven}
+use Rattle.allowance.proofs.Ways.{five-offered}
+use Rattle.allowance.proofs.Weights.{below, below_up}
+use Rattle.allowance.proofs.Spent.{Lean, Within, spent-pushes, turns-within}
+use Rattle.allowance.proofs.Joins.{joins-always}
+use Rattle.allowance.proofs.Free.{run-free}
+use Rattle.allowance.proofs.Covered.{only-eleven}
 
 -- ---- the formula grows with each of its numbers
 

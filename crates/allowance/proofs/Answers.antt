@@ -16,8 +16,8 @@ use Rattle.theorems.proofs.Checks.{checked, accepted, sample-checked}
 use Rattle.theorems.proofs.Found.{Listing}
 use Rattle.theorems.proofs.Late.{list-keeps}
 use Rattle.theorems.proofs.Refuses.{OnlyTurn, OnlyAnswer, search-late, found-only}
-use Rattle.allowance.specs.Suffices.{enough-up, built-fits, never-full, search-few, search-eleven, maxima-suffice}
-use Rattle.allowance.specs.Covered.{column-covers}
+use Rattle.allowance.proofs.Suffices.{enough-up, built-fits, never-full, search-few, search-eleven, maxima-suffice}
+use Rattle.allowance.proofs.Covered.{column-covers}
 
 -- the formula, of the maxima
 abbrev pub enough_for : Input → ℕ

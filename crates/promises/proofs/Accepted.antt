@@ -13,7 +13,7 @@ use Rattle.theorems.proofs.Late.{no_zero}
 use Rattle.theorems.proofs.Demand.{paths-spelled, within-bounds}
 use Rattle.limits.specs.Long.{long-head}
 use Rattle.promises.specs.Reading.{read_list}
-use Rattle.promises.specs.Back.{Fits, LongFor, read_back}
+use Rattle.promises.proofs.Back.{Fits, LongFor, read_back}
 
 -- ---- the list
 

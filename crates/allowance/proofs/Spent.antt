@@ -24,7 +24,7 @@ use Rattle.theorems.proofs.Trees.{Rising, AllRising}
 use Rattle.theorems.proofs.Forks.{pivotal-differ}
 use Rattle.theorems.proofs.Twice.{any-keeps, walk-rising}
 use Rattle.theorems.proofs.TurnParts.{Taken, take-parts, extensions-steps, recover-parts}
-use Rattle.allowance.specs.Weights.{below, below_up, guide, unmet-all, unmet-nodes, room, decisions, weight, extensions-weight, join-weight}
+use Rattle.allowance.proofs.Weights.{below, below_up, guide, unmet-all, unmet-nodes, room, decisions, weight, extensions-weight, join-weight}
 
 -- what the search looks at, as every built graph has it
 pub record Lean (f : SearchInput) : Type 0 where

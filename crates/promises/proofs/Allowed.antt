@@ -9,7 +9,7 @@ use Rattle.definition.specs.Building.{Built, built}
 use Rattle.definition.specs.Listing.{refusal, answer}
 use Rattle.definition.specs.Calls.{list_outcome, list_lent}
 use Rattle.definition.specs.Enough.{enough}
-use Rattle.allowance.specs.Answers.{enough_for, never-twelve-built, never-twelve, listed-few, never-ten}
+use Rattle.allowance.proofs.Answers.{enough_for, never-twelve-built, never-twelve, listed-few, never-ten}
 use Rattle.slice_lengths.specs.Lengths.{list_workspace_told}
 use Rattle.list_interface.specs.declared.ListAnswer.{ListAnswer}
 use Rattle.list_work.specs.Outcome.{Outputs, Tables}
@@ -17,7 +17,7 @@ use Rattle.list_lent.specs.Lent.{workspace_lent}
 use Rattle.list_call.specs.Within.{lengths_of}
 use Rattle.path_rows.specs.declared.PathRow.{PathRow}
 use Rattle.punelavoh.specs.Records.{slices_of, ListCalled}
-use Rattle.promises.specs.Accepted.{made, outcome, refused-is}
+use Rattle.promises.proofs.Accepted.{made, outcome, refused-is}
 
 module _ (i : Input) (r : ListAnswer) (rs rs' : List PathRow) (o o' : Outputs) (w w' : Tables) (called : ListCalled i r rs rs' o o' w w') where
   abbrev told : List ℕ
