@@ -2,11 +2,10 @@
 use Rattle.std.specs.Prelude.{◌≡◌, refl, ℕ, ◌≤◌, true, List, leb, Float}
 use Rattle.std.proofs.Common.{sym, ◌∙◌}
 use Rattle.laws.specs.Lists.{keep}
-use Rattle.laws.specs.ListLaws.{All}
 use Rattle.definition.specs.Limits.{Input, is_long_enough, list_told}
-use Rattle.definition.specs.Listing.{Row, Answer, refusal, listed, answer}
-use Rattle.definition.specs.Calls.{ListSlices, ListAnswer, list_outcome, list_lent, list_call}
-use Rattle.definition.specs.Promises.{Spelled, NoneOutscores, AllElseEqual}
+use Rattle.definition.specs.Listing.{Answer, refusal, listed, answer}
+use Rattle.definition.specs.Calls.{ListSlices, list_outcome, list_lent, list_call}
+use Rattle.definition.specs.Promises.{AllElseEqual}
 use Rattle.theorems.proofs.Fewer.{IsList}
 use Rattle.theorems.proofs.Demand.{demand-3a, demand-3b, fewer-accepted}
 use Rattle.promises.specs.Reading.{read_rows, read_list}

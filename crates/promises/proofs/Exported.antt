@@ -1,19 +1,16 @@
 -- Demand 3 of the exported calls: what holds of the rows in the slices that `punelavoh_list` leaves, and of the bytes that `punelavoh_origin` names for their
 -- edges. Of each call only its contract is used: `ListCalled` of the one, `Names` of the other. Assumes nothing.
-use Rattle.std.specs.Prelude.{◌≡◌, refl, ℕ, zero, suc, ◌≤◌, ◌<◌, true, List, leb, length, take, drop, get_or, Float}
+use Rattle.std.specs.Prelude.{◌≡◌, refl, ℕ, zero, suc, ◌≤◌, List, leb, length, Float}
 use Rattle.std.proofs.Common.{sym, ap, ◌∙◌}
 use Rattle.std.proofs.Math.Path.{subst}
 use Rattle.std.proofs.lemmas.List.{length-map}
 use Rattle.laws.specs.Lists.{keep}
 use Rattle.laws.specs.ListLaws.{All, all-mono}
 use Rattle.definition.specs.Limits.{Sample, Input, is_long_enough}
-use Rattle.definition.specs.Threading.{Origin}
 use Rattle.definition.specs.Listing.{Row}
-use Rattle.definition.specs.Calls.{ListSlices, OriginOutcome, origin_call, list_lent}
+use Rattle.definition.specs.Calls.{ListSlices, OriginOutcome, list_lent}
 use Rattle.definition.specs.Promises.{Spelled, AllElseEqual}
 use Rattle.slice_lengths.specs.Lengths.{list_workspace_told}
-use Rattle.origins.specs.declared.OriginAnswer.{OriginAnswer}
-use Rattle.origins.specs.Parts.{lent_by, Names}
 use Rattle.list_interface.specs.declared.ListAnswer.{ListAnswer}
 use Rattle.list_work.specs.Outcome.{Outputs, Tables}
 use Rattle.list_lent.specs.Lent.{workspace_lent, told_of, lent_of}

@@ -2,7 +2,6 @@
 use Rattle.std.specs.Prelude.{◌≡◌, ℕ, true, List, [], ◌∷◌, length}
 use Rattle.std.proofs.Common.{sym, ap, ◌∙◌}
 use Rattle.definition.specs.Limits.{Sample, GraphMaxima, SearchMaxima, Input, is_long_enough, list_told, graph_told}
-use Rattle.definition.specs.Listing.{refusal, answer}
 use Rattle.definition.specs.Calls.{GraphOutcome, ListSlices, list_lent, list_call}
 use Rattle.theorems.proofs.Late.{list-not-7, graph-not-7}
 use Rattle.slice_lengths.specs.declared.LengthsTold.{LengthsTold}

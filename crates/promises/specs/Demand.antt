@@ -2,7 +2,7 @@
 use Rattle.std.specs.Prelude.{◌≡◌, ℕ, ◌≤◌, List, Float}
 use Rattle.laws.specs.ListLaws.{All}
 use Rattle.definition.specs.Limits.{Input}
-use Rattle.definition.specs.Listing.{Row, answer}
+use Rattle.definition.specs.Listing.{Row}
 use Rattle.definition.specs.Calls.{ListSlices, ListAnswer, list_call}
 use Rattle.definition.specs.Promises.{Spelled, NoneOutscores}
 
@@ -13,13 +13,11 @@ use Rattle.definition.specs.Promises.{Spelled, NoneOutscores}
 abbrev pub Promised : Input → List (Row Float) → Type 0
 Promised i rows = All (Spelled i.sample) rows × NoneOutscores rows
 
-
 -- what an accepted answer tells stays within what was asked and allowed; the waiting mark lies between the last two
 pub record ToldWithin (i : Input) (a : ListAnswer) : Type 0 where
   pub paths-fit : a.paths ≤ i.asked
   pub pushes-fit : a.pushes ≤ i.search_maxima.pushes
   pub waiting-fit : a.longest ≤ a.pushes
-
 
 -- ---- a program
 

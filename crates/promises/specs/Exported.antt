@@ -11,7 +11,6 @@ use Rattle.list_work.specs.Outcome.{Outputs, Tables}
 use Rattle.list_lent.specs.Lent.{told_of, lent_of}
 use Rattle.list_call.specs.Within.{lengths_of}
 use Rattle.path_rows.specs.declared.PathRow.{PathRow}
-use Rattle.path_rows.specs.Rows.{told}
 use Rattle.punelavoh.specs.Records.{slices_of}
 use Rattle.promises.specs.Reading.{read_rows}
 
@@ -24,7 +23,6 @@ rows_left i r rows o = read_rows i (slices_of rows o) r.paths
 -- each slice lent is at least as long as told
 abbrev pub LentTold : Input → List PathRow → Outputs → Tables → Type 0
 LentTold i rows o w = is_long_enough (told_of i) (lent_of (lengths_of (length rows) o w)) ≡ true
-
 
 -- ---- what the call for an origin names
 
