@@ -188,7 +188,7 @@ module _ {i : Input} {o : Outputs} {w : Tables} {b : Raise} (q : Searches i o w 
         record {
           input = f;
           on_ground = on_ground;
-          fits = q.checks.column_fits;
+          fits = q.checks.column-fits;
           room = rw ge (record {
             paths = (let z = q.paths in omega arith);
             scores = (let z = q.scores in omega arith);
@@ -224,11 +224,11 @@ module _ {i : Input} {o : Outputs} {w : Tables} {b : Raise} (q : Searches i o w 
         reached = ap last_of (searched-is ∙ there.is)
 
         good : GoodState NotNan f there.state × Numbered 0 there.state.closed
-        good = search-reached (column-keeps i.column q.checks.column_fits) f i.search_maxima.pushes i.asked i.recovery there.state reached
+        good = search-reached (column-keeps i.column q.checks.column-fits) f i.search_maxima.pushes i.asked i.recovery there.state reached
 
         counted : Counted i.asked i.search_maxima.pushes there.state
         counted =
-            search-counted (column-keeps i.column q.checks.column_fits) f i.asked i.search_maxima.pushes i.recovery there.state (some-pushes i q.checks) reached
+            search-counted (column-keeps i.column q.checks.column-fits) f i.asked i.search_maxima.pushes i.recovery there.state (some-pushes i q.checks) reached
 
         closed-are : length there.state.closed ≡ p.closed
         closed-are = ap length there.holds.closed_is ∙ length-map (take p.closed closed') _ ∙ length-take-le p.closed closed' there.holds.closed-room

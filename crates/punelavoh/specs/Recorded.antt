@@ -277,7 +277,7 @@ module _ (i : Input) (lent : ℕ) (o : Outputs) (w : Tables) where
   few : (rs : List (Row Float)) (p q : ℕ) → answered i lent o w ≡ listed rs p q → (length rs ≤ i.asked) × All (λ r. r.is_ref ≡ false) rs
   few rs p q e =
       let a = accepted i (told_of i) (lent_of (lengths_of lent o w)) rs p q e in
-      ((bounded-listing (column-keeps i.column a.0.column_fits) i rs p q (some-pushes i a.0) a.1).rows_fit, flags i rs p q a.1)
+      ((bounded-listing (column-keeps i.column a.0.column-fits) i rs p q (some-pushes i a.0) a.1).rows_fit, flags i rs p q a.1)
 
   long-told : first_broken (list_rules i (told_of i) (lent_of (lengths_of lent o w))) ≡ 0 → Long i.sample.k i.asked i.graph_maxima i.search_maxima (lengths_of lent o w)
   unfolding list_rules sample_rules

@@ -27,7 +27,7 @@ fn replay_text(rt: &impl Print, text: &[u8]) -> cases::Total {
     replay_data(rt, &numbers[0..count])
 }
 
-// Reads until the input ends or the slice is full; a read that fails ends it.
+// Reads until the input ends or the slice is full; a read that fails is handed on.
 fn read_full<R: Read>(input: &mut R, bytes: &mut [u8]) -> io::Result<usize>
     ensures { IfOk result (λ n. n ≤ length bytes.new) }
 {

@@ -51,7 +51,7 @@ use Rattle.search_ground.specs.Tables.{Tables, Tabled, Sole}
 record Ruled (s : Sample) : Type 0 where
   reference-fits : reference_fits s.k s.reference ≡ true
   reference-bases : reference_bases s.reference ≡ true
-  reads_fit : reads_fit s ≡ true
+  reads-fit : reads_fit s ≡ true
 
 ruled : (s : Sample) → first_broken (sample_rules s) ≡ 0 → Ruled s
 unfolding sample_rules
@@ -60,7 +60,7 @@ ruled s e =
     let b = holds-first 1 _ _ a.1 in
     let c = holds-first 2 _ _ b.1 in
     let d = holds-first 3 _ _ c.1 in
-    record { reference-fits = b.0; reference-bases = c.0; reads_fit = d.0 }
+    record { reference-fits = b.0; reference-bases = c.0; reads-fit = d.0 }
 
 within-high : (lo hi n : ℕ) → within lo hi n ≡ true → n ≤ hi
 within-high lo hi n h = leb-true n hi (and_right (leb lo n) (leb n hi) h)
@@ -304,8 +304,8 @@ module _ (i : Input) {vs₂ es : List ℕ} {n m sink : ℕ} (rules : first_broke
           wide = there.held.wide;
           tree = λ v h z. (let w = a-tree v z in record { below = w.below; is = w.is; live = w.live; leads = w.leads });
           no-tree = λ v h z. no-tree v z;
-          small = λ v b e. tree-small 65535 v b (evidence s (threaded s)) (counts-small s (threaded s) r.reads_fit k.k-low) e;
-          support = leaving-small s r.reference-fits r.reads_fit;
+          small = λ v b e. tree-small 65535 v b (evidence s (threaded s)) (counts-small s (threaded s) r.reads-fit k.k-low) e;
+          support = leaving-small s r.reference-fits r.reads-fit;
           six = six-leave s (let a = k.k-low in omega arith) k.low r.reference-bases;
           most = refl;
           active = refl;

@@ -22,9 +22,9 @@ pub record Checked (i : Input) : Type 0 where
   pub k-fits : k_fits i.sample.k ≡ true
   pub reference-fits : reference_fits i.sample.k i.sample.reference ≡ true
   pub reference-bases : reference_bases i.sample.reference ≡ true
-  pub reads_fit : reads_fit i.sample ≡ true
+  pub reads-fit : reads_fit i.sample ≡ true
   pub settings-fit : settings_fit i.asked i.graph_maxima i.search_maxima ≡ true
-  pub column_fits : column_fits i.column ≡ true
+  pub column-fits : column_fits i.column ≡ true
 
 -- a first rule that has a number of 1 or more holds where none is broken
 pub holds-first : (n : ℕ) (b : Bool) (rs : List Rule) → first_broken (record { number = suc n; holds = b } ∷ rs) ≡ 0 → (b ≡ true) × (first_broken rs ≡ 0)
@@ -42,7 +42,7 @@ all-checked i told lent e =
     let d = holds-first 3 _ _ c.1 in
     let f = holds-first 4 _ _ d.1 in
     let g = holds-first 5 _ _ f.1 in (
-      record { k-fits = a.0; reference-fits = b.0; reference-bases = c.0; reads_fit = d.0; settings-fit = f.0; column_fits = g.0 },
+      record { k-fits = a.0; reference-fits = b.0; reference-bases = c.0; reads-fit = d.0; settings-fit = f.0; column-fits = g.0 },
       (holds-first 6 _ _ g.1).0,
     )
 
@@ -56,7 +56,7 @@ long-enough i told lent e = (all-checked i told lent e).1
 pub none-broken : (i : Input) (told lent : List ℕ) → Checked i → is_long_enough told lent ≡ true → first_broken (list_rules i told lent) ≡ 0
 unfolding list_rules sample_rules first_broken
 none-broken i told lent c l =
-    rw (c.k-fits, first_broken, c.reference-fits, first_broken, c.reference-bases, first_broken, c.reads_fit, first_broken, c.settings-fit, first_broken, c.column_fits, first_broken, l, first_broken)
+    rw (c.k-fits, first_broken, c.reference-fits, first_broken, c.reference-bases, first_broken, c.reads-fit, first_broken, c.settings-fit, first_broken, c.column-fits, first_broken, l, first_broken)
 
 -- fewer paths asked pass them too
 pub fewer-checked : (i : Input) (n m : ℕ) → n ≤ m → Checked (with_asked i m) → Checked (with_asked i n)
@@ -71,9 +71,9 @@ fewer-checked i n m le c =
       k-fits = c.k-fits;
       reference-fits = c.reference-fits;
       reference-bases = c.reference-bases;
-      reads_fit = c.reads_fit;
+      reads-fit = c.reads-fit;
       settings-fit = ap (λ (b : Bool). b && g && s) h ∙ e;
-      column_fits = c.column_fits;
+      column-fits = c.column-fits;
     }
 
 -- an answer that is a list has passed the checks, and is what the search gives
@@ -118,17 +118,17 @@ pub qualities-even : (i : Input) → Checked i → length i.sample.qualities ≡
 unfolding reads_fit
 qualities-even i c =
     let s = i.sample in
-    eqb-true (length s.qualities) (length s.bases) (and_right (ends_fit s.ends s.bases) (eqb (length s.qualities) (length s.bases)) c.reads_fit)
+    eqb-true (length s.qualities) (length s.bases) (and_right (ends_fit s.ends s.bases) (eqb (length s.qualities) (length s.bases)) c.reads-fit)
 
 -- the origin call's own rules hold too
 pub origin-checked : (i : Input) → Checked i → first_broken (origin_rules i.sample.k i.sample.reference i.sample.ends i.sample.bases) ≡ 0
 unfolding origin_rules first_broken reads_fit
 origin-checked i c =
     let s = i.sample in
-    let e : ends_fit s.ends s.bases ≡ true = and_left (ends_fit s.ends s.bases) (eqb (length s.qualities) (length s.bases)) c.reads_fit in
+    let e : ends_fit s.ends s.bases ≡ true = and_left (ends_fit s.ends s.bases) (eqb (length s.qualities) (length s.bases)) c.reads-fit in
     rw (c.k-fits, first_broken, c.reference-fits, first_broken, c.reference-bases, first_broken, e, first_broken)
 
 -- and so do the sample's
 pub sample-checked : (i : Input) → Checked i → first_broken (sample_rules i.sample) ≡ 0
 unfolding sample_rules first_broken
-sample-checked i c = rw (c.k-fits, first_broken, c.reference-fits, first_broken, c.reference-bases, first_broken, c.reads_fit, first_broken)
+sample-checked i c = rw (c.k-fits, first_broken, c.reference-fits, first_broken, c.reference-bases, first_broken, c.reads-fit, first_broken)

@@ -58,13 +58,13 @@ module _ (i : Input) (told lent : List ℕ) (rows : List (Row Float)) (p q : ℕ
       let a = accepted i told lent rows p q t in
       let k : 2 ≤ i.sample.k = k-some i a.0 in
       all-mono (row-spelled i a.0)
-      (spelled-listing (column-keeps i.column a.0.column_fits) i rows p q (omega arith) (reference-long i a.0) (qualities-even i a.0) a.1)
+      (spelled-listing (column-keeps i.column a.0.column-fits) i rows p q (omega arith) (reference-long i a.0) (qualities-even i a.0) a.1)
 
   -- No path outscores the one above it.
   pub none-outscores : NoneOutscores rows
   none-outscores =
       let a = accepted i told lent rows p q t in
-      none_above i.column rows (falling-listing (column-keeps i.column a.0.column_fits) (column-ordered i.column) a.1)
+      none_above i.column rows (falling-listing (column-keeps i.column a.0.column-fits) (column-ordered i.column) a.1)
 
   -- Demand 3, first half.
   pub demand-3a : All (Spelled i.sample) rows × NoneOutscores rows
@@ -72,13 +72,13 @@ module _ (i : Input) (told lent : List ℕ) (rows : List (Row Float)) (p q : ℕ
 
   -- No score is NaN.
   pub no_nan : All (λ r. is_nan r.score ≡ false) rows
-  no_nan = let a = accepted i told lent rows p q t in fine-listing (column-keeps i.column a.0.column_fits) a.1
+  no_nan = let a = accepted i told lent rows p q t in fine-listing (column-keeps i.column a.0.column-fits) a.1
 
   -- Rows, edges of a path, pushes and the longest waiting list stay within what was asked and allowed.
   pub within-bounds : Bounded i rows p q
   within-bounds =
       let a = accepted i told lent rows p q t in
-      bounded-listing (column-keeps i.column a.0.column_fits) i rows p q (some-pushes i a.0) a.1
+      bounded-listing (column-keeps i.column a.0.column-fits) i rows p q (some-pushes i a.0) a.1
 
 -- ---- the second half
 
@@ -88,7 +88,7 @@ fewer-asked : (i : Input) (n m : ℕ) (told lent told' lent' : List ℕ) (rows r
 fewer-asked i n m told lent told' lent' rows rows' p q p' q' h tn tm =
     let a = accepted (with_asked i n) told lent rows p q tn in
     let b = accepted (with_asked i m) told' lent' rows' p' q' tm in
-    fewer-listing (column-ordered i.column) (column-keeps i.column a.0.column_fits) i n m rows rows' p q p' q' h a.1 b.1
+    fewer-listing (column-ordered i.column) (column-keeps i.column a.0.column-fits) i n m rows rows' p q p' q' h a.1 b.1
 
 -- two inputs between which all else is equal differ in the paths asked
 only-asked : (a b : Input) → AllElseEqual a b → b ≡ with_asked a b.asked
@@ -134,4 +134,4 @@ unfolding answer after_checks
 more-pushes i l m told lent told' lent' rows p q le t e =
     let a = passed (with_pushes i l) told lent rows p q t in
     let c = checked (with_pushes i l) told lent a.0 in
-    rw e (greater-maximum (column-keeps i.column c.column_fits) i l m (some-pushes (with_pushes i l) c) le (λ x. refusal-listed (sym x ∙ a.1)) ∙ a.1)
+    rw e (greater-maximum (column-keeps i.column c.column-fits) i l m (some-pushes (with_pushes i l) c) le (λ x. refusal-listed (sym x ∙ a.1)) ∙ a.1)

@@ -260,4 +260,4 @@ pivotal-enough f (suc m) =
 pub turns-enough : (i : Input) (b : Built) (s : State Float) → Checked i
     → search (column_scoring i.column) (search_input i b) i.asked i.search_maxima.pushes i.recovery ≡ more s → ⊥
 turns-enough i b s c t =
-    search-enough (column-keeps i.column c.column_fits) (search_input i b) i.search_maxima.pushes i.asked i.recovery s (some-pushes i c) t
+    search-enough (column-keeps i.column c.column-fits) (search_input i b) i.search_maxima.pushes i.asked i.recovery s (some-pushes i c) t

@@ -146,10 +146,10 @@ module _ (i : Input) (told lent : List ℕ) (rows : List (Row Float)) (p q : ℕ
   pub rows-ranked : Pairwise (Outranks (column_scoring i.column)) rows
   rows-ranked =
       let a = accepted i told lent rows p q t in
-      ranked-listing (column-ordered i.column) (column-keeps i.column a.0.column_fits) i rows p q a.1
+      ranked-listing (column-ordered i.column) (column-keeps i.column a.0.column-fits) i rows p q a.1
 
   -- No row of an accepted list stands twice.
   pub rows-differ : Pairwise (λ a b. a ≡ b → ⊥) rows
   rows-differ =
       let a = accepted i told lent rows p q t in
-      differ-listing (column-ordered i.column) (column-keeps i.column a.0.column_fits) i rows p q a.1
+      differ-listing (column-ordered i.column) (column-keeps i.column a.0.column-fits) i rows p q a.1

@@ -624,4 +624,4 @@ module _ (i : Input) (told lent : List ℕ) (rows : List (Row Float)) (p q : ℕ
   rows-top =
       let a = accepted i told lent rows p q t in
       let k : 2 ≤ i.sample.k = k-some i a.0 in
-      tops-listing (column-ordered i.column) (column-keeps i.column a.0.column_fits) i rows p q (omega arith) (reference-long i a.0) a.1
+      tops-listing (column-ordered i.column) (column-keeps i.column a.0.column-fits) i rows p q (omega arith) (reference-long i a.0) a.1

@@ -161,12 +161,12 @@ pub data Past (f : Fields) (prev : ℕ) (t : Nodes) : Type 0 where
 
 -- a slot after which nothing is put, or one that is no child of another node
 module _ (own : ℕ → List Ends) (Q : List Ends) (m : ℕ) (e : Ends) (k n s u v : ℕ) (f g : Fields) (new : k ≡ suc n) (mine : own s ≡ Q) (w : Added f g m e s k u v)
-    (IsKid-of : 0 < u → (h : Ends) × (own u ≡ Q ++ h ∷ [])) where
+    (kid_of : 0 < u → (h : Ends) × (own u ≡ Q ++ h ∷ [])) where
   more : n ≤ k
   more = omega arith
 
   pub added-off : Off own Q n f g
-  added-off l a b p q = w.rest l (λ z. omega arith) (λ z. p (ap own z ∙ mine)) (λ z. let r = IsKid-of (rw z at a) in q r.0 (ap own z ∙ r.1))
+  added-off l a b p q = w.rest l (λ z. omega arith) (λ z. p (ap own z ∙ mine)) (λ z. let r = kid_of (rw z at a) in q r.0 (ap own z ∙ r.1))
 
   added-beside : (i : ℕ) (h : Ends) → i ≤ n → own i ≡ Q ++ h ∷ [] → (i ≡ u → ⊥) → Agree f g i
   added-beside i h live o ne = w.rest i (λ z. omega arith) (λ z. long-not Q h [] (sym o ∙ ap own z ∙ mine)) ne

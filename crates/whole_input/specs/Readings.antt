@@ -70,6 +70,16 @@ took-within got xs ys r h l e = subst (λ (x : Turn). TookWithin x (length ys)) 
     go (Ok n) h = omega (arith, h.0, l)
     go (Err x) h = tt
 
+pub ended-more : (n m : ℕ) (t : Turn) → t ≡ T.Took m → 0 < m → R.Partial ≡ ended_at n t
+ended-more n m t e h = go m h ∙ ap (ended_at n) (sym e)
+  where
+    go : (m : ℕ) → 0 < m → R.Partial ≡ ended_at n (T.Took m)
+    go zero h = absurd (omega arith)
+    go (suc m) h = refl
+
+pub ended-whole : (n m : ℕ) (t : Turn) → t ≡ T.Took m → m ≤ 0 → R.Whole n ≡ ended_at n t
+ended-whole n m t e h = let z : 0 ≡ m = omega arith in ap (λ (i : ℕ). ended_at n (T.Took i)) z ∙ ap (ended_at n) (sym e)
+
 pub ended-within : (n : ℕ) (t : Turn) (r : Reading) → r ≡ ended_at n t → Within r n
 ended-within n t r e = subst (λ (x : Reading). Within x n) (sym e) (go t)
   where
