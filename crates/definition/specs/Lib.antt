@@ -8,6 +8,7 @@ pub mod Search
 pub mod Building
 pub mod Listing
 pub mod Enough
+pub mod Moments
 pub mod Origins
 pub mod Calls
 pub mod Text

@@ -4,7 +4,7 @@ use Rattle.std.proofs.Math.Path.{refl, sym, ap}
 use Rattle.std.proofs.Common.{subst, ◌∙◌, inl, inr, arith, take-take}
 use Prim.Native.Nat.{ℕ, zero, suc, ◌+◌, ◌≤◌}
 use Rattle.std.proofs.Math.Option.{Option, none, some}
-use Rattle.laws.specs.Lists.{keep, find, find_last, sole, total}
+use Rattle.laws.specs.Lists.{keep, find, find_last, last_or, sole, total}
 
 -- ---- lists of length 0
 
@@ -91,6 +91,10 @@ module _ {A : Type 0} where
   pub mem-right : {a : A} (xs : List A) {ys : List A} → Mem a ys → Mem a (xs ++ ys)
   mem-right [] m = m
   mem-right (x ∷ xs) m = there (mem-right xs m)
+
+  pub last-append : (d : A) (xs ys : List A) → last_or d (xs ++ ys) ≡ last_or (last_or d xs) ys
+  last-append d [] ys = refl
+  last-append d (x ∷ xs) ys = last-append x xs ys
 
   -- an element that passes is kept
   pub mem-keep : (t : A → Bool) (a : A) {xs : List A} → Mem a xs → t a ≡ true → Mem a (keep t xs)

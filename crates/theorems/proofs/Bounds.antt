@@ -29,7 +29,7 @@ pub record Counted {S : Type 0} (asked limit : ℕ) (s : State S) : Type 0 where
   pub closed : length s.closed ≤ asked
 
 module _ {S : Type 0} {𝓢 : Scoring S} {Fine : S → Type 0} (K : Keeps 𝓢 Fine) (f : SearchInput) (asked limit : ℕ) where
-  push-counted : (p : Path S) (s : State S) → s.pushes < limit → GoodState Fine f s × Counted asked limit s → Good Fine f p → GoodState Fine f (push 𝓢 p s) × Counted asked limit (push 𝓢 p s)
+  pub push-counted : (p : Path S) (s : State S) → s.pushes < limit → GoodState Fine f s × Counted asked limit s → Good Fine f p → GoodState Fine f (push 𝓢 p s) × Counted asked limit (push 𝓢 p s)
   unfolding push
   push-counted p s h (g, c) gp =
       let l : length (wait 𝓢 p s.waiting) ≡ suc (length s.waiting) = length-wait 𝓢 p s.waiting in
@@ -39,7 +39,7 @@ module _ {S : Type 0} {𝓢 : Scoring S} {Fine : S → Type 0} (K : Keeps 𝓢 F
         record { waiting = omega arith; longest = omega arith; pushes = omega arith; closed = c.closed },
       )
 
-  made_counted : (s s₁ : State S) (ps : List (Path S)) → length s.closed < asked → GoodState Fine f s × Counted asked limit s
+  pub made_counted : (s s₁ : State S) (ps : List (Path S)) → length s.closed < asked → GoodState Fine f s × Counted asked limit s
       → advance 𝓢 f s s.waiting s.pivotal ≡ made s₁ ps → (GoodState Fine f s₁ × Counted asked limit s₁) × All (Good Fine f) ps
   made_counted s s₁ ps k (g, c) e =
       let r = advance-made K f s s₁ s.waiting s.pivotal ps refl refl g e in

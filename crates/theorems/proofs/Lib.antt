@@ -1,6 +1,6 @@
 -- Theorems over the definition, by layer.
 -- Threading: Kmers, Spelling, Maximal, Stretches, Tables, Visits, First, Degrees, Sizes, Supports. Trees: Trees, Counts.
--- Search: Order, Column, Penalty, Runs, Walks, Turns, Along (what holds along a run), TurnParts (a turn taken apart), Waiting, Forks, Bounds, Allowance.
+-- Search: Order, Column, Penalty, Runs, Walks, Turns, Along (what holds along a run), TurnParts (a turn taken apart), Waiting, Forks, Bounds, Mark (the waiting mark), Allowance.
 -- An answer: Refuses (which numbers come after the checks), Late (the workspace after a refusal). An accepted list: Found, Fewer (fewer paths asked), Origins, Checks, Fuel, Demand (demand 3), Rows (the order is total), Twice (no path is listed twice).
 pub mod Runs
 pub mod Order
@@ -24,6 +24,7 @@ pub mod Found
 pub mod Fewer
 pub mod Origins
 pub mod Bounds
+pub mod Mark
 pub mod Allowance
 pub mod Checks
 pub mod Late
