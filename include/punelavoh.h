@@ -21,10 +21,10 @@
 extern "C" {
 #endif
 
-#define PUNELAVOH_VERSION "0.5.1"
+#define PUNELAVOH_VERSION "0.5.2"
 #define PUNELAVOH_VERSION_MAJOR 0
 #define PUNELAVOH_VERSION_MINOR 5
-#define PUNELAVOH_VERSION_PATCH 1
+#define PUNELAVOH_VERSION_PATCH 2
 
 /* What an answer holds in `refusal`. 1 to 7 are looked at in this order. A refused answer holds 0 in every other field. */
 typedef enum {
@@ -135,7 +135,7 @@ typedef struct {
     size_t length;
 } PunelavohOriginAnswer;
 
-/* The answer of `graph`: a refusal, or how many rows of edges and of nodes were written. */
+/* The answer of `graph`, for C: the number of a refusal, or 0 and how many rows of edges and of nodes were written. */
 typedef struct {
     uint32_t refusal;
     uint32_t edges;

@@ -91,25 +91,22 @@ fn functions_are_those_exported() {
 fn refusals_are_those_of_the_library() {
     let Some(crates) = crates() else { return };
     let source = read(&crates.join("refusals/src/lib.rt"));
-    let lines: Vec<&str> = source.lines().collect();
-    let theirs: Vec<(String, String)> = lines
+    let lines: Vec<&str> = source.lines().map(str::trim).collect();
+    let number = |name: &str| {
+        let arm = format!("Refusal::{name} => ");
+        let found = lines.iter().find_map(|line| line.strip_prefix(arm.as_str())).expect("a number");
+        found.trim_end_matches(',').parse::<u32>().expect("a number")
+    };
+    // A variant stands below its words; the last is the program's own, and no call of the library returns it.
+    let theirs: Vec<(String, u32, String)> = lines
         .windows(2)
-        .filter_map(|two| Some((two[1].strip_prefix("pub const ")?, two[0].strip_prefix("// ")?)))
-        .map(|(constant, words)| (constant.to_owned(), words.to_owned()))
+        .skip_while(|two| !two[0].starts_with("pub enum Refusal"))
+        .take_while(|two| two[0] != "}")
+        .filter_map(|two| Some((two[0].strip_prefix("// ")?, two[1].strip_suffix(',')?)))
+        .filter(|(_, name)| *name != "Malformed")
+        .map(|(words, name)| (name.to_owned(), number(name), words.to_owned()))
         .collect();
-    let ours = Refusal::NAMED.iter().map(|refusal| (format!("{}: u32 = {};", in_capitals(*refusal), refusal.number()), refusal.to_string()));
+    let ours = Refusal::NAMED.iter().map(|refusal| (format!("{refusal:?}"), refusal.number(), refusal.to_string()));
     assert_eq!(ours.collect::<Vec<_>>(), theirs);
     assert!(theirs.len() >= 13);
-}
-
-/// The name of a refusal in capitals, its words joined by underscores.
-fn in_capitals(refusal: Refusal) -> String {
-    let mut name = String::new();
-    for letter in format!("{refusal:?}").chars() {
-        if letter.is_uppercase() && !name.is_empty() {
-            name.push('_');
-        }
-        name.push(letter.to_ascii_uppercase());
-    }
-    name
 }

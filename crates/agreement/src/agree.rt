@@ -1,8 +1,8 @@
 // Whether rows, slots and bytes are as told.
-ghost use Rattle.std.specs.Prelude.{◌≡◌, true};
-ghost use Rattle.agreement.specs.Agree.{All, Written, Left, Untouched};
+ghost use Rattle.std.specs.Prelude.{◌≡◌, ℕ, true};
+ghost use Rattle.agreement.specs.Agree.{All, Same, Written, Left, Untouched};
 
-// What every element holds that is lent: a call that should not touch it leaves it so.
+// What every number holds that is lent: a call that should not touch it leaves it so.
 pub const LENT: u32 = 2863311530;
 
 // The same of a slot and of a byte.
@@ -10,153 +10,94 @@ pub const LENT_SLOT: u16 = 43690;
 
 pub const LENT_BYTE: u8 = 170;
 
-pub fn same(a: &[u32], b: &[u32]) -> bool
-    ensures { result ≡ true → a.now ≡ b.now }
+// An element of a slice that is lent: a number, a slot of active trees, a byte or a score.
+pub trait Element: Copy {
+    // The number that an element is told by: itself, or of a score its bits.
+    ghost shown: { Self → ℕ };
+
+    ghost LENT: { ℕ };
+
+    // What every element is told by that is lent.
+    const LENT: u64;
+
+    fn is(self, number: u64) -> bool
+        ensures { result ≡ true → shown self ≡ number };
+}
+
+impl Element for u32 {
+    ghost shown = { λ x. x };
+
+    ghost LENT = { 2863311530 };
+
+    const LENT: u64 = LENT as u64;
+
+    fn is(self, number: u64) -> bool {
+        u64::from(self) == number
+    }
+}
+
+impl Element for u16 {
+    ghost shown = { λ x. x };
+
+    ghost LENT = { 43690 };
+
+    const LENT: u64 = LENT_SLOT as u64;
+
+    fn is(self, number: u64) -> bool {
+        u64::from(self) == number
+    }
+}
+
+impl Element for u8 {
+    ghost shown = { λ x. x };
+
+    ghost LENT = { 170 };
+
+    const LENT: u64 = LENT_BYTE as u64;
+
+    fn is(self, number: u64) -> bool {
+        u64::from(self) == number
+    }
+}
+
+pub fn same<T: Element>(elements: &[T], told: &[u32]) -> bool
+    ensures { result ≡ true → Same T.shown elements.now told.now }
 {
-    if a.len() != b.len() {
+    if elements.len() != told.len() {
         return false;
     }
-    let mut place: usize = 0;
-    while place < a.len() {
-        if a[place] != b[place] {
+    for (x, number) in elements.iter().zip(told) {
+        if !x.is(u64::from(*number)) {
             return false;
         }
-        place += 1;
     }
     true
 }
 
-pub fn all_are(a: &[u32], value: u32) -> bool
-    ensures { result ≡ true → All a.now value }
+pub fn all_are<T: Element>(elements: &[T], number: u64) -> bool
+    ensures { result ≡ true → All T.shown elements.now number }
 {
-    let mut place: usize = 0;
-    while place < a.len() {
-        if a[place] != value {
-            return false;
-        }
-        place += 1;
-    }
-    true
+    elements.iter().all(|x| x.is(number))
 }
 
 // The rows told, and behind them nothing touched.
-pub fn written(slice: &[u32], rows: &[u32]) -> bool
-    ensures { result ≡ true → Written slice.now rows.now 2863311530 }
+pub fn written<T: Element>(slice: &[T], rows: &[u32]) -> bool
+    ensures { result ≡ true → Written T.shown slice.now rows.now T.LENT }
 {
     let n = rows.len();
-    if n > slice.len() {
-        return false;
-    }
-    if !same(&slice[0..n], rows) {
-        return false;
-    }
-    all_are(&slice[n..], LENT)
+    n <= slice.len() && same(&slice[..n], rows) && untouched(slice, n)
 }
 
 // Nothing touched from a place on.
-pub fn untouched(slice: &[u32], place: usize) -> bool
-    ensures { result ≡ true → Untouched slice.now place 2863311530 }
+pub fn untouched<T: Element>(slice: &[T], place: usize) -> bool
+    ensures { result ≡ true → Untouched T.shown slice.now place T.LENT }
 {
-    if place > slice.len() {
-        return false;
-    }
-    all_are(&slice[place..], LENT)
+    place <= slice.len() && all_are(&slice[place..], T::LENT)
 }
 
-// One value over the part that was used, and behind it nothing touched.
-pub fn left(slice: &[u32], used: usize, value: u32) -> bool
-    ensures { result ≡ true → Left slice.now used value 2863311530 }
+// One number over the part that was used, and behind it nothing touched.
+pub fn left<T: Element>(slice: &[T], used: usize, number: u64) -> bool
+    ensures { result ≡ true → Left T.shown slice.now used number T.LENT }
 {
-    if used > slice.len() {
-        return false;
-    }
-    if !all_are(&slice[0..used], value) {
-        return false;
-    }
-    all_are(&slice[used..], LENT)
-}
-
-// The same of slots of active trees.
-fn all_slots_are(a: &[u16], value: u16) -> bool
-    ensures { result ≡ true → All a.now value }
-{
-    let mut place: usize = 0;
-    while place < a.len() {
-        if a[place] != value {
-            return false;
-        }
-        place += 1;
-    }
-    true
-}
-
-pub fn slots_left(slice: &[u16], used: usize, value: u16) -> bool
-    ensures { result ≡ true → Left slice.now used value 43690 }
-{
-    if used > slice.len() {
-        return false;
-    }
-    if !all_slots_are(&slice[0..used], value) {
-        return false;
-    }
-    all_slots_are(&slice[used..], LENT_SLOT)
-}
-
-fn widened(byte: u8) -> u32
-    ensures { result ≡ byte }
-{
-    byte as u32
-}
-
-pub fn same_bytes(bytes: &[u8], told: &[u32]) -> bool
-    ensures { result ≡ true → bytes.now ≡ told.now }
-{
-    if bytes.len() != told.len() {
-        return false;
-    }
-    let mut place: usize = 0;
-    while place < bytes.len() {
-        if widened(bytes[place]) != told[place] {
-            return false;
-        }
-        place += 1;
-    }
-    true
-}
-
-pub fn all_bytes_are(bytes: &[u8], value: u8) -> bool
-    ensures { result ≡ true → All bytes.now value }
-{
-    let mut place: usize = 0;
-    while place < bytes.len() {
-        if bytes[place] != value {
-            return false;
-        }
-        place += 1;
-    }
-    true
-}
-
-// The bytes told, and behind them nothing touched.
-pub fn bytes_written(slice: &[u8], told: &[u32]) -> bool
-    ensures { result ≡ true → Written slice.now told.now 170 }
-{
-    let n = told.len();
-    if n > slice.len() {
-        return false;
-    }
-    if !same_bytes(&slice[0..n], told) {
-        return false;
-    }
-    all_bytes_are(&slice[n..], LENT_BYTE)
-}
-
-// Nothing touched from a place on.
-pub fn bytes_untouched(slice: &[u8], place: usize) -> bool
-    ensures { result ≡ true → Untouched slice.now place 170 }
-{
-    if place > slice.len() {
-        return false;
-    }
-    all_bytes_are(&slice[place..], LENT_BYTE)
+    used <= slice.len() && all_are(&slice[..used], number) && untouched(slice, used)
 }

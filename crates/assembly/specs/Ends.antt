@@ -1,7 +1,7 @@
 -- The order of edges' ends: what a comparison tells, and back. Assumes nothing.
 use Rattle.std.specs.Prelude.{◌≡◌, refl, ◌⊎◌}
-use Rattle.std.proofs.Common.{sym, ap, ◌∙◌, inl, inr, arith}
-use Prim.Native.Nat.{ℕ, ◌<◌, compare, Ordering}
+use Rattle.std.proofs.Common.{sym, ap, ◌∙◌, inl, inr, arith, ℕ, ◌<◌}
+use Prim.Native.Nat.{compare, Ordering}
 use Rattle.laws.specs.Numbers.{then, compare-lt, compare-eq, compare-gt, lt-compare, eq-compare, gt-compare}
 use Rattle.definition.specs.Threading.{Ends, compare_ends}
 

@@ -1,5 +1,5 @@
 -- Where each field of a vertex and of an edge stands: known here and to the accessors of this crate. Assumes nothing.
-use Rattle.std.specs.Prelude.{ℕ, ◌+◌, ◌*◌, ◌<◌, ◌≤◌, List, length}
+use Rattle.std.specs.Prelude.{Option, None, Some, ℕ, ◌+◌, ◌*◌, ◌<◌, ◌≤◌, List, length}
 use Rattle.laws.specs.Records.{field, put_field}
 use Rattle.tables.specs.Widths.{vertex_numbers, edge_numbers}
 
@@ -23,7 +23,12 @@ HasVertices vs n = vertex_numbers n ≤ length vs
 abbrev pub vertex_field : List ℕ → ℕ → ℕ → ℕ
 vertex_field vs v c = field vs 12 v c
 
--- the out-edge of v whose target's last base has the code c: its number plus 1, or 0
+-- what a slot holds of an edge: its number plus 1, or 0
+abbrev pub slot_of : Option ℕ → ℕ
+slot_of None = 0
+slot_of (Some e) = e + 1
+
+-- the slot of v's out-edge whose target's last base has the code c
 abbrev pub out_edge : List ℕ → ℕ → ℕ → ℕ
 out_edge vs v c = field vs 12 v c
 

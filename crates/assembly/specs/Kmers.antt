@@ -1,8 +1,7 @@
 -- Kmers as parts of the text: their last base, equality byte by byte, and the number of one; a vertex more. Assumes nothing.
 use Rattle.std.specs.Prelude.{◌≡◌, refl, ◌≢◌, Bool, true, false, cond, List, [], ◌∷◌, ◌++◌, ℕ, zero, suc, ◌+◌, ◌-◌, ◌*◌, ◌<◌, ◌≤◌, eqb, length, get_or, take, drop}
-use Rattle.std.proofs.Common.{sym, ap, ◌∙◌, arith, add-one, length-set, length-drop, length-append, get_or-take, get_or-drop, length-take-le, get_or-append-add, eq-eqb, ne_eqb}
+use Rattle.std.proofs.Common.{sym, ap, ◌∙◌, arith, add-one, length-set, length-drop, length-append, get_or-take, get_or-drop, length-take-le, eq-eqb, ne_eqb}
 use Rattle.std.proofs.Math.Decide.{ℕ_discrete}
-use Rattle.std.proofs.Math.ListN.{get_or-append}
 use Rattle.laws.specs.Lists.{last_or, position}
 use Rattle.laws.specs.Numbers.{eq_list, eq_list-true}
 use Rattle.definition.specs.Limits.{is_base}
@@ -238,29 +237,10 @@ born-good {k = k} {text = text} {vs = vs} {n = n} {es = es} {m = m} q g r f b =
     into' u h z (yes y) = absurd (let x : incoming_count (born vs n q) u ≡ 0 = rw y (none 9 (omega arith) (omega arith)) in omega arith)
     into' u h z (no y) = rw (born-row k text vs n q r u 10 (omega arith) y) (g.into u (omega arith) (rw (born-row k text vs n q r u 9 (omega arith) y) at z))
 
--- ---- the text by its two parts, and the comparison's loop
-pub text-front : (a b : List ℕ) (p : ℕ) → p < length a → get_or a p 0 ≡ get_or (a ++ b) p 0
-text-front a b p h = sym (get_or-append a b 0 p h)
-
-pub text-back : (a b : List ℕ) (p : ℕ) → length a ≤ p → get_or b (p - length a) 0 ≡ get_or (a ++ b) p 0
-text-back a b p h = sym (get_or-append-add a b (p - length a) 0) ∙ ap (λ (i : ℕ). get_or (a ++ b) i 0) (let z : length a + (p - length a) ≡ p = omega arith in z)
-
-pub text_in : (p k j : ℕ) (a b : List ℕ) → p + k ≤ length (a ++ b) → j < k → p + j < length a + length b
-text_in p k j a b h l = let z = length-append a b in omega arith
-
+-- ---- the comparison's loop
 pub record Alike (text : List ℕ) (k p q j : ℕ) : Type 0 where
   pub within : j ≤ k
   pub same : (i : ℕ) → i < j → get_or text (p + i) 0 ≡ get_or text (q + i) 0
-
-pub alike-start : (text : List ℕ) (k p q : ℕ) → Alike text k p q 0
-alike-start text k p q = record { within = omega arith; same = λ i h. absurd (omega arith) }
-
-pub alike_next : (text : List ℕ) (k p q j : ℕ) → Alike text k p q j → j < k → get_or text (p + j) 0 ≡ get_or text (q + j) 0 → Alike text k p q (j + 1)
-alike_next text k p q j a h e = record { within = omega arith; same = λ i l. go i l (ℕ_discrete i j) }
-  where
-    go : (i : ℕ) → i < j + 1 → Dec (i ≡ j) → get_or text (p + i) 0 ≡ get_or text (q + i) 0
-    go i l (yes z) = rw z e
-    go i l (no z) = a.same i (omega arith)
 
 pub alike_end : (text : List ℕ) (k p q j : ℕ) → Alike text k p q j → k ≤ j → p + k ≤ length text → q + k ≤ length text → true ≡ eq_list (part k text p) (part k text q)
 alike_end text k p q j a h l m =

@@ -1,9 +1,9 @@
 -- Laws of `put`, the definition's count of an edge: it merges into an edge of the same ends, counts of different ends commute, and what a search or
 -- a filter by ends finds after it. None of these asks that the list is in order. Assumes nothing.
 use Rattle.std.specs.Prelude.{◌≡◌, refl, ◌≢◌, Bool, true, false, ◌||◌, cond, List, [], ◌∷◌, length}
-use Rattle.std.proofs.Common.{sym, ap, ◌∙◌, arith, add_assoc}
+use Rattle.std.proofs.Common.{sym, ap, ◌∙◌, arith, add_assoc, ℕ, suc}
 use Rattle.std.proofs.Math.Option.{none, some}
-use Prim.Native.Nat.{ℕ, suc, Ordering}
+use Prim.Native.Nat.{Ordering}
 use Rattle.laws.specs.Lists.{keep, find}
 use Rattle.definition.specs.Threading.{Ends, Edge, compare_ends, merge, put}
 use Rattle.theorems.proofs.Tables.{ends-lt}

@@ -2,13 +2,14 @@
 // vertices, 12 numbers each: 0 to 7 the out-edges, by the code b / 2 % 8 of the base b that the target ends in (A 0, C 1, T 2, G 3, N 7), each an
 // edge's number plus 1, or 0; 8 the kmer's place; 9 how many edges enter; 10 one of those, plus 1; 11 for the slot of its tree's root, written by the evidence walk. Slot 4, which no base has, is for the symbolic edge.
 // edges, in the order of birth, 6 numbers each: from, to, support, mark, the origin's sequence and place.
+// How many rows are used stands beside a table: it is lent as long as its maximum allows, and rows are added to it.
 #![tactic(auto)]
 
 ghost use Rattle.std.specs.Prelude.{◌≡◌, ◌+◌, ◌^◌, ◌<◌};
-ghost use Rattle.assembly.specs.Fields.{HasVertex, out_edge, kmer_place, incoming_count, incoming_edge, HasEdge, edge_from, edge_to, edge_support, edge_sequence, edge_place};
+ghost use Rattle.assembly.specs.Fields.{HasVertex, slot_of, out_edge, kmer_place, incoming_count, incoming_edge, HasEdge, edge_from, edge_to, edge_support};
 ghost use Rattle.assembly.specs.Store.{edge_at};
 ghost use Rattle.assembly.specs.Kmers.{born};
-ghost use Rattle.assembly.specs.Moves.{gained, added_e, added_v, new_edge};
+ghost use Rattle.assembly.specs.Moves.{gained, added_e, added_v, edge_of, new_edge, origin_of};
 ghost use Rattle.assembly.specs.Symbolic.{symbolic, linked};
 
 use tables::{EDGE, VERTEX};
@@ -38,20 +39,21 @@ pub const SEQUENCE: usize = 4;
 
 pub const PLACE: usize = 5;
 
-// ---- reading a vertex
-
-pub fn wide(x: u32) -> usize
-    ensures { result ≡ x }
-{
-    x as usize
+// What made an edge first: its sequence, 0 for the reference, and the place of the edge's left kmer in it.
+#[derive(Clone, Copy)]
+pub struct Origin {
+    pub sequence: u32,
+    pub place: u32,
 }
 
-// The out-edge of v whose target's last base has the code c: its number plus 1, or 0.
-pub fn out_edge(vertices: &[u32], v: usize, c: usize) -> usize
+// ---- reading a vertex
+
+// The number of the out-edge of v whose target's last base has the code c.
+pub fn out_edge(vertices: &[u32], v: usize, c: usize) -> Option<usize>
     requires { (HasVertex vertices.now v) × (c < 8) }
-    ensures { result ≡ out_edge vertices.now v c }
+    ensures { slot_of result ≡ out_edge vertices.now v c }
 {
-    wide(vertices[v * VERTEX + c])
+    (vertices[v * VERTEX + c] as usize).checked_sub(1)
 }
 
 // The place of v's kmer in the text.
@@ -59,7 +61,7 @@ pub fn kmer_place(vertices: &[u32], v: usize) -> usize
     requires { HasVertex vertices.now v }
     ensures { result ≡ kmer_place vertices.now v }
 {
-    wide(vertices[v * VERTEX + AT])
+    vertices[v * VERTEX + AT] as usize
 }
 
 // How many edges enter v.
@@ -67,15 +69,15 @@ pub fn incoming_count(vertices: &[u32], v: usize) -> usize
     requires { HasVertex vertices.now v }
     ensures { result ≡ incoming_count vertices.now v }
 {
-    wide(vertices[v * VERTEX + INS])
+    vertices[v * VERTEX + INS] as usize
 }
 
-// An edge that enters v: its number plus 1, or 0.
-pub fn incoming_edge(vertices: &[u32], v: usize) -> usize
+// The number of an edge that enters v.
+pub fn incoming_edge(vertices: &[u32], v: usize) -> Option<usize>
     requires { HasVertex vertices.now v }
-    ensures { result ≡ incoming_edge vertices.now v }
+    ensures { slot_of result ≡ incoming_edge vertices.now v }
 {
-    wide(vertices[v * VERTEX + INTO])
+    (vertices[v * VERTEX + INTO] as usize).checked_sub(1)
 }
 
 // ---- reading an edge
@@ -84,21 +86,21 @@ pub fn edge_from(edges: &[u32], i: usize) -> usize
     requires { HasEdge edges.now i }
     ensures { result ≡ edge_from edges.now i }
 {
-    wide(edges[i * EDGE + FROM])
+    edges[i * EDGE + FROM] as usize
 }
 
 pub fn edge_to(edges: &[u32], i: usize) -> usize
     requires { HasEdge edges.now i }
     ensures { result ≡ edge_to edges.now i }
 {
-    wide(edges[i * EDGE + TO])
+    edges[i * EDGE + TO] as usize
 }
 
 pub fn edge_support(edges: &[u32], i: usize) -> usize
     requires { HasEdge edges.now i }
     ensures { result ≡ edge_support edges.now i }
 {
-    wide(edges[i * EDGE + SUPPORT])
+    edges[i * EDGE + SUPPORT] as usize
 }
 
 pub fn edge_is_ref(edges: &[u32], i: usize) -> bool
@@ -118,16 +120,36 @@ pub fn create_vertex(vertices: &mut [u32], n: usize, q: usize)
     vertices[n * VERTEX + AT] = q as u32;
 }
 
-// One more support for edge i, and the mark where there is one.
-pub fn inc_edge(edges: &mut [u32], i: usize, mark: u32)
+// One more support for edge i, and the mark where a step of the reference counts it.
+pub fn inc_edge(edges: &mut [u32], i: usize, is_ref: bool)
     requires { (HasEdge edges.old i) × (edge_support edges.old i + 1 < 2 ^ 32) }
-    ensures { edges.new ≡ gained edges.old i mark }
+    ensures { edges.new ≡ gained edges.old i is_ref }
 {
     edges[i * EDGE + SUPPORT] += 1;
-    if mark == 0 {
-        return;
+    if is_ref {
+        edges[i * EDGE + MARK] = 1;
     }
-    edges[i * EDGE + MARK] = mark;
+}
+
+// Row m, with all that an edge has.
+fn write_edge(
+    edges: &mut [u32],
+    m: usize,
+    from: usize,
+    to: usize,
+    support: u32,
+    is_ref: bool,
+    origin: Origin,
+)
+    requires { (HasEdge edges.old m) × (from < 2 ^ 32) × (to < 2 ^ 32) }
+    ensures { edges.new ≡ added_e edges.old m (edge_of from to support is_ref (origin_of origin)) }
+{
+    edges[m * EDGE + FROM] = from as u32;
+    edges[m * EDGE + TO] = to as u32;
+    edges[m * EDGE + SUPPORT] = support;
+    edges[m * EDGE + MARK] = u32::from(is_ref);
+    edges[m * EDGE + SEQUENCE] = origin.sequence;
+    edges[m * EDGE + PLACE] = origin.place;
 }
 
 // Edge m, from a vertex whose slot c is empty, with support 1.
@@ -138,20 +160,14 @@ pub fn add_edge(
     c: usize,
     to: usize,
     m: usize,
-    mark: u32,
-    sequence: u32,
-    place: u32,
+    is_ref: bool,
+    origin: Origin,
 )
     requires { (HasVertex vertices.old from) × (HasVertex vertices.old to) × (HasEdge edges.old m) × (c < 8) × (from < 8192) × (to < 8192) × (m < 8192) × (incoming_count vertices.old to + 1 < 2 ^ 32) }
-    ensures { (vertices.new ≡ added_v vertices.old from c to m) × (edges.new ≡ added_e edges.old m (new_edge mark sequence place from to) mark) }
+    ensures { (vertices.new ≡ added_v vertices.old from c to m) × (edges.new ≡ added_e edges.old m (new_edge is_ref (origin_of origin) from to)) }
 {
+    write_edge(edges, m, from, to, 1, is_ref, origin);
     let ins = vertices[to * VERTEX + INS];
-    edges[m * EDGE + FROM] = from as u32;
-    edges[m * EDGE + TO] = to as u32;
-    edges[m * EDGE + SUPPORT] = 1;
-    edges[m * EDGE + MARK] = mark;
-    edges[m * EDGE + SEQUENCE] = sequence;
-    edges[m * EDGE + PLACE] = place;
     let number = (m + 1) as u32;
     vertices[from * VERTEX + c] = number;
     vertices[to * VERTEX + INS] = ins + 1;
@@ -161,14 +177,13 @@ pub fn add_edge(
 // Row m becomes the symbolic edge, from the sink to vertex n: of support 0, marked, with the place of the reference's last kmer as its origin.
 pub fn add_symbolic_edge(edges: &mut [u32], m: usize, sink: usize, n: usize, place: usize)
     requires { (HasEdge edges.old m) × (sink < 2 ^ 32) × (n < 2 ^ 32) × (place < 2 ^ 32) }
-    ensures { edges.new ≡ added_e edges.old m (symbolic sink n place) 1 }
+    ensures { edges.new ≡ added_e edges.old m (symbolic sink n place) }
 {
-    edges[m * EDGE + FROM] = sink as u32;
-    edges[m * EDGE + TO] = n as u32;
-    edges[m * EDGE + SUPPORT] = 0;
-    edges[m * EDGE + MARK] = 1;
-    edges[m * EDGE + SEQUENCE] = 0;
-    edges[m * EDGE + PLACE] = place as u32;
+    let origin = Origin {
+        sequence: 0,
+        place: place as u32,
+    };
+    write_edge(edges, m, sink, n, 0, true, origin);
 }
 
 // The sink's slot 4, which no base has, names the symbolic edge: from here on it is among the out-edges.

@@ -1,23 +1,22 @@
 -- Kmer sizes: "only `KmerSize`, 2 and up".
-use Rattle.std.proofs.Math.Path.{◌≡◌, refl, ap}
-use Rattle.std.proofs.Common.{sym, ◌∙◌, arith}
+use Rattle.std.proofs.Math.Path.{◌≡◌, refl}
+use Rattle.std.proofs.Common.{◌∙◌, arith}
 use Rattle.std.specs.Prelude.{ℕ, ◌<◌, ◌≤◌, Bool, ◌&&◌, List, [], ◌∷◌}
 use Rattle.std.proofs.Math.Bool.{true, false, and-false}
 use Rattle.std.proofs.Math.Dec.{leb}
 use borrow.Author.Tests.{le-leb, lt-leb}
 use Rattle.definition.specs.Refusal.{Result, ok, refused, Rule, first_broken}
 use Rattle.definition.specs.Limits.{k_fits}
+use Rattle.std.specs.Prelude as Prelude
+use Rattle.std.specs.Prelude.{Ok, Err, IfOk}
+use Rattle.refusals.specs.declared.Refusal.{Refusal}
+use Rattle.refusals.specs.Numbers.{number, refusal_of}
 use Rattle.bio_ids.specs.declared.KmerSize.{KmerSize}
-use Rattle.bio_ids.specs.declared.TriedKmerSize.{TriedKmerSize}
 
 -- the size or the number that an answer of `try_new` holds
-abbrev pub size_of : TriedKmerSize → Result ℕ
-size_of (TriedKmerSize.Size s) = ok s.0
-size_of (TriedKmerSize.Refused n) = refused n
-
-abbrev pub tried_refusal : TriedKmerSize → ℕ
-tried_refusal (TriedKmerSize.Size s) = 0
-tried_refusal (TriedKmerSize.Refused n) = n
+abbrev pub size_of : Prelude.Result KmerSize Refusal → Result ℕ
+size_of (Ok s) = ok s.0
+size_of (Err e) = refused (number e)
 
 -- k itself, where it is 2 and up
 unfoldable pub at_least_two : ℕ → Result ℕ
@@ -50,28 +49,39 @@ unfolding k_fits
 k-above k h = broken k (rw (lt-leb k 128 h, and-false (leb 2 k)))
 
 -- below the upper limit k fits where it is a kmer size
-module _ (k : ℕ) (tried : TriedKmerSize) (e : size_of tried ≡ at_least_two k) where
-  pub k-tried : (s : KmerSize) → k ≤ 128 → tried ≡ TriedKmerSize.Size s → 0 ≡ first_broken (k_rules k)
+module _ (k : ℕ) where
+  pub k-tried : (tried : Prelude.Result KmerSize Refusal) → size_of tried ≡ at_least_two k → k ≤ 128 → refusal_of tried ≡ first_broken (k_rules k)
   unfolding at_least_two k_fits
-  k-tried s h f = holds k (go (leb 2 k) refl)
+  k-tried (Ok s) e h = holds k (go (leb 2 k) refl)
     where
       go : (b : Bool) → leb 2 k ≡ b → (leb 2 k && leb k 128) ≡ true
       go true g = rw (g, le-leb k 128 h)
       go false g =
-          let n : size_of tried ≡ refused 1 = e ∙ rw (g, at_least_two) in
+          let n : ok s.0 ≡ refused 1 = e ∙ rw (g, at_least_two) in
           let z : ◌≡◌ {A = ℕ} 0 1 = cc in
           absurd (omega arith)
-
-  pub k-untried : (n : ℕ) → tried ≡ TriedKmerSize.Refused n → (m : ℕ) → m ≡ tried_refusal tried → m ≡ first_broken (k_rules k)
-  unfolding at_least_two k_fits
-  k-untried n f m d = go (leb 2 k) refl
+  k-tried (Err r) e h = go (leb 2 k) refl
     where
-      go : (b : Bool) → leb 2 k ≡ b → m ≡ first_broken (k_rules k)
+      go : (b : Bool) → leb 2 k ≡ b → number r ≡ first_broken (k_rules k)
       go true g =
-          let o : size_of tried ≡ ok k = e ∙ rw (g, at_least_two) in
+          let o : refused (number r) ≡ ok k = e ∙ rw (g, at_least_two) in
           let z : ◌≡◌ {A = ℕ} 0 1 = cc in
           absurd (omega arith)
       go false g =
-          let o : refused n ≡ refused 1 = ap size_of (sym f) ∙ e ∙ rw (g, at_least_two) in
-          let y : n ≡ 1 = cc in
-          d ∙ ap tried_refusal f ∙ y ∙ broken k (rw g)
+          let o : refused (number r) ≡ refused 1 = e ∙ rw (g, at_least_two) in
+          let y : number r ≡ 1 = cc in
+          y ∙ broken k (rw g)
+
+  pub k-size : (tried : Prelude.Result KmerSize Refusal) → size_of tried ≡ at_least_two k → IfOk tried (λ s. s.0 ≡ k)
+  unfolding at_least_two
+  k-size (Err r) e = tt
+  k-size (Ok s) e = go (leb 2 k) refl
+    where
+      go : (b : Bool) → leb 2 k ≡ b → s.0 ≡ k
+      go true g =
+          let o : ok s.0 ≡ ok k = e ∙ rw (g, at_least_two) in
+          cc
+      go false g =
+          let o : ok s.0 ≡ refused 1 = e ∙ rw (g, at_least_two) in
+          let z : ◌≡◌ {A = ℕ} 0 1 = cc in
+          absurd (omega arith)

@@ -1,15 +1,7 @@
--- The best closed path through a vertex: the greatest score, ties to the later closed. A found path is its number + 1; 0 says that there is none.
-use Rattle.std.specs.Prelude.{◌≡◌, ◌⊎◌, Bool, cond, eqb, get_or, take, Float}
-use Rattle.std.proofs.Math.Path.{refl, sym, ap}
-use Rattle.std.proofs.Common.{◌∙◌, add-one, take-suc}
-use Rattle.std.proofs.Math.Logic.{inl, inr}
-use Rattle.std.proofs.Math.Bool.{true, false}
-use mathlib.Core.List.{List, [], ◌∷◌, ◌++◌, map}
-use Rattle.std.proofs.Math.Option.{Option, none, some}
-use Prim.Native.Nat.{ℕ, zero, suc, ◌+◌, ◌-◌, ◌<◌, ◌≤◌}
-use native.Mathlib.Omega.{arith}
-use borrow.Author.Tests.{lt-ltb, le-ltb}
-use Rattle.std.proofs.Math.ListN.{length}
+-- The best closed path through a vertex: the greatest score, ties to the later closed.
+use Rattle.std.specs.Prelude.{◌≡◌, ◌⊎◌, Option, Some, None, IfSome, Bool, cond, eqb, get_or, take, Float}
+use Rattle.std.proofs.Common.{◌∙◌, add-one, take-suc, get_or-take, length-take-le, refl, sym, ap, inl, inr, true, false, List, [], ◌∷◌, ◌++◌, map, ℕ, zero, suc, ◌+◌, ◌<◌, ◌≤◌, arith, lt-ltb, le-ltb, length}
+use Rattle.std.proofs.Math.Option as math
 use Rattle.std.specs.Float.Ieee.{is_nan, lt}
 use Rattle.laws.specs.Lists.{any, keep}
 use Rattle.laws.specs.BoolLaws.{Bool-cases, both_ways}
@@ -25,22 +17,11 @@ use Rattle.path_edges.specs.Visit.{vertices_of, times-any}
 use Rattle.path_growth.specs.Link.{Agrees, targets-same}
 use Rattle.path_growth.specs.View.{closed_of}
 
--- ---- outscored: the best so far, as its number + 1, has a greater score than the path c
+-- ---- outscored: the best so far, if there is one, has a greater score than the path c
 module _ (sc : List Float) where
-  pub outscores : ℕ → ℕ → Bool
-  outscores zero c = false
-  outscores (suc d) c = lt (score_of sc c) (score_of sc d)
-
-  pub outscores-none : (best c : ℕ) → best ≡ 0 → false ≡ outscores best c
-  unfolding outscores
-  outscores-none best c h = rw (h, outscores)
-
-  outscores-suc : (best d c : ℕ) → best ≡ suc d → lt (score_of sc c) (score_of sc d) ≡ outscores best c
-  unfolding outscores
-  outscores-suc best d c h = rw (h, outscores)
-
-  pub outscores-some : (best c i j : ℕ) → (best ≡ 0 → ⊥) → i ≡ c → j ≡ best - 1 → lt (score_of sc i) (score_of sc j) ≡ outscores best c
-  outscores-some best c i j h I J = rw (I, J) (outscores-suc best (best - 1) c (omega arith))
+  abbrev pub outscores : Option ℕ → ℕ → Bool
+  outscores None c = false
+  outscores (Some d) c = lt (score_of sc c) (score_of sc d)
 
 module _ (index targets : List ℕ) (source : ℕ) (t : List ℕ) (sc : List Float) (v : ℕ) where
   -- the path goes through v
@@ -48,54 +29,54 @@ module _ (index targets : List ℕ) (source : ℕ) (t : List ℕ) (sc : List Flo
   through c = any (eqb v) (vertices_of targets source (edges index targets t c))
 
   -- of a path c, which goes through v or not, and the best of those that closed after it
-  of_both : Bool → ℕ → ℕ → ℕ
+  of_both : Bool → ℕ → Option ℕ → Option ℕ
   of_both false c best = best
-  of_both true c zero = suc c
-  of_both true c (suc d) = cond (lt (score_of sc d) (score_of sc c)) (suc c) (suc d)
+  of_both true c None = Some c
+  of_both true c (Some d) = cond (lt (score_of sc d) (score_of sc c)) (Some c) (Some d)
 
-  pub better : ℕ → ℕ → ℕ
+  pub better : ℕ → Option ℕ → Option ℕ
   better c best = of_both (through c) c best
 
-  pub best_of : List ℕ → ℕ
-  best_of [] = 0
+  pub best_of : List ℕ → Option ℕ
+  best_of [] = None
   best_of (c ∷ cs) = better c (best_of cs)
 
   -- of the best of some paths and a path c that closed after them: c, unless the best outscores it
-  of_next : Bool → ℕ → ℕ → ℕ
+  of_next : Bool → Option ℕ → ℕ → Option ℕ
   of_next false best c = best
-  of_next true zero c = suc c
-  of_next true (suc d) c = cond (lt (score_of sc c) (score_of sc d)) (suc d) (suc c)
+  of_next true None c = Some c
+  of_next true (Some d) c = cond (lt (score_of sc c) (score_of sc d)) (Some d) (Some c)
 
-  pub later : ℕ → ℕ → ℕ
+  pub later : Option ℕ → ℕ → Option ℕ
   later best c = of_next (through c) best c
 
   -- ---- later
-  next-out : (p : Bool) (best c : ℕ) → outscores sc best c ≡ true → of_next p best c ≡ best
-  unfolding outscores of_next
+  next-out : (p : Bool) (best : Option ℕ) (c : ℕ) → outscores sc best c ≡ true → of_next p best c ≡ best
+  unfolding of_next
   next-out false best c h = refl
-  next-out true zero c h = both_ways h refl
-  next-out true (suc d) c h = rw h
+  next-out true None c h = both_ways h refl
+  next-out true (Some d) c h = rw h
 
-  next-on : (best c : ℕ) → outscores sc best c ≡ false → of_next true best c ≡ suc c
-  unfolding outscores of_next
-  next-on zero c h = refl
-  next-on (suc d) c h = rw h
+  next-on : (best : Option ℕ) (c : ℕ) → outscores sc best c ≡ false → of_next true best c ≡ Some c
+  unfolding of_next
+  next-on None c h = refl
+  next-on (Some d) c h = rw h
 
-  next-not : (best c : ℕ) → of_next false best c ≡ best
+  next-not : (best : Option ℕ) (c : ℕ) → of_next false best c ≡ best
   unfolding of_next
   next-not best c = refl
 
-  next-is : (p : Bool) (best c : ℕ) → (of_next p best c ≡ best) ⊎ (of_next p best c ≡ suc c)
+  next-is : (p : Bool) (best : Option ℕ) (c : ℕ) → (of_next p best c ≡ best) ⊎ (of_next p best c ≡ Some c)
   unfolding of_next
   next-is false best c = inl refl
-  next-is true zero c = inr refl
-  next-is true (suc d) c = go (lt (score_of sc c) (score_of sc d)) refl
+  next-is true None c = inr refl
+  next-is true (Some d) c = go (lt (score_of sc c) (score_of sc d)) refl
     where
-      go : (b : Bool) → lt (score_of sc c) (score_of sc d) ≡ b → (of_next true (suc d) c ≡ suc d) ⊎ (of_next true (suc d) c ≡ suc c)
+      go : (b : Bool) → lt (score_of sc c) (score_of sc d) ≡ b → (of_next true (Some d) c ≡ Some d) ⊎ (of_next true (Some d) c ≡ Some c)
       go true h = inl (rw h)
       go false h = inr (rw h)
 
-  module _ (c best : ℕ) (b : Bool) (e : b ≡ outscores sc best c) where
+  module _ (c : ℕ) (best : Option ℕ) (b : Bool) (e : b ≡ outscores sc best c) where
     pub later-less : b ≡ true → best ≡ later best c
     unfolding later
     later-less h = sym (next-out (through c) best c (sym e ∙ h))
@@ -107,103 +88,105 @@ module _ (index targets : List ℕ) (source : ℕ) (t : List ℕ) (sc : List Flo
           let a : through c ≡ false = sym (times-any targets source v (edges index targets t c)) ∙ le-ltb 0 (times targets source v (edges index targets t c)) (omega arith) in
           rw a (sym (next-not best c))
 
-      pub later-some : (k ≡ 0 → ⊥) → c + 1 ≡ later best c
+      pub later-some : (k ≡ 0 → ⊥) → Some c ≡ later best c
       unfolding later
       later-some z =
           let a : through c ≡ true = sym (times-any targets source v (edges index targets t c)) ∙ lt-ltb 0 (times targets source v (edges index targets t c)) (omega arith) in
-          rw a (add-one c ∙ sym (next-on best c (sym e ∙ f)))
+          rw a (sym (next-on best c (sym e ∙ f)))
 
   -- ---- the best of some paths and one that closed after them, where the scores are numbers
-  both-next : (p r : Bool) (c b x : ℕ) → ((d : ℕ) → b ≡ suc d → is_nan (score_of sc d) ≡ false) → of_both p c (of_next r b x) ≡ of_next r (of_both p c b) x
+  both-next : (p r : Bool) (c : ℕ) (b : Option ℕ) (x : ℕ) → ((d : ℕ) → b ≡ Some d → is_nan (score_of sc d) ≡ false)
+      → of_both p c (of_next r b x) ≡ of_next r (of_both p c b) x
   unfolding of_both of_next
   both-next false r c b x number = refl
   both-next true false c b x number = refl
-  both-next true true c zero x number = refl
-  both-next true true c (suc d) x number = go (lt (score_of sc x) (score_of sc d)) refl (lt (score_of sc d) (score_of sc c)) refl
+  both-next true true c None x number = refl
+  both-next true true c (Some d) x number = go (lt (score_of sc x) (score_of sc d)) refl (lt (score_of sc d) (score_of sc c)) refl
     where
       go : (p : Bool) → lt (score_of sc x) (score_of sc d) ≡ p → (q : Bool) → lt (score_of sc d) (score_of sc c) ≡ q
-          → of_both true c (of_next true (suc d) x) ≡ of_next true (of_both true c (suc d)) x
+          → of_both true c (of_next true (Some d) x) ≡ of_next true (of_both true c (Some d)) x
       go true e true g = rw (e, g, lt-chain (score_of sc x) (score_of sc d) (score_of sc c) e g)
       go true e false g = rw (e, g, e)
       go false e true g = rw (e, g)
       go false e false g = rw (e, g, e, nlt-chain (score_of sc x) (score_of sc d) (score_of sc c) (number d refl) e g)
 
-  both-number : (p : Bool) (c b d : ℕ) → is_nan (score_of sc c) ≡ false → ((y : ℕ) → b ≡ suc y → is_nan (score_of sc y) ≡ false) → of_both p c b ≡ suc d
-      → is_nan (score_of sc d) ≡ false
+  both-number : (p : Bool) (c : ℕ) (b : Option ℕ) (d : ℕ) → is_nan (score_of sc c) ≡ false → ((y : ℕ) → b ≡ Some y → is_nan (score_of sc y) ≡ false)
+      → of_both p c b ≡ Some d → is_nan (score_of sc d) ≡ false
   unfolding of_both
   both-number false c b d n number h = number d h
-  both-number true c zero d n number h = let z : c ≡ d = omega arith in rw z at n
-  both-number true c (suc y) d n number h = go (lt (score_of sc y) (score_of sc c)) refl
+  both-number true c None d n number h = let z : c ≡ d = cc in rw z at n
+  both-number true c (Some y) d n number h = go (lt (score_of sc y) (score_of sc c)) refl
     where
       go : (p : Bool) → lt (score_of sc y) (score_of sc c) ≡ p → is_nan (score_of sc d) ≡ false
-      go true e = let q : suc c ≡ suc d = rw e at h in let z : c ≡ d = omega arith in rw z at n
-      go false e = let q : suc y ≡ suc d = rw e at h in number d q
+      go true e = let q : Some c ≡ Some d = rw e at h in let z : c ≡ d = cc in rw z at n
+      go false e = let q : Some y ≡ Some d = rw e at h in number d q
 
-  best-number : (cs : List ℕ) → All (λ c. is_nan (score_of sc c) ≡ false) cs → (d : ℕ) → best_of cs ≡ suc d → is_nan (score_of sc d) ≡ false
+  best-number : (cs : List ℕ) → All (λ c. is_nan (score_of sc c) ≡ false) cs → (d : ℕ) → best_of cs ≡ Some d → is_nan (score_of sc d) ≡ false
   unfolding best_of better
-  best-number [] nil d h = absurd (omega arith)
+  best-number [] nil d h = cc
   best-number (c ∷ cs) (cons p ps) d h = both-number (through c) c (best_of cs) d p (best-number cs ps) h
 
   best-snoc : (cs : List ℕ) (x : ℕ) → All (λ c. is_nan (score_of sc c) ≡ false) cs → best_of (cs ++ x ∷ []) ≡ later (best_of cs) x
   unfolding best_of better later of_both of_next
   best-snoc [] x nil = go (through x)
     where
-      go : (p : Bool) → of_both p x 0 ≡ of_next p 0 x
+      go : (p : Bool) → of_both p x None ≡ of_next p None x
       go true = refl
       go false = refl
   best-snoc (c ∷ cs) x (cons p ps) = ap (λ y. of_both (through c) c y) (best-snoc cs x ps) ∙ both-next (through c) (through x) c (best_of cs) x (best-number cs ps)
 
   -- ---- best_through
-  pub record Searching (closed : List ℕ) (count i best : ℕ) : Type 0 where
-    pub low : i ≤ count
-    pub known : 0 < best → best - 1 < length sc
+  pub record Searching (closed : List ℕ) (i : ℕ) (best : Option ℕ) : Type 0 where
+    pub low : i ≤ length closed
+    pub known : IfSome best (λ b. b < length sc)
     pub is : best ≡ best_of (take i closed)
 
   -- each of the closed paths stands in a table, and its score is a number
-  pub record ClosedIn (closed : List ℕ) (count : ℕ) : Type 0 where
-    pub room : count ≤ length closed
-    pub tables : (i : ℕ) → i < count → Table index targets t sc (get_or closed i 0 + 1)
-    pub small : (i : ℕ) → i < count → get_or closed i 0 + 1 < 4294967296
-    pub numbers : (i : ℕ) → i < count → is_nan (score_of sc (get_or closed i 0)) ≡ false
+  pub record ClosedIn (closed : List ℕ) : Type 0 where
+    pub tables : (i : ℕ) → i < length closed → Table index targets t sc (get_or closed i 0 + 1)
+    pub numbers : (i : ℕ) → i < length closed → is_nan (score_of sc (get_or closed i 0)) ≡ false
 
-  module _ (closed : List ℕ) (count : ℕ) (C : ClosedIn closed count) where
-    pub searching-start : Searching closed count 0 0
+  module _ (closed : List ℕ) (C : ClosedIn closed) where
+    pub searching-start : Searching closed 0 None
     unfolding best_of
-    searching-start = record { low = omega arith; known = λ h. absurd (omega arith); is = refl }
+    searching-start = record { low = omega arith; known = tt; is = refl }
 
-    all-numbers : (i : ℕ) → i ≤ count → All (λ c. is_nan (score_of sc c) ≡ false) (take i closed)
-    all-numbers i l = all-taken closed i (λ j h. C.numbers j (omega arith)) (omega (arith, C.room))
+    all-numbers : (i : ℕ) → i ≤ length closed → All (λ c. is_nan (score_of sc c) ≡ false) (take i closed)
+    all-numbers i l = all-taken closed i (λ j h. C.numbers j (omega arith)) l
       where
         all-taken : (xs : List ℕ) (n : ℕ) → ((j : ℕ) → j < n → is_nan (score_of sc (get_or xs j 0)) ≡ false) → n ≤ length xs → All (λ c. is_nan (score_of sc c) ≡ false) (take n xs)
         all-taken xs zero h m = nil
         all-taken [] (suc n) h m = absurd (omega arith)
         all-taken (x ∷ xs) (suc n) h m = cons (h 0 (omega arith)) (all-taken xs n (λ j k. h (suc j) (omega arith)) (omega arith))
 
-    module _ (i best : ℕ) (S : Searching closed count i best) where
-      pub searching-table : i < count → Table index targets t sc (get_or closed i 0 + 1)
-      searching-table h = C.tables i h
-
-      later-known : (c : ℕ) → c < length sc → 0 < later best c → later best c - 1 < length sc
+    module _ (i : ℕ) (best : Option ℕ) (S : Searching closed i best) where
+      later-known : (c : ℕ) → c < length sc → IfSome (later best c) (λ b. b < length sc)
       unfolding later
-      later-known c l h = go (next-is (through c) best c)
+      later-known c l = go (next-is (through c) best c)
         where
-          go : (of_next (through c) best c ≡ best) ⊎ (of_next (through c) best c ≡ suc c) → of_next (through c) best c - 1 < length sc
-          go (inl e) = let k : best - 1 < length sc = S.known (omega (arith, h, e)) in omega (arith, k, e)
-          go (inr e) = omega (arith, l, e)
+          go : (of_next (through c) best c ≡ best) ⊎ (of_next (through c) best c ≡ Some c) → IfSome (of_next (through c) best c) (λ b. b < length sc)
+          go (inl e) = rw e S.known
+          go (inr e) = rw e l
 
-      pub searching-next : (b : ℕ) → i < count → b ≡ later best (get_or closed i 0) → Searching closed count (i + 1) b
+      pub searching-next : (b : Option ℕ) → i < length closed → b ≡ later best (get_or closed i 0) → Searching closed (i + 1) b
       searching-next b h g =
           let c = get_or closed i 0 in
-          let e : take (i + 1) closed ≡ take i closed ++ c ∷ [] = rw (add-one i) (take-suc closed i 0 (omega (arith, C.room))) in
+          let e : take (i + 1) closed ≡ take i closed ++ c ∷ [] = rw (add-one i) (take-suc closed i 0 h) in
           let l : c < length sc = omega (arith, (C.tables i h).scored) in
           record {
             low = omega arith;
-            known = λ p. rw g (later-known c l (rw g at p));
+            known = rw g (later-known c l);
             is = g ∙ ap (λ x. later x c) S.is ∙ sym (best-snoc (take i closed) c (all-numbers i S.low)) ∙ ap (λ x. best_of x) (sym e);
           }
 
-    pub searching-end : (i best : ℕ) → Searching closed count i best → count ≤ i → best ≡ best_of (take count closed)
-    searching-end i best S h = let z : i ≡ count = omega (arith, S.low) in rw z at S.is
+  -- of a longer list the paths that closed are the first
+  pub closed-front : (closed : List ℕ) (n : ℕ) → n ≤ length closed → ((i : ℕ) → i < n → Table index targets t sc (get_or closed i 0 + 1))
+      → ((i : ℕ) → i < n → is_nan (score_of sc (get_or closed i 0)) ≡ false) → ClosedIn (take n closed)
+  closed-front closed n l T N =
+      record {
+        tables = λ i h. let k : i < n = omega (arith, length-take-le n closed l) in rw (get_or-take n closed i 0 k) (T i k);
+        numbers = λ i h. let k : i < n = omega (arith, length-take-le n closed l) in rw (get_or-take n closed i 0 k) (N i k);
+      }
 
 -- ---- the definition's greatest
 
@@ -213,9 +196,9 @@ module _ (f : SearchInput) (ends : ℕ → Ends) (index targets : List ℕ) (A :
   abbrev pub closed_at : ℕ → Closed Float
   closed_at c = closed_of ends index targets t sc (closing c) c
 
-  abbrev pub found_at : ℕ → Option (Closed Float)
-  found_at zero = none
-  found_at (suc c) = some (closed_at c)
+  abbrev pub found_at : Option ℕ → math.Option (Closed Float)
+  found_at None = math.none
+  found_at (Some c) = math.some (closed_at c)
 
   through_same : (c : ℕ) → any (eqb v) (vertices_from f.source (closed_at c).edges) ≡ through index targets f.source t sc v c
   unfolding vertices_from
@@ -224,14 +207,14 @@ module _ (f : SearchInput) (ends : ℕ → Ends) (index targets : List ℕ) (A :
   abbrev hits : Closed Float → Bool
   hits c = any (eqb v) (vertices_from f.source c.edges)
 
-  step : (c : ℕ) (cs : List (Closed Float)) (b : ℕ) → through index targets f.source t sc v c ≡ true → greatest (column_scoring column) cs ≡ found_at b
+  step : (c : ℕ) (cs : List (Closed Float)) (b : Option ℕ) → through index targets f.source t sc v c ≡ true → greatest (column_scoring column) cs ≡ found_at b
       → greatest (column_scoring column) (closed_at c ∷ cs) ≡ found_at (better index targets f.source t sc v c b)
   unfolding greatest column_scoring better of_both
-  step c cs zero m e = rw (e, greatest, m)
-  step c cs (suc d) m e = go (lt (score_of sc d) (score_of sc c)) refl
+  step c cs None m e = rw (e, greatest, m)
+  step c cs (Some d) m e = go (lt (score_of sc d) (score_of sc c)) refl
     where
       go : (b : Bool) → lt (score_of sc d) (score_of sc c) ≡ b
-          → greatest (column_scoring column) (closed_at c ∷ cs) ≡ found_at (better index targets f.source t sc v c (suc d))
+          → greatest (column_scoring column) (closed_at c ∷ cs) ≡ found_at (better index targets f.source t sc v c (Some d))
       go true h = rw (e, greatest, h, m, h)
       go false h = rw (e, greatest, h, m, h)
 

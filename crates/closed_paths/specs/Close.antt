@@ -1,8 +1,7 @@
 -- The definition's `close_at`, by what close_path and cross_off tell.
 use Rattle.std.specs.Prelude.{◌≡◌, true, false, List, [], ◌∷◌, ◌++◌, map, ℕ, suc, ◌<◌, ◌≤◌, set, Float}
-use Rattle.std.proofs.Common.{arith}
-use borrow.Author.Tests.{le-leb, lt-leb, eq-eqb, ne_eqb}
-use Rattle.std.proofs.Math.ListN.{length}
+use Rattle.std.proofs.Common.{arith, le-leb, eq-eqb, ne_eqb, length}
+use Rattle.std.proofs.lemmas.Bool.{lt-leb}
 use Rattle.definition.specs.Refusal.{ok, refused}
 use Rattle.definition.specs.Threading.{Ends}
 use Rattle.definition.specs.Evidence.{Branches}

@@ -1,12 +1,8 @@
 -- Pivotal edges: a mark for each edge tells whether it is still unvisited, and the edges of a path that reached the sink are struck out by clearing
 -- their marks. The list of the definition is the edges in their order that are still marked.
 use Rattle.std.specs.Prelude.{◌≡◌, ◌⊎◌, ◌≢◌, true, false, ℕ, zero, suc, ◌-◌, ◌<◌, ◌≤◌, eqb, length, get_or, set, Float}
-use Rattle.std.proofs.Math.Path.{refl, ap}
-use Rattle.std.proofs.Common.{sym, ◌∙◌, inl, inr, arith, eq-eqb, ne_eqb, get_or-set_same, get_or-set_other}
-use mathlib.Core.List.{List, [], ◌∷◌, ◌++◌, map}
+use Rattle.std.proofs.Common.{sym, ◌∙◌, inl, inr, arith, eq-eqb, ne_eqb, get_or-set_same, get_or-set_other, refl, ap, List, [], ◌∷◌, ◌++◌, map, length-set, ltb}
 use Rattle.std.proofs.Math.Decide.{ℕ_discrete}
-use Rattle.std.proofs.Math.Dec.{ltb}
-use Rattle.std.proofs.Math.ListN.{length-set}
 use Rattle.std.proofs.lemmas.List.{set_comm}
 use Rattle.laws.specs.Lists.{keep, drop_first}
 use Rattle.laws.specs.ListLaws.{All, cons, all-mono, all_keep, all-zip}
@@ -15,8 +11,8 @@ use Rattle.laws.specs.BoolLaws.{Bool-cases}
 use Rattle.definition.specs.Threading.{Ends, eq_ends}
 use Rattle.definition.specs.Search.{SearchInput, cross_off}
 use Rattle.path_store.specs.Walk.{run, Runs, sole, next}
-use Rattle.path_store.specs.Cells.{parent_of, chain_of, edge_of, end_of, Inside}
-use Rattle.path_edges.specs.Path.{last_edge, last_edge-is, piece_is, piece_of, Table, edges, edges-up, edges_none, piece-at, inside}
+use Rattle.path_store.specs.Cells.{parent_of, chain_of, edge_of, end_of}
+use Rattle.path_edges.specs.Path.{last_edge, piece_is, piece_of, Table, edges, edges-up, edges_none, piece-at}
 use Rattle.path_growth.specs.Link.{Agrees}
 
 -- the marks of these edges are cleared
@@ -44,10 +40,6 @@ clear-clears m x (y ∷ b) = clear-clears (set m y 0) x b ∙ ap (λ l. clears l
 clears-back : (m a b : List ℕ) → clears (clears m b) a ≡ clears m (a ++ b)
 clears-back m [] b = refl
 clears-back m (x ∷ a) b = ap (λ l. clears l a) (clear-clears m x b) ∙ clears-back (set m x 0) a b
-
--- ---- clear_last
-pub clear-last : (m : List ℕ) (l i : ℕ) → (l ≡ 0 → ⊥) → i ≡ l - 1 → set m i 0 ≡ clears m (last_edge l)
-clear-last m l i h e = rw e (ap (λ es. clears m es) (sym (last_edge-is l (omega arith))))
 
 -- ---- cross_off: of a path's edges only the last one of each record is looked at
 
@@ -77,68 +69,54 @@ run-off index targets e F m u zero r = refl
 run-off index targets e F m u (suc c) r =
     run-off index targets e F (set m (sole index u) 0) (next index targets u) c r.1 ∙ get_or-set_other m (sole index u) e 0 0 (λ z. F u (omega (arith, r.0)))
 
-pub record Crossing (index targets t : List ℕ) (n path : ℕ) (m₀ m : List ℕ) (r p l : ℕ) : Type 0 where
+pub record Crossing (index targets t : List ℕ) (n path : ℕ) (m₀ m : List ℕ) (r : ℕ) : Type 0 where
   pub size : length m ≡ length m₀
   pub low : r < n
-  pub par : p ≡ parent_of t r
-  pub last : l ≡ edge_of t r
   pub is : (e : ℕ) → e < length m₀ → Fork index e → get_or (clears m (edges index targets t r)) e 0 ≡ get_or (clears m₀ (edges index targets t path)) e 0
 
 module _ (index targets t : List ℕ) (sc : List Float) (n : ℕ) (T : Table index targets t sc n) where
-  pub crossing-start : (path p l : ℕ) (m : List ℕ) → path < n → p ≡ parent_of t path → l ≡ edge_of t path → Crossing index targets t n path m m path p l
-  crossing-start path p l m h e f = record { size = refl; low = h; par = e; last = f; is = λ d b F. refl }
+  module _ (path : ℕ) (m₀ m : List ℕ) (r : ℕ) (U : Crossing index targets t n path m₀ m r) where
+    module _ (p : ℕ) (h : parent_of t r ≡ suc p) where
+      pub crossing-low : (p < r) × (p < n)
+      crossing-low = omega (arith, U.low, (T.rows r U.low).rises)
 
-  module _ (path : ℕ) (m₀ m : List ℕ) (r p l : ℕ) (U : Crossing index targets t n path m₀ m r p l) where
-    low : 0 < p → p - 1 < n
-    low h = omega (arith, U.par, U.low, (T.rows r U.low).rises)
+      -- the last edge alone, and all edges that the record adds
+      own : (e : ℕ) → e < length m₀ → Fork index e → get_or (clears m (last_edge (edge_of t r))) e 0 ≡ get_or (clears m (piece_of index targets t r)) e 0
+      own e b F =
+          let P = piece-at index targets t sc n T r U.low (omega arith) in
+          let u = end_of t (parent_of t r - 1) in
+          let c = chain_of t r in
+          let k = length-clears m (run index targets u c) in
+          sym
+          (ap (λ x. get_or (clears m x) e 0) (piece_is index targets u c (edge_of t r))
+          ∙ ap (λ (x : List ℕ). get_or x e 0) (clears-append m (run index targets u c) (last_edge (edge_of t r)))
+          ∙ clears-agree e (last_edge (edge_of t r)) (clears m (run index targets u c)) m (omega (arith, U.size)) k (run-off index targets e F m u c P.runs))
 
-    pub crossing-inside : 0 < p → Inside t sc (p - 1)
-    crossing-inside h = inside index targets t sc n T (p - 1) (low h)
+      pub crossing-next : (m' : List ℕ) → m' ≡ clears m (last_edge (edge_of t r)) → Crossing index targets t n path m₀ m' p
+      crossing-next m' z =
+          let a : parent_of t r - 1 ≡ p = omega arith in
+          let up : edges index targets t r ≡ edges index targets t p ++ piece_of index targets t r =
+          edges-up index targets t sc n T r U.low (omega arith) ∙ ap (λ x. edges index targets t x ++ piece_of index targets t r) a
+          in
+          let i = length-clears m (last_edge (edge_of t r)) in
+          let j = length-clears m (piece_of index targets t r) in
+          record {
+            size = ap (λ x. length x) z ∙ i ∙ U.size;
+            low = crossing-low.1;
+            is =
+                λ e b F.
+                ap (λ x. get_or (clears x (edges index targets t p)) e 0) z
+                ∙ clears-agree e (edges index targets t p) (clears m (last_edge (edge_of t r))) (clears m (piece_of index targets t r)) (omega (arith, i, U.size)) (i ∙ sym j) (own e b F)
+                ∙ ap (λ (x : List ℕ). get_or x e 0) (clears-back m (edges index targets t p) (piece_of index targets t r))
+                ∙ ap (λ x. get_or (clears m x) e 0) (sym up)
+                ∙ U.is e b F;
+          }
 
-    pub crossing-last : length targets ≤ length m₀ → l ≤ length m
-    crossing-last h = omega (arith, U.last, U.size, (T.rows r U.low).last)
-
-    -- the last edge alone, and all edges that the record adds
-    own : 0 < p → (e : ℕ) → e < length m₀ → Fork index e → get_or (clears m (last_edge l)) e 0 ≡ get_or (clears m (piece_of index targets t r)) e 0
-    own h e b F =
-        let P = piece-at index targets t sc n T r U.low (rw U.par at h) in
-        let u = end_of t (parent_of t r - 1) in
-        let c = chain_of t r in
-        let k = length-clears m (run index targets u c) in
-        ap (λ (x : ℕ). get_or (clears m (last_edge x)) e 0) U.last
-        ∙ sym
-        (ap (λ x. get_or (clears m x) e 0) (piece_is index targets u c (edge_of t r))
-        ∙ ap (λ (x : List ℕ). get_or x e 0) (clears-append m (run index targets u c) (last_edge (edge_of t r)))
-        ∙ clears-agree e (last_edge (edge_of t r)) (clears m (run index targets u c)) m (omega (arith, U.size)) k (run-off index targets e F m u c P.runs))
-
-    pub crossing-next : (q d : ℕ) (m' : List ℕ) → 0 < p → m' ≡ clears m (last_edge l) → q ≡ parent_of t (p - 1) → d ≡ edge_of t (p - 1)
-        → Crossing index targets t n path m₀ m' (p - 1) q d
-    crossing-next q d m' h z f g =
-        let a : parent_of t r ≡ p = sym U.par in
-        let up : edges index targets t r ≡ edges index targets t (p - 1) ++ piece_of index targets t r =
-        edges-up index targets t sc n T r U.low (rw U.par at h) ∙ ap (λ x. edges index targets t (x - 1) ++ piece_of index targets t r) a
-        in
-        let i = length-clears m (last_edge l) in
-        let j = length-clears m (piece_of index targets t r) in
-        record {
-          size = ap (λ x. length x) z ∙ i ∙ U.size;
-          low = low h;
-          par = f;
-          last = g;
-          is =
-              λ e b F.
-              ap (λ x. get_or (clears x (edges index targets t (p - 1))) e 0) z
-              ∙ clears-agree e (edges index targets t (p - 1)) (clears m (last_edge l)) (clears m (piece_of index targets t r)) (omega (arith, i, U.size)) (i ∙ sym j) (own h e b F)
-              ∙ ap (λ (x : List ℕ). get_or x e 0) (clears-back m (edges index targets t (p - 1)) (piece_of index targets t r))
-              ∙ ap (λ x. get_or (clears m x) e 0) (sym up)
-              ∙ U.is e b F;
-        }
-
-    pub crossing-end : p ≤ 0 → Struck index m₀ (edges index targets t path) m
+    pub crossing-end : parent_of t r ≡ 0 → Struck index m₀ (edges index targets t path) m
     crossing-end h =
         record {
           size = U.size;
-          same = λ e b F. ap (λ es. get_or (clears m es) e 0) (sym (edges_none index targets t r (sym U.par ∙ omega arith))) ∙ U.is e b F;
+          same = λ e b F. ap (λ es. get_or (clears m es) e 0) (sym (edges_none index targets t r h)) ∙ U.is e b F;
         }
 
 -- ---- the definition's list

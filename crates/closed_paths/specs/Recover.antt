@@ -1,11 +1,9 @@
 -- The definition's `recover`, by what the functions tell: the best closed path through the vertex, where it is split, and the record that is made.
-use Rattle.std.specs.Prelude.{◌≡◌, ◌⊎◌, Bool, true, false, cond, List, [], ◌∷◌, ◌++◌, map, length, get_or, take, set, Float}
-use Rattle.std.proofs.Math.Path.{refl, ap}
-use Rattle.std.proofs.Common.{sym, ◌∙◌, inl, inr, arith}
-use Rattle.std.proofs.Math.Option.{Option, none, some}
-use Prim.Native.Nat.{ℕ, zero, suc, ◌+◌, ◌-◌, ◌<◌, ◌≤◌}
-use borrow.Author.Tests.{eq-eqb, le-leb, lt-leb}
-use Rattle.std.proofs.Math.Dec.{eqb}
+use Rattle.std.specs.Prelude.{◌≡◌, ◌⊎◌, Option, Some, None, Bool, true, false, cond, List, [], ◌∷◌, ◌++◌, map, length, get_or, take, set, Float}
+use Rattle.std.proofs.Common.{sym, ◌∙◌, inl, inr, arith, refl, ap, ℕ, zero, suc, ◌+◌, ◌-◌, ◌<◌, ◌≤◌, eqb, eq-eqb, le-leb}
+use Rattle.std.proofs.Math.Option.{none, some}
+use Rattle.std.proofs.Math.Option as math
+use Rattle.std.proofs.lemmas.Bool.{lt-leb}
 use Rattle.laws.specs.Lists.{any, keep, find_last, position}
 use Rattle.laws.specs.ListLaws.{All, nil, cons, all_append, all-find_last}
 use Rattle.laws.specs.BoolLaws.{Bool-cases}
@@ -64,7 +62,7 @@ all-at P (x ∷ xs) (cons p a) (suc i) h = all-at P xs a i (omega arith)
 
 -- ---- where the path is split
 
-found_below : (p : ℕ → Bool) (es : List ℕ) (d : ℕ) → find_last p es ≡ some d → position (eqb d) es < length es
+pub found_below : (p : ℕ → Bool) (es : List ℕ) (d : ℕ) → find_last p es ≡ some d → position (eqb d) es < length es
 found_below p [] d h = let z : ◌≡◌ {A = ℕ} 0 1 = cc in absurd (omega arith)
 found_below p (x ∷ es) d h = go (find_last p es) refl (λ k. found_below p es d k)
   where
@@ -76,7 +74,7 @@ found_below p (x ∷ es) d h = go (find_last p es) refl (λ k. found_below p es 
     first true k = let q : x ≡ d = cc in omega (arith, position-hit (eqb d) x es (eq-eqb d x (sym q)))
     first false k = let z : ◌≡◌ {A = ℕ} 0 1 = cc in absurd (omega arith)
 
-    go : (o : Option ℕ) → find_last p es ≡ o → (find_last p es ≡ some d → position (eqb d) es < length es) → position (eqb d) (x ∷ es) < suc (length es)
+    go : (o : math.Option ℕ) → find_last p es ≡ o → (find_last p es ≡ some d → position (eqb d) es < length es) → position (eqb d) (x ∷ es) < suc (length es)
     go none e ih = first (p x) (sym (last-first p x es e) ∙ h)
     go (some y) e ih = later (ih (e ∙ sym (last-later p x y es e) ∙ h)) (Bool-cases (eqb d x))
 
@@ -86,14 +84,14 @@ pub record SplitIs (targets : List ℕ) (v : ℕ) (es : List ℕ) (k : ℕ) : Ty
   pub last : last_into targets v es ≡ some edge
   pub place : k ≡ suc (position (eqb edge) es)
 
-split-zero : (targets : List ℕ) (v : ℕ) (es : List ℕ) (o : Option ℕ) → last_into targets v es ≡ o → split_at targets v es ≡ 0 → last_into targets v es ≡ none
+split-zero : (targets : List ℕ) (v : ℕ) (es : List ℕ) (o : math.Option ℕ) → last_into targets v es ≡ o → split_at targets v es ≡ 0 → last_into targets v es ≡ none
 unfolding split_at
 split-zero targets v es none e h = e
 split-zero targets v es (some d) e h =
     let z : suc (position (eqb d) es) ≡ 0 = rw (e, split_at) at h in
     absurd (omega arith)
 
-split-is : (targets : List ℕ) (v : ℕ) (es : List ℕ) (o : Option ℕ) (k : ℕ) → last_into targets v es ≡ o → k ≡ split_at targets v es → 0 < k → SplitIs targets v es k
+split-is : (targets : List ℕ) (v : ℕ) (es : List ℕ) (o : math.Option ℕ) (k : ℕ) → last_into targets v es ≡ o → k ≡ split_at targets v es → 0 < k → SplitIs targets v es k
 unfolding split_at
 split-is targets v es none k e h p =
     let z : k ≡ 0 = rw (e, split_at) at h in
@@ -109,11 +107,11 @@ split-low targets v es k h p =
 -- ---- `recover`
 module _ (f : SearchInput) (ends : ℕ → Ends) (index targets : List ℕ) (A : Agrees f index targets ends) (column : List Float) (closing : ℕ → ℕ) (t : List ℕ) (sc : List Float) (n : ℕ)
     (T : Table index targets t sc n) (e : ℕ) (cs : List ℕ) (s : State Float) (C : s.closed ≡ map (closed_at f ends index targets A column closing t sc (ends e).from) cs) where
-  top : (b : ℕ) → b ≡ best_of index targets f.source t sc (ends e).from cs
+  top : (b : Option ℕ) → b ≡ best_of index targets f.source t sc (ends e).from cs
       → greatest (column_scoring column) (keep (λ c. any (eqb (ends e).from) (vertices_from f.source c.edges)) s.closed) ≡ found_at f ends index targets A column closing t sc (ends e).from b
   top b h = rw (C, h) (best-greatest f ends index targets A column closing t sc (ends e).from cs)
 
-  pub recover-none : (b : ℕ) → b ≡ best_of index targets f.source t sc (ends e).from cs → b ≡ 0 → recover (column_scoring column) f (ends e) s ≡ made s []
+  pub recover-none : (b : Option ℕ) → b ≡ best_of index targets f.source t sc (ends e).from cs → b ≡ None → recover (column_scoring column) f (ends e) s ≡ made s []
   unfolding recover
   recover-none b h z =
       let g : greatest (column_scoring column) (keep (λ c. any (eqb (ends e).from) (vertices_from f.source c.edges)) s.closed) ≡ none =
@@ -121,9 +119,9 @@ module _ (f : SearchInput) (ends : ℕ → Ends) (index targets : List ℕ) (A :
       in
       rw (g, recover)
 
-  module _ (b : ℕ) (h : suc b ≡ best_of index targets f.source t sc (ends e).from cs) (l : b < n) where
+  module _ (b : ℕ) (h : Some b ≡ best_of index targets f.source t sc (ends e).from cs) (l : b < n) where
     found : greatest (column_scoring column) (keep (λ c. any (eqb (ends e).from) (vertices_from f.source c.edges)) s.closed) ≡ some (closed_of ends index targets t sc (closing b) b)
-    found = top (suc b) h
+    found = top (Some b) h
 
     pub recover-lost : split_at targets (ends e).from (edges index targets t b) ≡ 0 → recover (column_scoring column) f (ends e) s ≡ made s []
     unfolding recover

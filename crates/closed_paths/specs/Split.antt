@@ -1,128 +1,108 @@
 -- Where a closed path is split: behind the first place of its last edge into the pivotal vertex. Over the edges written out, as numbers.
-use Rattle.std.specs.Prelude.{◌≡◌, refl, ◌⊎◌, true, false, List, [], ◌∷◌, ◌++◌, map, ℕ, suc, ◌+◌, ◌-◌, ◌<◌, ◌≤◌, eqb, length, get_or, take, drop}
-use Rattle.std.proofs.Common.{sym, ap, ◌∙◌, inl, inr, add-one, arith, eq-eqb, ne_eqb, drop_of_length-le, take-suc, drop-cons, length-take-le, get_or-take}
-use Rattle.std.proofs.Math.Option.{Option, none, some}
+use Rattle.std.specs.Prelude.{◌≡◌, refl, ◌⊎◌, Option, Some, None, Bool, cond, not, true, false, List, [], ◌∷◌, ◌++◌, map, ℕ, suc, ◌+◌, ◌<◌, ◌≤◌, eqb, ltb, length, get_or, take}
+use Rattle.std.proofs.Common.{sym, ap, ◌∙◌, inl, inr, add-one, arith, eq-eqb, ne_eqb, ltb-false, take-suc}
+use Rattle.std.proofs.Math.Option.{none, some}
+use Rattle.std.proofs.Math.Option as math
+use Rattle.std.specs.List as std
 use Rattle.laws.specs.Lists.{find_last, position}
 use Rattle.laws.specs.ListLaws.{All, nil, cons, all-mono}
 use Rattle.laws.specs.BoolLaws.{Bool-cases}
-use Rattle.laws.specs.Finding.{position-le, position-hit, position_past, last-hit, last-miss, last-map, position-map, on_some}
+use Rattle.laws.specs.Finding.{position-hit, position_past, last-hit, last-miss, last-map, position-map, on_some}
 use Rattle.definition.specs.Threading.{Ends, eq_ends}
 use Rattle.definition.specs.Search.{SearchInput}
+use Rattle.path_store.specs.Cells.{numbered}
 use Rattle.path_growth.specs.Link.{Agrees}
 
 -- an edge as its number + 1
-abbrev pub found : Option ℕ → ℕ
+abbrev pub found : math.Option ℕ → ℕ
 found none = 0
 found (some d) = suc d
 
-abbrev pub last_into : List ℕ → ℕ → List ℕ → Option ℕ
+abbrev pub last_into : List ℕ → ℕ → List ℕ → math.Option ℕ
 last_into targets v es = find_last (λ d. eqb (get_or targets d 0) v) es
 
 -- how many edges are kept: 0 where none enters v
 unfoldable pub split_at : List ℕ → ℕ → List ℕ → ℕ
 split_at targets v es = elim (last_into targets v es) [ none ↦ 0 | some d ↦ suc (position (eqb d) es) ]
 
--- ---- newer and last_into
-pub newer : List ℕ → ℕ → ℕ → ℕ → ℕ
-newer targets v e last = elim (eqb (get_or targets e 0) v) [ true ↦ e + 1 | false ↦ last ]
+-- ---- last_into: the edge e where it enters v, else the one that was found last
+pub record Latest (targets : List ℕ) (v : ℕ) (walk : List ℕ) (i : ℕ) (last : Option ℕ) : Type 0 where
+  pub low : i ≤ length walk
+  pub is : last ≡ numbered (found (last_into targets v (take i walk)))
 
-pub newer-hit : (targets : List ℕ) (v e last x : ℕ) → x ≡ get_or targets e 0 → x ≡ v → e + 1 ≡ newer targets v e last
-unfolding newer
-newer-hit targets v e last x h k = rw (eq-eqb (get_or targets e 0) v (sym h ∙ k), newer)
+module _ (targets : List ℕ) (v : ℕ) (walk : List ℕ) where
+  module _ (i : ℕ) (last : Option ℕ) (L : Latest targets v walk i last) (h : i < length walk) where
+    front : take (i + 1) walk ≡ take i walk ++ get_or walk i 0 ∷ []
+    front = rw (add-one i) (take-suc walk i 0 h)
 
-pub newer-miss : (targets : List ℕ) (v e last x : ℕ) → x ≡ get_or targets e 0 → (x ≡ v → ⊥) → last ≡ newer targets v e last
-unfolding newer
-newer-miss targets v e last x h k = rw (ne_eqb (get_or targets e 0) v (λ z. k (h ∙ z)), newer)
+    pub latest-hit : get_or targets (get_or walk i 0) 0 ≡ v → Latest targets v walk (i + 1) (Some (get_or walk i 0))
+    latest-hit e =
+        record {
+          low = omega arith;
+          is =
+              ap (λ o. numbered (found o)) (sym (last-hit (λ d. eqb (get_or targets d 0) v) (take i walk) (get_or walk i 0) (eq-eqb _ v e)))
+              ∙ ap (λ x. numbered (found (last_into targets v x))) (sym front);
+        }
 
-newer-is : (targets : List ℕ) (v e : ℕ) (es : List ℕ) → newer targets v e (found (last_into targets v es)) ≡ found (last_into targets v (es ++ e ∷ []))
-unfolding newer
-newer-is targets v e es = go (Bool-cases (eqb (get_or targets e 0) v))
-  where
-    go : (eqb (get_or targets e 0) v ≡ true) ⊎ (eqb (get_or targets e 0) v ≡ false) → newer targets v e (found (last_into targets v es)) ≡ found (last_into targets v (es ++ e ∷ []))
-    go (inl h) = let q : e + 1 ≡ suc e = add-one e in rw (h, newer, q) (ap (λ o. found o) (sym (last-hit (λ d. eqb (get_or targets d 0) v) es e h)))
-    go (inr h) = rw (h, newer) (ap (λ o. found o) (sym (last-miss (λ d. eqb (get_or targets d 0) v) es e h)))
-
-pub record Latest (targets : List ℕ) (v : ℕ) (walk : List ℕ) (n i last : ℕ) : Type 0 where
-  pub low : i ≤ n
-  pub is : last ≡ found (last_into targets v (take i walk))
-
-pub latest-start : (targets : List ℕ) (v : ℕ) (walk : List ℕ) (n : ℕ) → Latest targets v walk n 0 0
-latest-start targets v walk n = record { low = omega arith; is = refl }
-
-pub latest-next : (targets : List ℕ) (v : ℕ) (walk : List ℕ) (n i last b : ℕ) → Latest targets v walk n i last → n ≤ length walk → i < n → b ≡ newer targets v (get_or walk i 0) last
-    → Latest targets v walk n (i + 1) b
-latest-next targets v walk n i last b L r h e =
-    record {
-      low = omega arith;
-      is =
-          e
-          ∙ ap (λ x. newer targets v (get_or walk i 0) x) L.is
-          ∙ newer-is targets v (get_or walk i 0) (take i walk)
-          ∙ ap (λ x. found (last_into targets v x)) (sym (take-suc walk i 0 (omega arith)))
-          ∙ ap (λ x. found (last_into targets v (take x walk))) (sym (add-one i));
-    }
-
-pub latest-end : (targets : List ℕ) (v : ℕ) (walk : List ℕ) (n i last : ℕ) → Latest targets v walk n i last → n ≤ i → last ≡ found (last_into targets v (take n walk))
-latest-end targets v walk n i last L h = let z : i ≡ n = omega (arith, L.low) in rw z at L.is
+    pub latest-miss : (get_or targets (get_or walk i 0) 0 ≡ v → ⊥) → Latest targets v walk (i + 1) last
+    latest-miss e =
+        record {
+          low = omega arith;
+          is =
+              L.is
+              ∙ ap (λ o. numbered (found o)) (sym (last-miss (λ d. eqb (get_or targets d 0) v) (take i walk) (get_or walk i 0) (ne_eqb _ v e)))
+              ∙ ap (λ x. numbered (found (last_into targets v x))) (sym front);
+        }
 
 -- ---- first_place
-pub record Placing (walk : List ℕ) (n e i : ℕ) : Type 0 where
-  pub low : i ≤ n
-  pub is : position (eqb e) (take n walk) ≡ i + position (eqb e) (drop i (take n walk))
+pub place-is : (e : ℕ) (es : List ℕ) → std.position_or_len (eqb e) es ≡ position (eqb e) es
+place-is e [] = refl
+place-is e (x ∷ es) = go (Bool-cases (eqb e x)) (place-is e es)
+  where
+    tail : Bool → ℕ
+    tail b = cond (not b) (1 + std.position_or_len (eqb e) es) 0
 
-pub placing-start : (walk : List ℕ) (n e : ℕ) → Placing walk n e 0
-placing-start walk n e = record { low = omega arith; is = omega arith }
+    go : (eqb e x ≡ true) ⊎ (eqb e x ≡ false) → std.position_or_len (eqb e) es ≡ position (eqb e) es → std.position_or_len (eqb e) (x ∷ es) ≡ position (eqb e) (x ∷ es)
+    go (inl h) ih = ap tail h ∙ sym (position-hit (eqb e) x es h)
+    go (inr h) ih = ap tail h ∙ omega arith ∙ sym (position_past (eqb e) x es h)
 
-module _ (walk : List ℕ) (n e i : ℕ) (r : n ≤ length walk) (P : Placing walk n e i) where
-  split : i < n → drop i (take n walk) ≡ get_or walk i 0 ∷ drop (suc i) (take n walk)
-  split h =
-      drop-cons (take n walk) i 0 (omega (arith, length-take-le n walk r)) ∙ ap (λ x. x ∷ drop (suc i) (take n walk)) (get_or-take n walk i 0 h)
+pub place-some : (e : ℕ) (es : List ℕ) (i : ℕ) → std.position (eqb e) es ≡ Some i → i ≡ position (eqb e) es
+place-some e es i h = go (Bool-cases (ltb (std.position_or_len (eqb e) es) (length es)))
+  where
+    go : (ltb (std.position_or_len (eqb e) es) (length es) ≡ true) ⊎ (ltb (std.position_or_len (eqb e) es) (length es) ≡ false) → i ≡ position (eqb e) es
+    go (inl k) =
+        let z : ◌≡◌ {A = Option ℕ} (Some (std.position_or_len (eqb e) es)) (Some i) = rw k at h in
+        let q : std.position_or_len (eqb e) es ≡ i = cc in
+        sym q ∙ place-is e es
+    go (inr k) = let z : ◌≡◌ {A = Option ℕ} None (Some i) = rw k at h in cc
 
-  pub placing-hit : i < n → e ≡ get_or walk i 0 → i ≡ position (eqb e) (take n walk)
-  placing-hit h k =
-      omega
-      (arith, P.is, ap (λ x. position (eqb e) x) (split h), position-hit (eqb e) (get_or walk i 0) (drop (suc i) (take n walk)) (eq-eqb e (get_or walk i 0) k))
-
-  pub placing-next : i < n → (e ≡ get_or walk i 0 → ⊥) → Placing walk n e (i + 1)
-  placing-next h k =
-      let q : i + 1 ≡ suc i = add-one i in
-      record {
-        low = omega arith;
-        is =
-            rw q
-            (omega
-            (arith, P.is, ap (λ x. position (eqb e) x) (split h), position_past (eqb e) (get_or walk i 0) (drop (suc i) (take n walk)) (ne_eqb e (get_or walk i 0) k)));
-      }
-
-  pub placing-end : n ≤ i → i ≡ position (eqb e) (take n walk)
-  placing-end h =
-      let z : position (eqb e) (drop i (take n walk)) ≡ 0 =
-      ap (λ x. position (eqb e) x) (drop_of_length-le (take n walk) {i = i} (omega (arith, length-take-le n walk r)))
-      in
-      omega (arith, P.is)
+pub place-none : (e : ℕ) (es : List ℕ) → std.position (eqb e) es ≡ None → length es ≤ position (eqb e) es
+place-none e es h = go (Bool-cases (ltb (std.position_or_len (eqb e) es) (length es)))
+  where
+    go : (ltb (std.position_or_len (eqb e) es) (length es) ≡ true) ⊎ (ltb (std.position_or_len (eqb e) es) (length es) ≡ false) → length es ≤ position (eqb e) es
+    go (inl k) = let z : ◌≡◌ {A = Option ℕ} (Some (std.position_or_len (eqb e) es)) None = rw k at h in cc
+    go (inr k) = omega (arith, ltb-false _ _ k, place-is e es)
 
 -- ---- split_place
-pub place-fits : (walk : List ℕ) (n e k : ℕ) → n ≤ length walk → k ≡ position (eqb e) (take n walk) → k ≤ length walk
-place-fits walk n e k r h = omega (arith, position-le (eqb e) (take n walk), length-take-le n walk r)
-
-split-none' : (targets : List ℕ) (v : ℕ) (es : List ℕ) (o : Option ℕ) → last_into targets v es ≡ o → found o ≡ 0 → 0 ≡ split_at targets v es
+pub split-none : (targets : List ℕ) (v : ℕ) (es : List ℕ) → numbered (found (last_into targets v es)) ≡ None → 0 ≡ split_at targets v es
 unfolding split_at
-split-none' targets v es none e h = rw (e, split_at)
-split-none' targets v es (some d) e h = absurd (omega arith)
+split-none targets v es h = go (last_into targets v es) refl
+  where
+    go : (o : math.Option ℕ) → last_into targets v es ≡ o → 0 ≡ split_at targets v es
+    go none e = rw (e, split_at)
+    go (some d) e = let z : ◌≡◌ {A = Option ℕ} (Some d) None = rw e at h in cc
 
-pub split-none : (targets : List ℕ) (v : ℕ) (es : List ℕ) (d : ℕ) → d ≡ found (last_into targets v es) → d ≡ 0 → 0 ≡ split_at targets v es
-split-none targets v es d e h = split-none' targets v es (last_into targets v es) refl (sym e ∙ h)
-
-split-some' : (targets : List ℕ) (v : ℕ) (es : List ℕ) (o : Option ℕ) (d k : ℕ) → last_into targets v es ≡ o → suc d ≡ found o → k ≡ position (eqb d) es → k + 1 ≡ split_at targets v es
+pub split-some : (targets : List ℕ) (v : ℕ) (es : List ℕ) (d : ℕ) → numbered (found (last_into targets v es)) ≡ Some d
+    → (last_into targets v es ≡ some d) × (position (eqb d) es + 1 ≡ split_at targets v es)
 unfolding split_at
-split-some' targets v es none d k e h p = absurd (omega arith)
-split-some' targets v es (some x) d k e h p =
-    let q : k + 1 ≡ suc k = add-one k in
-    let y : d ≡ x = omega arith in
-    rw (e, split_at, q, p, y)
-
-pub split-some : (targets : List ℕ) (v : ℕ) (es : List ℕ) (d k : ℕ) → d ≡ found (last_into targets v es) → (d ≡ 0 → ⊥) → k ≡ position (eqb (d - 1)) es → k + 1 ≡ split_at targets v es
-split-some targets v es d k e h p = split-some' targets v es (last_into targets v es) (d - 1) k refl (omega arith) p
+split-some targets v es d h = go (last_into targets v es) refl
+  where
+    go : (o : math.Option ℕ) → last_into targets v es ≡ o → (last_into targets v es ≡ some d) × (position (eqb d) es + 1 ≡ split_at targets v es)
+    go none e = let z : ◌≡◌ {A = Option ℕ} None (Some d) = rw e at h in cc
+    go (some x) e =
+        let z : ◌≡◌ {A = Option ℕ} (Some x) (Some d) = rw e at h in
+        let q : x ≡ d = cc in
+        (rw q at e, rw (e, split_at, q) (add-one (position (eqb d) es)))
 
 -- ---- over the definition's edges
 

@@ -3,7 +3,6 @@ use Rattle.std.specs.Prelude.{◌≡◌, refl, List, [], ◌∷◌, ◌++◌, ma
 use Rattle.std.proofs.Common.{sym, ap, ◌∙◌, add-one, arith, take-suc, length-take-le}
 use Rattle.std.proofs.lemmas.List.{map-append, length-map}
 use Rattle.std.proofs.lemmas.List.Edits.{sets}
-use Rattle.std.proofs.Math.Seq.{length-sets}
 use Rattle.laws.specs.Stores.{sets_more}
 use Rattle.laws.specs.ListLaws.{All, nil, cons}
 use Rattle.definition.specs.Threading.{Ends, Origin, Edge}
@@ -12,19 +11,13 @@ use Rattle.definition.specs.Search.{SearchInput}
 use Rattle.path_growth.specs.Link.{Agrees}
 
 -- what a table tells of each of the first i edges is stored from the place `from` on
-pub record Copying (tell : ℕ → ℕ) (walk : List ℕ) (n : ℕ) (out₀ : List ℕ) (from : ℕ) (out : List ℕ) (i : ℕ) : Type 0 where
-  pub low : i ≤ n
+pub record Copying (tell : ℕ → ℕ) (walk out₀ : List ℕ) (from : ℕ) (out : List ℕ) (i : ℕ) : Type 0 where
+  pub low : i ≤ length walk
   pub is : out ≡ sets out₀ from (map tell (take i walk))
 
-pub copying-start : (tell : ℕ → ℕ) (walk : List ℕ) (n : ℕ) (out : List ℕ) (from : ℕ) → Copying tell walk n out from out 0
-copying-start tell walk n out from = record { low = omega arith; is = refl }
-
-module _ (tell : ℕ → ℕ) (walk : List ℕ) (n : ℕ) (out₀ : List ℕ) (from : ℕ) (out : List ℕ) (i : ℕ) (C : Copying tell walk n out₀ from out i) where
-  pub copying-size : length out ≡ length out₀
-  copying-size = ap (λ (x : List ℕ). length x) C.is ∙ length-sets out₀ from (map tell (take i walk))
-
-  pub copying-next : (x : ℕ) → n ≤ length walk → i < n → x ≡ tell (get_or walk i 0) → Copying tell walk n out₀ from (set out (from + i) x) (i + 1)
-  copying-next x r h e =
+module _ (tell : ℕ → ℕ) (walk out₀ : List ℕ) (from : ℕ) (out : List ℕ) (i : ℕ) (C : Copying tell walk out₀ from out i) where
+  pub copying-next : (x : ℕ) → i < length walk → x ≡ tell (get_or walk i 0) → Copying tell walk out₀ from (set out (from + i) x) (i + 1)
+  copying-next x h e =
       let k : length (map tell (take i walk)) ≡ i = length-map (take i walk) tell ∙ length-take-le i walk (omega arith) in
       let q : take (i + 1) walk ≡ take i walk ++ get_or walk i 0 ∷ [] = ap (λ y. take y walk) (add-one i) ∙ take-suc walk i 0 (omega arith) in
       let m : map tell (take (i + 1) walk) ≡ map tell (take i walk) ++ tell (get_or walk i 0) ∷ [] =
@@ -39,9 +32,6 @@ module _ (tell : ℕ → ℕ) (walk : List ℕ) (n : ℕ) (out₀ : List ℕ) (f
             ∙ sym (sets_more out₀ from (map tell (take i walk)) (tell (get_or walk i 0)))
             ∙ ap (λ (y : List ℕ). sets out₀ from y) (sym m);
       }
-
-  pub copying-end : n ≤ i → out ≡ sets out₀ from (map tell (take n walk))
-  copying-end h = let z : i ≡ n = omega (arith, C.low) in rw z at C.is
 
 -- ---- over the definition
 

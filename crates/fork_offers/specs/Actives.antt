@@ -1,44 +1,18 @@
 -- The active trees of a path over the stores: slots of the node table, which stand for the branches below them.
-use Rattle.std.specs.Prelude.{◌≡◌, refl, ℕ, ◌+◌, ◌<◌, ◌≤◌, true, false, List, [], ◌∷◌, ◌++◌, T, leb, ℤ, pos, negsuc, nat_abs, length, get_or}
-use Rattle.std.proofs.Common.{sym, ap, subst, ◌∙◌, arith, ltb-true, le-leb}
-use Rattle.std.specs.Int.Signed.{lt_z, non_neg, mag}
+use Rattle.std.specs.Prelude.{Option, ◌≡◌, refl, ℕ, ◌+◌, ◌<◌, ◌≤◌, List, [], ◌∷◌, ◌++◌, leb, ℤ, length, get_or}
+use Rattle.std.proofs.Common.{ap, arith}
 use Rattle.laws.specs.Numbers.{reaches}
-use Rattle.laws.specs.ListLaws.{clash}
 use Rattle.definition.specs.Evidence.{Branches}
 use Rattle.threading_node.specs.Slots.{cols, Slot}
 use Rattle.threading_node.specs.Take.{Wide, wide-slot}
-use Rattle.threading_tree.specs.Read.{Leads, Readable, leads_one}
+use Rattle.threading_node.specs.Links.{slot_at, link_to, Linked}
+use Rattle.threading_tree.specs.Read.{Leads, Readable, leads_one, readable-at}
 
 -- ---- a total and the threshold
 
 -- r is the least total that reaches the threshold t
 pub record Least (t : ℤ) (r : ℕ) : Type 0 where
   pub is : (m : ℕ) → reaches m t ≡ leb r m
-
-pub below-zero : (t u : ℤ) → u ≡ t → lt_z u (pos 0) ≡ true → Least t 0
-below-zero t u z h = rw z at (go u h)
-  where
-    go : (u : ℤ) → lt_z u (pos 0) ≡ true → Least u 0
-    go (pos a) k = let q = ltb-true a 0 k in absurd (omega arith)
-    go (negsuc a) k = record { is = λ m. sym (le-leb 0 m (omega arith)) }
-
-pub not-below : (u : ℤ) → lt_z u (pos 0) ≡ false → T (non_neg u)
-not-below (pos a) h = tt
-not-below (negsuc a) h = clash h
-
-pub small-abs : (t u : ℤ) (Q W : ℕ) → u ≡ t → mag t < Q → Q ≤ W → lt_z u (pos 0) ≡ false → nat_abs u < W
-small-abs t u Q W z k l h = go u (subst (λ (d : ℤ). mag d < Q) (sym z) k) h
-  where
-    go : (u : ℤ) → mag u < Q → lt_z u (pos 0) ≡ false → nat_abs u < W
-    go (pos a) p q = omega arith
-    go (negsuc a) p q = clash q
-
-pub from_zero : (t u : ℤ) → u ≡ t → lt_z u (pos 0) ≡ false → Least t (nat_abs u)
-from_zero t u z h = subst (λ (d : ℤ). Least d (nat_abs u)) z (go u h)
-  where
-    go : (u : ℤ) → lt_z u (pos 0) ≡ false → Least u (nat_abs u)
-    go (pos a) k = record { is = λ m. refl }
-    go (negsuc a) k = clash k
 
 -- ---- the slots from i to the end, and the branches that they stand for
 
@@ -120,13 +94,7 @@ module _ (cap n : ℕ) (x a : List ℕ) (i end : ℕ) where
       }
 
   module _ (p : Active cap n x a i end) where
-    pub active-inside : end ≤ length a
-    active-inside = p.stands.inside
-
     module _ (l : i < end) where
-      pub active-place : i < length a
-      active-place = let q = p.stands.inside in omega arith
-
       module _ (s : ℕ) (e : s ≡ get_or a i 0) where
         pub active-slot : Slot s x
         active-slot =
@@ -134,11 +102,11 @@ module _ (cap n : ℕ) (x a : List ℕ) (i end : ℕ) where
             let r = p.stands.room in
             wide-slot p.stands.wide s (omega arith)
 
-        module _ (link : ℕ) (k : link ≡ (cols x).kid s) where
-          pub active-readable : Readable cap n x link
+        module _ (start : Option ℕ) (k : start ≡ slot_at ((cols x).kid s)) where
+          pub active-readable : Readable cap n x (link_to start) × Linked start
           active-readable =
               let f = actives-first p.branches p.stands l in
-              record { branches = f.head; leads = subst (λ (d : ℕ). Leads n x d f.head) (sym (k ∙ ap (λ (d : ℕ). (cols x).kid d) e)) f.leads; room = p.stands.room; wide = p.stands.wide }
+              readable-at cap n x ((cols x).kid s) (record { branches = f.head; leads = rw (← e) at f.leads; room = p.stands.room; wide = p.stands.wide }) start k
 
 -- ---- for callers
 

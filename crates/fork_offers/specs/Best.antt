@@ -1,19 +1,20 @@
 -- Of a node's real branches the best: that of greatest count, ties to the larger edge, which comes later.
-use Rattle.std.specs.Prelude.{◌≡◌, refl, ◌⊎◌, ℕ, zero, suc, ◌^◌, ◌<◌, ◌≤◌, Bool, true, false, not, cond, eqb, get_or}
+use Rattle.std.specs.Prelude.{◌≡◌, refl, ◌⊎◌, ℕ, ◌<◌, ◌≤◌, Bool, true, cond, Option, Some, None, IfSome}
 use Rattle.std.proofs.Math.Path.{sym, ap, subst}
 use Rattle.std.proofs.Common.{◌∙◌, inl, inr}
 use mathlib.Core.List.{List, [], ◌∷◌, ◌++◌}
 use native.Mathlib.Omega.{arith}
 use Rattle.std.proofs.Math.Decide.{dec_lt}
-use borrow.Author.Tests.{eq-eqb, ne_eqb, le-leb, lt-leb}
+use borrow.Author.Tests.{le-leb, lt-leb}
 use Rattle.definition.specs.Threading.{Ends}
 use Rattle.definition.specs.Evidence.{Branches, bare, branch}
 use Rattle.definition.specs.Search.{SearchInput, Offer, real_branches, best}
 use Rattle.threading_node.specs.Slots.{cols, Slot}
-use Rattle.threading_node.specs.Cells.{left}
+use Rattle.threading_node.specs.Links.{slot_at, link_to, Linked, link_is, linked_at, some-link, none-link}
+use Rattle.threading_node.specs.Cells.{above-all, left}
 use Rattle.threading_node.specs.Take.{Wide, wide-slot}
 use Rattle.threading_tree.specs.Read.{Leads, Readable, BranchAt, leads_one, leads-none, leads-branch, summing_start, summing-falls}
-use Rattle.fork_offers.specs.Real.{node_edge, is_real, outs_of, RealEdge}
+use Rattle.fork_offers.specs.Real.{node_edge, is_real}
 
 -- ---- the best of a list
 
@@ -60,75 +61,38 @@ module _ (p o : Offer) (os : List Offer) where
       go [] z = let y = best-only o os z in best-gt p (o ∷ os) o [] y h ∙ sym (best-only p os z)
       go (q ∷ qs) z = at q qs z (dec_lt q.count o.count) (dec_lt q.count p.count)
 
--- ---- the offer of a node's slot; 0 is none
+-- ---- the offer of a node's slot
 
 abbrev pub offer_of : List ℕ → ℕ → ℕ → Offer
 offer_of x t s = record { ends = node_edge x s; count = (cols x).count s; out_of = t; guided = true }
 
-unfoldable pub one_of : List ℕ → ℕ → ℕ → List Offer
-one_of x t zero = []
-one_of x t (suc s) = offer_of x t (suc s) ∷ []
+abbrev pub one_of : List ℕ → ℕ → Option ℕ → List Offer
+one_of x t None = []
+one_of x t (Some s) = offer_of x t s ∷ []
 
-pub one_none : (x : List ℕ) (t s : ℕ) → s ≡ 0 → one_of x t s ≡ []
-unfolding one_of
-one_none x t s z = rw z
-
-pub one-some : (x : List ℕ) (t s : ℕ) → (s ≡ 0 → ⊥) → one_of x t s ≡ offer_of x t s ∷ []
-unfolding one_of
-one-some x t zero z = absurd (z refl)
-one-some x t (suc s) z = refl
-
-one-best : (x : List ℕ) (t s : ℕ) → best (one_of x t s ++ []) ≡ one_of x t s
-unfolding one_of
-one-best x t zero = best_none
-one-best x t (suc s) = best-only (offer_of x t (suc s)) [] best_none
+one-best : (x : List ℕ) (t : ℕ) (o : Option ℕ) → best (one_of x t o ++ []) ≡ one_of x t o
+one-best x t None = best_none
+one-best x t (Some s) = best-only (offer_of x t s) [] best_none
 
 -- ---- the better of the best so far and the next sibling
 
-pub record Better (x : List ℕ) (outs : List Ends) (e : Ends) (old at r : ℕ) : Type 0 where
+pub record Better (x : List ℕ) (outs : List Ends) (e : Ends) (old : Option ℕ) (at : ℕ) (r : Option ℕ) : Type 0 where
   pub is : (t : ℕ) (os : List Offer) → best (one_of x t old ++ cond (is_real outs e (node_edge x at)) (offer_of x t at ∷ os) os) ≡ best (one_of x t r ++ os)
-  pub from : (r ≡ old) ⊎ ((r ≡ at) × (is_real outs e (node_edge x at) ≡ true))
+  pub from : (r ≡ old) ⊎ ((r ≡ Some at) × (is_real outs e (node_edge x at) ≡ true))
 
-module _ (es : List ℕ) (m v : ℕ) (x : List ℕ) (e : Ends) (old at : ℕ) (i : ℕ) (h : RealEdge es m v x at e i) where
-  abbrev outs : List Ends
-  outs = outs_of es m v
+module _ (x : List ℕ) (outs : List Ends) (e : Ends) (at : ℕ) where
+  module _ (real : is_real outs e (node_edge x at) ≡ true) where
+    on : (old : Option ℕ) (t : ℕ) (os : List Offer) → best (one_of x t old ++ cond (is_real outs e (node_edge x at)) (offer_of x t at ∷ os) os) ≡ best (one_of x t old ++ offer_of x t at ∷ os)
+    on old t os = ap (λ (d : Bool). best (one_of x t old ++ cond d (offer_of x t at ∷ os) os)) real
 
-  turned : (q : Bool) → not (eqb i 0) ≡ q → (t : ℕ) (os : List Offer)
-      → best (one_of x t old ++ cond (is_real outs e (node_edge x at)) (offer_of x t at ∷ os) os) ≡ best (one_of x t old ++ cond q (offer_of x t at ∷ os) os)
-  turned q z t os = ap (λ (d : Bool). best (one_of x t old ++ cond d (offer_of x t at ∷ os) os)) (h.is ∙ z)
+    module _ (old : ℕ) where
+      pub better-less : (cols x).count at < (cols x).count old → Better x outs e (Some old) at (Some old)
+      better-less l =
+          record { is = λ t os. on (Some old) t os ∙ best-former (offer_of x t old) (offer_of x t at) os l; from = inl refl }
 
-  pub better-none : i ≡ 0 → Better x outs e old at old
-  better-none z = record { is = λ t os. turned false (ap not (eq-eqb i 0 z)) t os; from = inl refl }
-
-  module _ (ne : i ≡ 0 → ⊥) where
-    real : is_real outs e (node_edge x at) ≡ true
-    real = h.is ∙ ap not (ne_eqb i 0 ne)
-
-    on : (t : ℕ) (os : List Offer) → best (one_of x t old ++ cond (is_real outs e (node_edge x at)) (offer_of x t at ∷ os) os) ≡ best (one_of x t old ++ offer_of x t at ∷ os)
-    on t os = turned true (ap not (ne_eqb i 0 ne)) t os
-
-    module _ (some : at ≡ 0 → ⊥) where
-      new : (t : ℕ) (os : List Offer) → best (offer_of x t at ∷ os) ≡ best (one_of x t at ++ os)
-      new t os = ap (λ (d : List Offer). best (d ++ os)) (sym (one-some x t at some))
-
-      pub better-first : old ≡ 0 → Better x outs e old at at
-      better-first z = record { is = λ t os. on t os ∙ ap (λ (d : List Offer). best (d ++ offer_of x t at ∷ os)) (one_none x t old z) ∙ new t os; from = inr (refl, real) }
-
-      module _ (there : old ≡ 0 → ⊥) where
-        both : (t : ℕ) (os : List Offer) → best (one_of x t old ++ offer_of x t at ∷ os) ≡ best (offer_of x t old ∷ offer_of x t at ∷ os)
-        both t os = ap (λ (d : List Offer). best (d ++ offer_of x t at ∷ os)) (one-some x t old there)
-
-        pub better-less : (cols x).count at < (cols x).count old → Better x outs e old at old
-        better-less l =
-            record {
-              is = λ t os.
-                  on t os ∙ both t os ∙ best-former (offer_of x t old) (offer_of x t at) os l ∙ ap (λ (d : List Offer). best (d ++ os)) (sym (one-some x t old there));
-              from = inl refl;
-            }
-
-        pub better-more : (cols x).count old ≤ (cols x).count at → Better x outs e old at at
-        better-more l =
-            record { is = λ t os. on t os ∙ both t os ∙ best-later (offer_of x t old) (offer_of x t at) os l ∙ new t os; from = inr (refl, real) }
+      pub better-more : (cols x).count old ≤ (cols x).count at → Better x outs e (Some old) at (Some at)
+      better-more l =
+          record { is = λ t os. on (Some old) t os ∙ best-later (offer_of x t old) (offer_of x t at) os l; from = inr (refl, real) }
 
 -- ---- the row of siblings
 
@@ -144,92 +108,102 @@ real-at f outs t x l b below next e y z =
     ap (real_branches f outs t) z
     ∙ ap (λ (d : Ends). cond (is_real outs d (node_edge x l)) (offer_of x t l ∷ real_branches f outs t next) (real_branches f outs t next)) y
 
--- by the answer, 0 or the slot of the best real branch of the row at `link`
-pub record Chosen (n : ℕ) (x : List ℕ) (outs : List Ends) (link : ℕ) (e : Ends) (r : ℕ) : Type 0 where
+-- by the answer, the slot of the best real branch of the row at `link`
+pub record Chosen (n : ℕ) (x : List ℕ) (outs : List Ends) (link : ℕ) (e : Ends) (r : Option ℕ) : Type 0 where
   pub is : (f : SearchInput) (t : ℕ) (b : Branches) → f.symbolic ≡ e → Leads n x link b → best (real_branches f outs t b) ≡ one_of x t r
-  pub live : r ≤ n
-  pub real : (r ≡ 0 → ⊥) → is_real outs e (node_edge x r) ≡ true
+  pub live : IfSome r (λ s. s ≤ n)
+  pub real : IfSome r (λ s. is_real outs e (node_edge x s) ≡ true)
 
-pub record Choosing (cap n : ℕ) (x : List ℕ) (outs : List Ends) (link : ℕ) (e : Ends) (at old : ℕ) : Type 0 where
+pub record Choosing (cap n : ℕ) (x : List ℕ) (outs : List Ends) (link : ℕ) (e : Ends) (at old : Option ℕ) : Type 0 where
   pub rest : Branches
-  pub leads : Leads n x at rest
+  pub leads : Leads n x (link_to at) rest
+  pub linked : Linked at
   pub room : n ≤ cap
   pub wide : Wide cap x
   pub run : (f : SearchInput) (t : ℕ) (b : Branches) → f.symbolic ≡ e → Leads n x link b
       → best (one_of x t old ++ real_branches f outs t rest) ≡ best (real_branches f outs t b)
-  pub live : old ≤ n
-  pub real : (old ≡ 0 → ⊥) → is_real outs e (node_edge x old) ≡ true
+  pub live : IfSome old (λ s. s ≤ n)
+  pub real : IfSome old (λ s. is_real outs e (node_edge x s) ≡ true)
 
 -- what is left of a row falls
-pub sibling-falls : (cap n : ℕ) (x : List ℕ) (at : ℕ) → Readable cap n x at → (at ≡ 0 → ⊥) → (nx : ℕ) → nx ≡ (cols x).next at → ((i : ℕ) → get_or x i 0 < 2 ^ 32)
-    → left (2 ^ 32) x nx < left (2 ^ 32) x at
-sibling-falls cap n x at p ne nx h u = summing-falls cap n x at p at 0 (summing_start cap n x at p) ne ((cols x).count at) nx refl h u
+pub sibling-falls : (cap n : ℕ) (x : List ℕ) (at : Option ℕ) → Readable cap n x (link_to at) → Linked at → (s : ℕ) → at ≡ Some s → (nx : Option ℕ) → nx ≡ slot_at ((cols x).next s)
+    → left (above-all x) x (link_to nx) < left (above-all x) x (link_to at)
+sibling-falls cap n x at p k s e nx h = summing-falls cap n x (link_to at) p at 0 (summing_start cap n x (link_to at) p, k) s e ((cols x).count s) refl nx h
+
+-- the next link of the row
+pub next-link : (x : List ℕ) (s : ℕ) (nx : Option ℕ) → nx ≡ slot_at ((cols x).next s) → (link_to nx ≡ (cols x).next s) × Linked nx
+next-link x s nx h = (ap link_to h ∙ link_is ((cols x).next s), rw h (linked_at ((cols x).next s)))
+
+pub choosing-start : (cap n : ℕ) (x : List ℕ) (outs : List Ends) (start : Option ℕ) (e : Ends) → Readable cap n x (link_to start) × Linked start → Choosing cap n x outs (link_to start) e start None
+choosing-start cap n x outs start e p =
+    record {
+      rest = p.0.branches;
+      leads = p.0.leads;
+      linked = p.1;
+      room = p.0.room;
+      wide = p.0.wide;
+      run = λ f t b y h. ap (λ (d : Branches). best (real_branches f outs t d)) (leads_one n x (link_to start) p.0.branches b p.0.leads h);
+      live = tt;
+      real = tt;
+    }
 
 module _ (cap n : ℕ) (x : List ℕ) (outs : List Ends) (link : ℕ) (e : Ends) where
-  pub choosing-start : Readable cap n x link → Choosing cap n x outs link e link 0
-  choosing-start p =
-      record {
-        rest = p.branches;
-        leads = p.leads;
-        room = p.room;
-        wide = p.wide;
-        run = λ f t b y h.
-            ap (λ (d : List Offer). best (d ++ real_branches f outs t p.branches)) (one_none x t 0 refl)
-            ∙ ap (λ (d : Branches). best (real_branches f outs t d)) (leads_one n x link p.branches b p.leads h);
-        live = omega arith;
-        real = λ y. absurd (y refl);
-      }
-
-  module _ (at old : ℕ) (k : Choosing cap n x outs link e at old) where
-    pub choosing-end : at ≡ 0 → Chosen n x outs link e old
-    choosing-end z =
+  module _ (at old : Option ℕ) (k : Choosing cap n x outs link e at old) where
+    pub choosing-end : ((s : ℕ) → at ≡ Some s → ⊥) → Chosen n x outs link e old
+    choosing-end ne =
         record {
           is = λ f t b y h.
               sym
               (sym (one-best x t old) ∙ ap (λ (d : List Offer). best (one_of x t old ++ d)) (sym (real-bare f outs t))
-              ∙ ap (λ (d : Branches). best (one_of x t old ++ real_branches f outs t d)) (sym (leads-none n x at k.rest k.leads z)) ∙ k.run f t b y h);
+              ∙ ap (λ (d : Branches). best (one_of x t old ++ real_branches f outs t d)) (sym (leads-none n x (link_to at) k.rest k.leads (none-link at ne))) ∙ k.run f t b y h);
           live = k.live;
           real = k.real;
         }
 
-    pub choosing-old : Slot old x
-    choosing-old = let q = k.live in let r = k.room in wide-slot k.wide old (omega arith)
+    pub choosing-old : IfSome old (λ s. Slot s x)
+    choosing-old = go old k.live
+      where
+        go : (old : Option ℕ) → IfSome old (λ s. s ≤ n) → IfSome old (λ s. Slot s x)
+        go None q = tt
+        go (Some s) q = let r = k.room in wide-slot k.wide s (omega arith)
 
-    module _ (ne : at ≡ 0 → ⊥) where
-      here : BranchAt n x at k.rest
-      here = leads-branch n x at k.rest k.leads ne
+    module _ (s : ℕ) (is : at ≡ Some s) where
+      leads-at : Leads n x s k.rest
+      leads-at = rw is at k.leads
 
-      pub choosing-slot : Slot at x
-      unfolding here
-      choosing-slot = let q = here.live in let r = k.room in wide-slot k.wide at (omega arith)
+      here : BranchAt n x s k.rest
+      here = leads-branch n x s k.rest leads-at (some-link at s k.linked is)
 
-      pub choosing-falls : (nx : ℕ) → nx ≡ (cols x).next at → ((i : ℕ) → get_or x i 0 < 2 ^ 32) → left (2 ^ 32) x nx < left (2 ^ 32) x at
-      choosing-falls nx h u =
-          sibling-falls cap n x at (record { branches = k.rest; leads = k.leads; room = k.room; wide = k.wide }) ne nx h u
+      pub choosing-slot : Slot s x
+      choosing-slot = let q = here.live in let r = k.room in wide-slot k.wide s (omega arith)
 
-      module _ (new : ℕ) (h : Better x outs e old at new) (nx : ℕ) (hn : nx ≡ (cols x).next at) where
+      pub choosing-falls : (nx : Option ℕ) → nx ≡ slot_at ((cols x).next s) → left (above-all x) x (link_to nx) < left (above-all x) x (link_to at)
+      choosing-falls nx h = sibling-falls cap n x at (record { branches = k.rest; leads = k.leads; room = k.room; wide = k.wide }) k.linked s is nx h
+
+      module _ (new : Option ℕ) (h : Better x outs e old s new) (nx : Option ℕ) (hn : nx ≡ slot_at ((cols x).next s)) where
         pub choosing-next : Choosing cap n x outs link e nx new
-        unfolding here
         choosing-next =
+            let l = next-link x s nx hn in
             record {
               rest = here.next;
-              leads = subst (λ (d : ℕ). Leads n x d here.next) (sym hn) here.rest;
+              leads = subst (λ (d : ℕ). Leads n x d here.next) (sym l.0) here.rest;
+              linked = l.1;
               room = k.room;
               wide = k.wide;
               run = λ f t b y l.
                   sym (h.is t (real_branches f outs t here.next))
-                  ∙ ap (λ (d : List Offer). best (one_of x t old ++ d)) (sym (real-at f outs t x at k.rest here.below here.next e y here.is)) ∙ k.run f t b y l;
+                  ∙ ap (λ (d : List Offer). best (one_of x t old ++ d)) (sym (real-at f outs t x s k.rest here.below here.next e y here.is)) ∙ k.run f t b y l;
               live = lives h.from;
-              real = λ y. reals y h.from;
+              real = reals h.from;
             }
           where
-            lives : (new ≡ old) ⊎ ((new ≡ at) × (is_real outs e (node_edge x at) ≡ true)) → new ≤ n
-            lives (inl z) = let q = k.live in omega arith
-            lives (inr z) = let q = here.live in let y = z.0 in omega arith
+            lives : (new ≡ old) ⊎ ((new ≡ Some s) × (is_real outs e (node_edge x s) ≡ true)) → IfSome new (λ s. s ≤ n)
+            lives (inl z) = rw z k.live
+            lives (inr z) = rw z.0 here.live
 
-            reals : (new ≡ 0 → ⊥) → (new ≡ old) ⊎ ((new ≡ at) × (is_real outs e (node_edge x at) ≡ true)) → is_real outs e (node_edge x new) ≡ true
-            reals y (inl z) = ap (λ (d : ℕ). is_real outs e (node_edge x d)) z ∙ k.real (λ w. y (z ∙ w))
-            reals y (inr z) = ap (λ (d : ℕ). is_real outs e (node_edge x d)) z.0 ∙ z.1
+            reals : (new ≡ old) ⊎ ((new ≡ Some s) × (is_real outs e (node_edge x s) ≡ true)) → IfSome new (λ s. is_real outs e (node_edge x s) ≡ true)
+            reals (inl z) = rw z k.real
+            reals (inr z) = rw z.0 z.1
 
 -- counts by the names that the code has for them
 pub less-named : {a b c d : ℕ} → a ≡ c → b ≡ d → a < b → c < d

@@ -1,5 +1,5 @@
 -- What a fork offers a path (Rust: applicable_next_edges).
-use Rattle.std.specs.Prelude.{◌≡◌, refl, ℕ, ◌+◌, ◌*◌, ◌^◌, ◌<◌, ◌≤◌, true, leb, get_or}
+use Rattle.std.specs.Prelude.{Option, ◌≡◌, refl, ℕ, ◌+◌, ◌*◌, ◌^◌, ◌<◌, ◌≤◌, true, leb, get_or}
 use Rattle.std.proofs.Math.Path.{sym, ap, subst}
 use Rattle.std.proofs.Common.{◌∙◌, arith, length-append, le-leb}
 use Rattle.std.proofs.Math.Bool.{false}
@@ -14,6 +14,7 @@ use Rattle.definition.specs.Evidence.{Branches}
 use Rattle.definition.specs.Search.{SearchInput, Offer, sum_of, unseen, real_branches, best, offers}
 use Rattle.assembly.specs.Store.{edges_of}
 use Rattle.threading_node.specs.Slots.{cols}
+use Rattle.threading_node.specs.Links.{slot_at, link_to, link_is}
 use Rattle.threading_tree.specs.Read.{Leads, Readable, Summed}
 use Rattle.fork_offers.specs.Actives.{Least, Actives, Active, First, actives-one, actives-end, actives-first}
 use Rattle.fork_offers.specs.Real.{Fork, outs_of, outs-is}
@@ -156,12 +157,15 @@ module _ (vs es : List ℕ) (m cap n : ℕ) (x a : List ℕ) (at end v : ℕ) (e
               few = g.few;
             }
 
-    module _ (l : i < end) (s : ℕ) (hs : s ≡ get_or a i 0) (link : ℕ) (hl : link ≡ (cols x).kid s) (t : ℕ) (ht : Summed n x link t) where
+    module _ (l : i < end) (s : ℕ) (hs : s ≡ get_or a i 0) (start : Option ℕ) (hl : start ≡ slot_at ((cols x).kid s)) (t : ℕ) (ht : Summed n x (link_to start) t) where
+      abbrev link : ℕ
+      link = link_to start
+
       first : First cap n x a i end w.rest.branches
       first = actives-first cap n x a i end w.rest.branches w.rest.stands l
 
       leads : Leads n x link first.head
-      leads = subst (λ (d : ℕ). Leads n x d first.head) (sym (hl ∙ ap (λ (d : ℕ). (cols x).kid d) hs)) first.leads
+      leads = subst (λ (d : ℕ). Leads n x d first.head) (sym (ap link_to hl ∙ link_is ((cols x).kid s) ∙ ap (λ (d : ℕ). (cols x).kid d) hs)) first.leads
 
       readable : Readable cap n x link
       readable = record { branches = first.head; leads = leads; room = w.rest.stands.room; wide = w.rest.stands.wide }

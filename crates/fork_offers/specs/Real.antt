@@ -1,15 +1,15 @@
 -- The out-edges of a fork in the stores, and whether a node's edge is one of them.
-use Rattle.std.specs.Prelude.{◌≡◌, ℕ, ◌+◌, ◌-◌, ◌^◌, ◌<◌, ◌≤◌, Bool, not, ◌&&◌, leb, eqb}
+use Rattle.std.specs.Prelude.{◌≡◌, ℕ, ◌+◌, ◌^◌, ◌<◌, Bool, not, ◌&&◌, leb, eqb, Option, Some, None, IfSome, is_some}
 use Rattle.std.proofs.Math.Path.{refl}
-use Rattle.std.proofs.Common.{sym, ap, ◌∙◌, arith, eq-eqb, ne_eqb, le-leb}
-use Rattle.std.proofs.Math.Bool.{true, false, and-true, and-false}
+use Rattle.std.proofs.Common.{sym, ap, ◌∙◌, arith, ne_eqb, le-leb}
+use Rattle.std.proofs.Math.Bool.{true, false}
 use mathlib.Core.List.{List, [], ◌∷◌, map}
 use Rattle.std.proofs.lemmas.Bool.{lt-leb}
 use Rattle.laws.specs.Lists.{keep}
 use Rattle.laws.specs.ListLaws.{clash}
 use Rattle.definition.specs.Threading.{Ends, Edge, eq_ends, leaving}
 use Rattle.definition.specs.Search.{among}
-use Rattle.assembly.specs.Fields.{HasVertex, out_edge, HasEdges, HasEdge, edge_from, edge_to}
+use Rattle.assembly.specs.Fields.{HasVertex, out_edge, HasEdges, edge_from, edge_to}
 use Rattle.assembly.specs.Store.{edge_at, edges_of}
 use Rattle.assembly.specs.Table.{Distinct}
 use Rattle.out_edges.specs.Outs.{Names, Slots, Nexts, out_from, nexts-none, nexts-some, slots-names}
@@ -77,10 +77,10 @@ among_next d e es h = rw (eq_ends-ne d e.ends h)
 
 -- ---- the out-edge to a vertex
 
--- by the answer, 0 or the number plus 1 of v's out-edge to `to`
-pub record OutTo (es : List ℕ) (m v to r : ℕ) : Type 0 where
-  pub there : (r ≡ 0 → ⊥) → (r ≤ m) × (edge_from es (r - 1) ≡ v) × (edge_to es (r - 1) ≡ to)
-  pub is : among (ends v to) (outs_of es m v) ≡ not (eqb r 0)
+-- by the answer, the number of v's out-edge to `to`
+pub record OutTo (es : List ℕ) (m v to : ℕ) (r : Option ℕ) : Type 0 where
+  pub there : IfSome r (λ i. (i < m) × (edge_from es i ≡ v) × (edge_to es i ≡ to))
+  pub is : among (ends v to) (outs_of es m v) ≡ is_some r
 
 from_on : (es : List ℕ) (m v to : ℕ) → among (ends v to) (ends_of_all (out_from (edges_of es m) v to)) ≡ among (ends v to) (outs_of es m v)
 unfolding out_from outs_of
@@ -101,48 +101,45 @@ among-elsewhere es m v d ne =
     among-lost d (λ e. eqb e.ends.from v) (edges_of es m)
     (λ e h. ne_eqb e.ends.from v (λ y. ne (ap (λ (z : Ends). z.from) (eq_ends-true d e.ends h) ∙ y)))
 
-module _ (vs es : List ℕ) (m v to : ℕ) (f : Fork vs es m v) (r : ℕ) (h : (k : ℕ) → Slots vs es k v → Nexts es k v to r) where
-  pub out_none : r ≡ 0 → OutTo es m v to 0
-  out_none z =
+module _ (vs es : List ℕ) (m v to : ℕ) (f : Fork vs es m v) where
+  pub out_none : ((k : ℕ) → Slots vs es k v → Nexts es k v to None) → OutTo es m v to None
+  out_none h =
       record {
-        there = λ y. absurd (y refl);
-        is = sym (from_on es m v to) ∙ ap (λ (l : List Edge). among (ends v to) (ends_of_all l)) (nexts-none es m v to r (h m f.slots) z) ∙ among_none (ends v to);
+        there = tt;
+        is = sym (from_on es m v to) ∙ ap (λ (l : List Edge). among (ends v to) (ends_of_all l)) (nexts-none es m v to (h m f.slots)) ∙ among_none (ends v to);
       }
 
-  module _ (ne : r ≡ 0 → ⊥) where
-    pub out-room : HasEdge es (r - 1)
-    out-room = let w = ((h m f.slots).there (omega arith)).0 in let q = f.room-e in omega arith
+  module _ (i : ℕ) (h : (k : ℕ) → Slots vs es k v → Nexts es k v to (Some i)) where
+    split : out_from (edges_of es m) v to ≡ edge_at es i ∷ out_from (edges_of es m) v (edge_to es i + 1)
+    split = nexts-some es m v to i f.distinct (h m f.slots)
 
-    split : out_from (edges_of es m) v to ≡ edge_at es (r - 1) ∷ out_from (edges_of es m) v (edge_to es (r - 1) + 1)
-    split = nexts-some es m v to r f.distinct (h m f.slots) (omega arith)
-
-    begun : among (ends v to) (ends_of_all (edge_at es (r - 1) ∷ out_from (edges_of es m) v (edge_to es (r - 1) + 1))) ≡ among (ends v to) (outs_of es m v)
+    begun : among (ends v to) (ends_of_all (edge_at es i ∷ out_from (edges_of es m) v (edge_to es i + 1))) ≡ among (ends v to) (outs_of es m v)
     begun = ap (λ (l : List Edge). among (ends v to) (ends_of_all l)) (sym split) ∙ from_on es m v to
 
-    module _ (t : ℕ) (ht : t ≡ edge_to es (r - 1)) where
-      pub out-there : t ≡ to → OutTo es m v to r
+    module _ (t : ℕ) (ht : t ≡ edge_to es i) where
+      pub out-there : t ≡ to → OutTo es m v to (Some i)
       out-there z =
-          let w = (h m f.slots).there (omega arith) in
-          let y : edge_to es (r - 1) ≡ to = sym ht ∙ z in
-          let d : ends v to ≡ (edge_at es (r - 1)).ends = same_ends (sym w.1) (sym y) in
+          let w = (h m f.slots).there in
+          let y : edge_to es i ≡ to = sym ht ∙ z in
+          let d : ends v to ≡ (edge_at es i).ends = same_ends (sym w.1) (sym y) in
           record {
-            there = λ q. (w.0, w.1, y);
-            is = sym begun ∙ among-head (ends v to) (edge_at es (r - 1)) (out_from (edges_of es m) v (edge_to es (r - 1) + 1)) d ∙ sym (ap not (ne_eqb r 0 ne));
+            there = (w.0, w.1, y);
+            is = sym begun ∙ among-head (ends v to) (edge_at es i) (out_from (edges_of es m) v (edge_to es i + 1)) d;
           }
         where
-          same_ends : v ≡ edge_from es (r - 1) → to ≡ edge_to es (r - 1) → ends v to ≡ ends (edge_from es (r - 1)) (edge_to es (r - 1))
+          same_ends : v ≡ edge_from es i → to ≡ edge_to es i → ends v to ≡ ends (edge_from es i) (edge_to es i)
           same_ends p q = cc
 
-      pub out-other : (t ≡ to → ⊥) → OutTo es m v to 0
+      pub out-other : (t ≡ to → ⊥) → OutTo es m v to None
       out-other z =
-          let w = (h m f.slots).there (omega arith) in
-          let l : to < edge_to es (r - 1) + 1 = (let q = w.2 in omega arith) in
-          let d : ends v to ≡ (edge_at es (r - 1)).ends → ⊥ = λ y. z (ht ∙ sym (ap (λ (u : Ends). u.to) y)) in
+          let w = (h m f.slots).there in
+          let l : to < edge_to es i + 1 = (let q = w.2 in omega arith) in
+          let d : ends v to ≡ (edge_at es i).ends → ⊥ = λ y. z (ht ∙ sym (ap (λ (u : Ends). u.to) y)) in
           record {
-            there = λ y. absurd (y refl);
+            there = tt;
             is =
-                sym begun ∙ among_next (ends v to) (edge_at es (r - 1)) (out_from (edges_of es m) v (edge_to es (r - 1) + 1)) d
-                ∙ beyond-none (edges_of es m) v to (edge_to es (r - 1) + 1) l;
+                sym begun ∙ among_next (ends v to) (edge_at es i) (out_from (edges_of es m) v (edge_to es i + 1)) d
+                ∙ beyond-none (edges_of es m) v to (edge_to es i + 1) l;
           }
 
 -- ---- a node's edge
@@ -155,51 +152,13 @@ node_edge x s = ends ((cols x).from s) ((cols x).to s)
 abbrev pub is_real : List Ends → Ends → Ends → Bool
 is_real outs symbolic e = among e outs && not (eq_ends e symbolic)
 
--- by the answer, 0 or the number plus 1 of the node's edge, where it is real
-pub record RealEdge (es : List ℕ) (m v : ℕ) (x : List ℕ) (s : ℕ) (e : Ends) (r : ℕ) : Type 0 where
-  pub there : (r ≡ 0 → ⊥) → (r ≤ m) × ((edge_at es (r - 1)).ends ≡ node_edge x s)
-  pub is : is_real (outs_of es m v) e (node_edge x s) ≡ not (eqb r 0)
+-- by the answer, the number of the node's edge, where it is real
+pub record RealEdge (es : List ℕ) (m v : ℕ) (x : List ℕ) (s : ℕ) (e : Ends) (r : Option ℕ) : Type 0 where
+  pub there : IfSome r (λ i. (i < m) × ((edge_at es i).ends ≡ node_edge x s))
+  pub is : is_real (outs_of es m v) e (node_edge x s) ≡ is_some r
 
-module _ (es : List ℕ) (m v : ℕ) (x : List ℕ) (s : ℕ) (e : Ends) (from to : ℕ) (hf : from ≡ (cols x).from s) (ht : to ≡ (cols x).to s) where
-  pub real-elsewhere : (from ≡ v → ⊥) → RealEdge es m v x s e 0
+module _ (es : List ℕ) (m v : ℕ) (x : List ℕ) (s : ℕ) (e d : Ends) (hd : d ≡ node_edge x s) where
+  pub real-elsewhere : (d.from ≡ v → ⊥) → RealEdge es m v x s e None
   real-elsewhere ne =
-      let z : among (node_edge x s) (outs_of es m v) ≡ false = among-elsewhere es m v (node_edge x s) (λ y. ne (hf ∙ y)) in
-      record { there = λ y. absurd (y refl); is = rw z }
-
-  module _ (q : Bool) (hq : q ≡ eq_ends (ends from to) e) where
-    same : eq_ends (node_edge x s) e ≡ q
-    same = sym (hq ∙ ap (λ (u : ℕ). eq_ends (ends u to) e) hf ∙ ap (λ (u : ℕ). eq_ends (ends ((cols x).from s) u) e) ht)
-
-    pub real-symbolic : q ≡ true → RealEdge es m v x s e 0
-    real-symbolic z =
-        record {
-          there = λ y. absurd (y refl);
-          is = ap (λ (t : Bool). among (node_edge x s) (outs_of es m v) && not t) (same ∙ z) ∙ and-false (among (node_edge x s) (outs_of es m v));
-        }
-
-    pub real-there : from ≡ v → q ≡ false → (r : ℕ) → OutTo es m v to r → RealEdge es m v x s e r
-    real-there p z r o =
-        let d : ends v to ≡ node_edge x s = same_ends (sym p ∙ hf) ht in
-        record {
-          there = λ y. let w = o.there y in (w.0, same-edge (w.1 ∙ sym p ∙ hf) (w.2 ∙ ht));
-          is =
-              ap (λ (t : Bool). among (node_edge x s) (outs_of es m v) && not t) (same ∙ z) ∙ and-true (among (node_edge x s) (outs_of es m v))
-              ∙ ap (λ (u : Ends). among u (outs_of es m v)) (sym d) ∙ o.is;
-        }
-      where
-        same_ends : v ≡ (cols x).from s → to ≡ (cols x).to s → ends v to ≡ node_edge x s
-        same_ends p q = cc
-
-        same-edge : edge_from es (r - 1) ≡ (cols x).from s → edge_to es (r - 1) ≡ (cols x).to s → ends (edge_from es (r - 1)) (edge_to es (r - 1)) ≡ node_edge x s
-        same-edge p q = cc
-
--- ---- two edges compared
-
-pub differ-first : (a b c d : ℕ) → (a ≡ c → ⊥) → false ≡ eq_ends (ends a b) (ends c d)
-differ-first a b c d h = sym (rw (ne_eqb a c h))
-
-pub same_first : (a b c d : ℕ) → a ≡ c → eqb b d ≡ eq_ends (ends a b) (ends c d)
-same_first a b c d h = sym (rw (eq-eqb a c h))
-
-pub same-as : (a b c d c' d' : ℕ) (q : Bool) → q ≡ eq_ends (ends a b) (ends c d) → c ≡ c' → d ≡ d' → q ≡ eq_ends (ends a b) (ends c' d')
-same-as a b c d c' d' q h x y = h ∙ ap (λ (u : ℕ). eq_ends (ends a b) (ends u d)) x ∙ ap (λ (u : ℕ). eq_ends (ends a b) (ends c' u)) y
+      let z : among (node_edge x s) (outs_of es m v) ≡ false = among-elsewhere es m v (node_edge x s) (λ y. ne (ap (λ (u : Ends). u.from) hd ∙ y)) in
+      record { there = tt; is = rw z }

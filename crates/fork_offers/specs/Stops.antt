@@ -1,7 +1,7 @@
 -- At the sink: whether the active trees let a path close.
-use Rattle.std.specs.Prelude.{◌≡◌, refl, ℕ, ◌+◌, ◌<◌, ◌≤◌, Bool, true, false, List, [], ◌∷◌, get_or}
+use Rattle.std.specs.Prelude.{Option, Some, None, is_some, ◌≡◌, refl, ℕ, ◌+◌, ◌<◌, ◌≤◌, Bool, true, false, List, [], ◌∷◌, get_or}
 use Rattle.std.proofs.Math.Path.{sym, ap}
-use Rattle.std.proofs.Common.{subst, ◌∙◌}
+use Rattle.std.proofs.Common.{arith, subst, ◌∙◌}
 use Rattle.std.proofs.Math.Dec.{leb}
 use borrow.Author.Tests.{le-leb, lt-leb}
 use Rattle.laws.specs.Numbers.{reaches}
@@ -9,6 +9,7 @@ use Rattle.definition.specs.Threading.{Ends}
 use Rattle.definition.specs.Evidence.{Branches}
 use Rattle.definition.specs.Search.{SearchInput, offers_edge, sum_of, has_stopping_evidence}
 use Rattle.threading_node.specs.Slots.{cols}
+use Rattle.threading_node.specs.Links.{slot_at, link_to, link_is}
 use Rattle.threading_tree.specs.Read.{Leads, ChildSlot, Summed}
 use Rattle.fork_offers.specs.Actives.{Least, Actives, Active, First, actives-one, actives-end, actives-first}
 
@@ -55,26 +56,44 @@ module _ (cap n : ℕ) (x a : List ℕ) (at end : ℕ) (e : Ends) (t : ℕ) wher
           is = λ f bs y z h. sym (evidence-none f) ∙ ap (has_stopping_evidence f) (sym (actives-end cap n x a i end k.rest.branches k.rest.stands l)) ∙ k.run f bs y z h;
         }
 
-    module _ (l : i < end) (s : ℕ) (hs : s ≡ get_or a i 0) (link : ℕ) (hl : link ≡ (cols x).kid s) (c : ℕ) (hc : ChildSlot n x link e c) where
+    module _ (l : i < end) (s : ℕ) (hs : s ≡ get_or a i 0) (start : Option ℕ) (hl : start ≡ slot_at ((cols x).kid s)) (c : Option ℕ) (hc : ChildSlot n x (link_to start) e c) where
       first : First cap n x a i end k.rest.branches
       first = actives-first cap n x a i end k.rest.branches k.rest.stands l
 
-      leads : Leads n x link first.head
-      leads = let z : link ≡ (cols x).kid (get_or a i 0) = hl ∙ ap (λ (d : ℕ). (cols x).kid d) hs in subst (λ (d : ℕ). Leads n x d first.head) (sym z) first.leads
+      leads : Leads n x (link_to start) first.head
+      leads =
+          let z : link_to start ≡ (cols x).kid (get_or a i 0) = ap link_to hl ∙ link_is ((cols x).kid s) ∙ ap (λ (d : ℕ). (cols x).kid d) hs in
+          subst (λ (d : ℕ). Leads n x d first.head) (sym z) first.leads
 
-      pub stopping-yes : (c ≡ 0 → ⊥) → Stops cap n x a at end e t true
+      offers : is_some c ≡ true → offers_edge e first.head ≡ true
+      unfolding first leads
+      offers = go c refl
+        where
+          go : (o : Option ℕ) → c ≡ o → is_some o ≡ true → offers_edge e first.head ≡ true
+          go None z h = absurd (let y : ◌≡◌ {A = ℕ} 0 1 = cc in omega arith)
+          go (Some j) z h = (hc.there first.head leads j z).offers
+
+      offers-not : is_some c ≡ false → offers_edge e first.head ≡ false
+      unfolding first leads
+      offers-not = go c refl
+        where
+          go : (o : Option ℕ) → c ≡ o → is_some o ≡ false → offers_edge e first.head ≡ false
+          go None z h = (hc.missing first.head leads z).offers
+          go (Some j) z h = absurd (let y : ◌≡◌ {A = ℕ} 0 1 = cc in omega arith)
+
+      pub stopping-yes : is_some c ≡ true → Stops cap n x a at end e t true
       unfolding first leads
       stopping-yes ne =
           record {
             is = λ f bs y z h.
-                sym (evidence-yes f first.head first.tail (ap (λ (d : Ends). offers_edge d first.head) y ∙ (hc.there first.head leads ne).offers))
+                sym (evidence-yes f first.head first.tail (ap (λ (d : Ends). offers_edge d first.head) y ∙ offers ne))
                 ∙ ap (has_stopping_evidence f) (sym first.is) ∙ k.run f bs y z h;
           }
 
-      module _ (none : c ≡ 0) (sum : ℕ) (hm : Summed n x link sum) where
+      module _ (none : is_some c ≡ false) (sum : ℕ) (hm : Summed n x (link_to start) sum) where
         no-offer : (f : SearchInput) → f.symbolic ≡ e → offers_edge f.symbolic first.head ≡ false
         unfolding first leads
-        no-offer f y = ap (λ (d : Ends). offers_edge d first.head) y ∙ (hc.missing first.head leads none).offers
+        no-offer f y = ap (λ (d : Ends). offers_edge d first.head) y ∙ offers-not none
 
         same-reach : (f : SearchInput) → Least f.threshold t → reaches (sum_of first.head) f.threshold ≡ leb t sum
         unfolding first leads

@@ -1,7 +1,7 @@
 -- What a fork offers by support: its out-edges in vertex order, but for those of support 0 and reference edges of support 1, each edge once.
 use Rattle.std.proofs.Math.Path.{◌≡◌, sym, ap}
-use Rattle.std.specs.Prelude.{refl, ℕ, zero, suc, ◌+◌, ◌-◌, ◌*◌, ◌^◌, ◌<◌, ◌≤◌, Bool, true, not, ◌&&◌, leb, eqb, length}
-use Rattle.std.proofs.Common.{subst, ◌∙◌, length-append, eq-eqb, ne_eqb, le-leb}
+use Rattle.std.specs.Prelude.{Some, None, refl, ℕ, ◌+◌, ◌*◌, ◌^◌, ◌<◌, ◌≤◌, Bool, true, not, ◌&&◌, leb, eqb, length}
+use Rattle.std.proofs.Common.{subst, ◌∙◌, length-append, le-leb}
 use Rattle.std.proofs.Math.Bool.{false}
 use mathlib.Core.List.{List, [], ◌∷◌, ◌++◌, map, append_assoc}
 use native.Mathlib.Omega.{arith}
@@ -10,7 +10,7 @@ use Rattle.definition.specs.Threading.{Ends, Edge, support_of, leaving}
 use Rattle.definition.specs.Search.{Offer, among, unseen, by_support}
 use Rattle.assembly.specs.Fields.{HasEdge, edge_to, edge_support}
 use Rattle.assembly.specs.Store.{edge_at, edges_of}
-use Rattle.out_edges.specs.Outs.{Slots, Nexts, out_from, nexts-none, nexts-some}
+use Rattle.out_edges.specs.Outs.{Nexts, out_from, nexts-none, nexts-some}
 use Rattle.fork_offers.specs.Fields.{HasOffer}
 use Rattle.fork_offers.specs.Real.{Fork}
 use Rattle.fork_offers.specs.Rows.{Few, seen_of, Offered, Grown, row_put, append-nil, grown-none, grown-one, grown-trans, grown-seen, grown-many, unseen-none, unseen-yes, unseen-no, unseen-split}
@@ -19,24 +19,6 @@ use Rattle.fork_offers.specs.Rows.{Few, seen_of, Offered, Grown, row_put, append
 
 abbrev pub worth : ℕ → Bool → Bool
 worth c ref = not (eqb c 0) && not (ref && eqb c 1)
-
-module _ (c : ℕ) (ref : Bool) where
-  pub worth-none : c ≡ 0 → false ≡ worth c ref
-  worth-none z = sym (rw (eq-eqb c 0 z))
-
-  pub worth-one : (c ≡ 0 → ⊥) → c ≡ 1 → not ref ≡ worth c ref
-  worth-one ne z = sym (rw (ne_eqb c 0 ne, eq-eqb c 1 z) (go ref))
-    where
-      go : (b : Bool) → not (b && true) ≡ not b
-      go true = refl
-      go false = refl
-
-  pub worth-more : (c ≡ 0 → ⊥) → (c ≡ 1 → ⊥) → true ≡ worth c ref
-  worth-more ne z = sym (rw (ne_eqb c 0 ne, ne_eqb c 1 z) (go ref))
-    where
-      go : (b : Bool) → not (b && false) ≡ true
-      go true = refl
-      go false = refl
 
 abbrev edge_offer : ℕ → Edge → Offer
 edge_offer t e = record { ends = e.ends; count = support_of e; out_of = t; guided = false }
@@ -85,12 +67,6 @@ module _ (es : List ℕ) (m i t : ℕ) (vs : List ℕ) (v : ℕ) (out : List ℕ
   pub edge-room : HasEdge es i
   edge-room = let a = p.edge in let b = p.fork.room-e in omega arith
 
-  pub edge-small : i < 2 ^ 32
-  edge-small = let a = p.edge in let b = p.fork.few in omega arith
-
-  pub edge-seen-room : seen * 4 ≤ length out
-  edge-seen-room = let a = p.old in let b = p.rows in omega arith
-
   module _ (c : ℕ) (hc : c ≡ edge_support es i) (ref : Bool) (hr : ref ≡ (edge_at es i).is_ref) (q : Bool) (hq : q ≡ worth c ref) where
     passes : worth (support_of (edge_at es i)) (edge_at es i).is_ref ≡ q
     unfolding support_of
@@ -129,11 +105,6 @@ module _ (es : List ℕ) (m i t : ℕ) (vs : List ℕ) (v : ℕ) (out : List ℕ
 
 -- ---- the out-edges in order
 
--- r is 0 or the number plus 1 of the next out-edge, and from `t` on are those that are left
-pub record Onward (vs es : List ℕ) (v r : ℕ) : Type 0 where
-  pub t : ℕ
-  pub next : (k : ℕ) → Slots vs es k v → Nexts es k v t r
-
 abbrev pub left_from : List ℕ → ℕ → ℕ → ℕ → List Edge
 left_from es m v t = out_from (edges_of es m) v t
 
@@ -145,94 +116,58 @@ from_start : (es : List ℕ) (m v : ℕ) → left_from es m v 0 ≡ leaving (edg
 unfolding out_from
 from_start es m v = keep_all (λ e. leb 0 e.ends.to) (leaving (edges_of es m) v) (λ e. le-leb 0 e.ends.to (omega arith))
 
--- what is left falls as the targets rise
-unfoldable pub out_left : ℕ → List ℕ → ℕ → ℕ
-out_left W es zero = 0
-out_left W es (suc i) = suc (W - edge_to es i)
+module _ (vs es : List ℕ) (m v t : ℕ) (f : Fork vs es m v) where
+  pub onward-end : Nexts es m v t None → left_from es m v t ≡ []
+  onward-end n = nexts-none es m v t n
 
-out-falls : (W : ℕ) (es : List ℕ) (r r' : ℕ) → (r ≡ 0 → ⊥) → ((r' ≡ 0 → ⊥) → edge_to es (r - 1) + 1 ≤ edge_to es (r' - 1)) → ((i : ℕ) → edge_to es i < W) → out_left W es r' < out_left W es r
-unfolding out_left
-out-falls W es zero r' ne h u = absurd (ne refl)
-out-falls W es (suc i) zero ne h u = omega arith
-out-falls W es (suc i) (suc j) ne h u =
-    let a = h (λ y. omega arith) in
-    let b = u j in
-    let p : suc i - 1 ≡ i = omega arith in
-    let q : suc j - 1 ≡ j = omega arith in
-    let c : edge_to es i + 1 ≤ edge_to es j = subst (λ (n : ℕ). edge_to es i + 1 ≤ edge_to es n) q (subst (λ (n : ℕ). edge_to es n + 1 ≤ edge_to es (suc j - 1)) p a) in
-    falls W (edge_to es i) (edge_to es j) c b
-  where
-    falls : (W a b : ℕ) → a + 1 ≤ b → b < W → suc (W - b) < suc (W - a)
-    falls W a b h k = omega arith
+  module _ (i : ℕ) (n : Nexts es m v t (Some i)) where
+    pub onward-edge : i < m
+    onward-edge = n.there.0
 
-module _ (vs es : List ℕ) (m v r : ℕ) (f : Fork vs es m v) (o : Onward vs es v r) where
-  pub onward-end : r ≡ 0 → left_from es m v o.t ≡ []
-  onward-end z = nexts-none es m v o.t r (o.next m f.slots) z
-
-  module _ (ne : r ≡ 0 → ⊥) where
-    pub onward-edge : r - 1 < m
-    onward-edge = let a = ((o.next m f.slots).there (omega arith)).0 in omega arith
-
-    pub onward-room : HasEdge es (r - 1)
-    onward-room = let a = onward-edge in let b = f.room-e in omega arith
-
-    pub onward-split : left_from es m v o.t ≡ edge_at es (r - 1) ∷ left_from es m v (edge_to es (r - 1) + 1)
-    onward-split = nexts-some es m v o.t r f.distinct (o.next m f.slots) (omega arith)
-
--- the next after r
-pub record After (vs es : List ℕ) (v r r' : ℕ) : Type 0 where
-  pub next : (k : ℕ) → Slots vs es k v → Nexts es k v (edge_to es (r - 1) + 1) r'
-
-pub after_is : (vs es : List ℕ) (v r r' t : ℕ) → t ≡ edge_to es (r - 1) → ((k : ℕ) → Slots vs es k v → Nexts es k v (t + 1) r') → After vs es v r r'
-after_is vs es v r r' t z h = record { next = subst (λ (n : ℕ). (k : ℕ) → Slots vs es k v → Nexts es k v (n + 1) r') z h }
-
-pub after-falls : (W : ℕ) (vs es : List ℕ) (m v r r' : ℕ) → Fork vs es m v → (r ≡ 0 → ⊥) → After vs es v r r' → ((i : ℕ) → edge_to es i < W) → out_left W es r' < out_left W es r
-after-falls W vs es m v r r' f ne a u = out-falls W es r r' ne (λ y. ((a.next m f.slots).there (omega arith)).2) u
+    pub onward-split : left_from es m v t ≡ edge_at es i ∷ left_from es m v (edge_to es i + 1)
+    onward-split = nexts-some es m v t i f.distinct n
 
 -- ---- the total
 
 abbrev pub all_support : List ℕ → ℕ → ℕ → ℕ
 all_support es m v = total support_of (leaving (edges_of es m) v)
 
-pub record Totalling (vs es : List ℕ) (m v r sum : ℕ) : Type 0 where
+pub record Totalling (vs es : List ℕ) (m v t sum : ℕ) : Type 0 where
   pub fork : Fork vs es m v
-  pub onward : Onward vs es v r
-  pub run : sum + total support_of (left_from es m v onward.t) ≡ all_support es m v
+  pub run : sum + total support_of (left_from es m v t) ≡ all_support es m v
   pub small : all_support es m v < 2 ^ 32
 
-pub totalling-start : (vs es : List ℕ) (m v r : ℕ) → Fork vs es m v → all_support es m v < 2 ^ 32 → ((k : ℕ) → Slots vs es k v → Nexts es k v 0 r) → Totalling vs es m v r 0
-totalling-start vs es m v r f s h =
-    record { fork = f; onward = record { t = 0; next = h }; run = let z = ap (total support_of) (from_start es m v) in zeroed (total support_of (left_from es m v 0)) z; small = s }
+pub totalling-start : {vs es : List ℕ} {m v t : ℕ} → Fork vs es m v → all_support es m v < 2 ^ 32 → t ≡ 0 → Totalling vs es m v t 0
+totalling-start {vs} {es} {m} {v} f s h =
+    rw h (record { fork = f; run = let z = ap (total support_of) (from_start es m v) in zeroed (total support_of (left_from es m v 0)) z; small = s })
   where
     zeroed : (a : ℕ) → a ≡ all_support es m v → 0 + a ≡ all_support es m v
     zeroed a h = omega arith
 
-module _ (vs es : List ℕ) (m v r sum : ℕ) (w : Totalling vs es m v r sum) where
-  pub totalling-end : r ≡ 0 → sum ≡ all_support es m v
-  totalling-end z = ended (total support_of (left_from es m v w.onward.t)) w.run (ap (total support_of) (onward-end vs es m v r w.fork w.onward z))
+module _ {vs es : List ℕ} {m v t sum : ℕ} (w : Totalling vs es m v t sum) where
+  pub totalling-end : Nexts es m v t None → sum ≡ all_support es m v
+  totalling-end n = ended (total support_of (left_from es m v t)) w.run (ap (total support_of) (onward-end vs es m v t w.fork n))
     where
       ended : (a : ℕ) → sum + a ≡ all_support es m v → a ≡ 0 → sum ≡ all_support es m v
       ended a h k = omega arith
 
-  module _ (ne : r ≡ 0 → ⊥) (c : ℕ) (hc : c ≡ edge_support es (r - 1)) where
-    more : (sum + c) + total support_of (left_from es m v (edge_to es (r - 1) + 1)) ≡ all_support es m v
-    unfolding support_of
-    more = grows c (total support_of (left_from es m v w.onward.t)) (total support_of (left_from es m v (edge_to es (r - 1) + 1))) w.run (ap (total support_of) (onward-split vs es m v r w.fork w.onward ne)) hc
-      where
-        grows : (c a b : ℕ) → sum + a ≡ all_support es m v → a ≡ edge_support es (r - 1) + b → c ≡ edge_support es (r - 1) → (sum + c) + b ≡ all_support es m v
-        grows c a b h k z = omega arith
+  module _ {i : ℕ} (n : Nexts es m v t (Some i)) where
+    module _ (c : ℕ) (hc : c ≡ edge_support es i) where
+      more : (sum + c) + total support_of (left_from es m v (edge_to es i + 1)) ≡ all_support es m v
+      unfolding support_of
+      more = grows c (total support_of (left_from es m v t)) (total support_of (left_from es m v (edge_to es i + 1))) w.run (ap (total support_of) (onward-split vs es m v t w.fork i n)) hc
+        where
+          grows : (c a b : ℕ) → sum + a ≡ all_support es m v → a ≡ edge_support es i + b → c ≡ edge_support es i → (sum + c) + b ≡ all_support es m v
+          grows c a b h k z = omega arith
 
-    pub totalling-fits : sum + c < 2 ^ 64
-    totalling-fits = fits (total support_of (left_from es m v (edge_to es (r - 1) + 1))) more w.small
-      where
-        fits : (b : ℕ) → (sum + c) + b ≡ all_support es m v → all_support es m v < 2 ^ 32 → sum + c < 2 ^ 64
-        fits b h k = omega arith
+      pub totalling-fits : sum + c < 2 ^ 64
+      totalling-fits = fits (total support_of (left_from es m v (edge_to es i + 1))) more w.small
+        where
+          fits : (b : ℕ) → (sum + c) + b ≡ all_support es m v → all_support es m v < 2 ^ 32 → sum + c < 2 ^ 64
+          fits b h k = omega arith
 
-    pub totalling-next : (r' : ℕ) → After vs es v r r' → Totalling vs es m v r' (sum + c)
-    totalling-next r' a = record { fork = w.fork; onward = record { t = edge_to es (r - 1) + 1; next = a.next }; run = more; small = w.small }
-
-pub one-fits : {a b : ℕ} → a ≡ b → b < 2 ^ 32 → a + 1 < 2 ^ 64
-one-fits e h = omega arith
+      pub totalling-next : (t' : ℕ) → t' ≡ edge_to es i + 1 → Totalling vs es m v t' (sum + c)
+      totalling-next t' a = record { fork = w.fork; run = rw a more; small = w.small }
 
 -- ---- all out-edges
 
@@ -243,53 +178,52 @@ pub record EdgesOffering (vs es : List ℕ) (m v t : ℕ) (out : List ℕ) (k : 
   pub small : t < 2 ^ 32
   pub room : (k + length (support_offers (seen_of es out k) t (leaving (edges_of es m) v))) * 4 ≤ length out
 
--- some have been offered, and the rest is from r on
-pub record Edging (vs es : List ℕ) (m v t : ℕ) (out₀ out : List ℕ) (k₀ r k : ℕ) : Type 0 where
+-- some have been offered, and those with a target from `from` on are left
+pub record Edging (vs es : List ℕ) (m v t : ℕ) (out₀ out : List ℕ) (k₀ from k : ℕ) : Type 0 where
   pub fork : Fork vs es m v
-  pub onward : Onward vs es v r
   pub small : t < 2 ^ 32
   pub done : List Offer
   pub grown : Grown es m out₀ out k₀ k done
-  pub run : done ++ support_offers (seen_of es out₀ k₀) t (left_from es m v onward.t) ≡ support_offers (seen_of es out₀ k₀) t (leaving (edges_of es m) v)
-  pub room : (k + length (support_offers (seen_of es out₀ k₀) t (left_from es m v onward.t))) * 4 ≤ length out
+  pub run : done ++ support_offers (seen_of es out₀ k₀) t (left_from es m v from) ≡ support_offers (seen_of es out₀ k₀) t (leaving (edges_of es m) v)
+  pub room : (k + length (support_offers (seen_of es out₀ k₀) t (left_from es m v from))) * 4 ≤ length out
 
 module _ (vs es : List ℕ) (m v t : ℕ) (out₀ : List ℕ) (k₀ : ℕ) where
-  pub edging-start : (r : ℕ) → EdgesOffering vs es m v t out₀ k₀ → ((k : ℕ) → Slots vs es k v → Nexts es k v 0 r) → Edging vs es m v t out₀ out₀ k₀ r k₀
-  edging-start r p h =
-      record {
+  pub edging-start : EdgesOffering vs es m v t out₀ k₀ → (from : ℕ) → from ≡ 0 → Edging vs es m v t out₀ out₀ k₀ from k₀
+  edging-start p from h =
+      rw h
+      (record {
         fork = p.fork;
-        onward = record { t = 0; next = h };
         small = p.small;
         done = [];
         grown = grown-none es m out₀ k₀ p.few;
         run = ap (support_offers (seen_of es out₀ k₀) t) (from_start es m v);
         room = subst (λ (l : List Edge). (k₀ + length (support_offers (seen_of es out₀ k₀) t l)) * 4 ≤ length out₀) (sym (from_start es m v)) p.room;
-      }
+      })
 
-  module _ (out : List ℕ) (r k : ℕ) (w : Edging vs es m v t out₀ out k₀ r k) where
-    pub edging-end : r ≡ 0 → Grown es m out₀ out k₀ k (support_offers (seen_of es out₀ k₀) t (leaving (edges_of es m) v))
+  module _ (out : List ℕ) (from k : ℕ) (w : Edging vs es m v t out₀ out k₀ from k) where
+    pub edging-end : Nexts es m v from None → Grown es m out₀ out k₀ k (support_offers (seen_of es out₀ k₀) t (leaving (edges_of es m) v))
     edging-end z =
         subst (λ (os : List Offer). Grown es m out₀ out k₀ k os)
         (sym (append-nil w.done) ∙ ap (λ (l : List Offer). w.done ++ l) (sym (support-none (seen_of es out₀ k₀) t))
-        ∙ ap (λ (l : List Edge). w.done ++ support_offers (seen_of es out₀ k₀) t l) (sym (onward-end vs es m v r w.fork w.onward z)) ∙ w.run)
+        ∙ ap (λ (l : List Edge). w.done ++ support_offers (seen_of es out₀ k₀) t l) (sym (onward-end vs es m v from w.fork z)) ∙ w.run)
         w.grown
 
-    module _ (ne : r ≡ 0 → ⊥) where
+    module _ (i : ℕ) (ne : Nexts es m v from (Some i)) where
       seen_same : seen_of es out k₀ ≡ seen_of es out₀ k₀
       seen_same = grown-seen w.grown k₀ (omega arith)
 
       abbrev head-offer : List Offer
-      head-offer = support_offers (seen_of es out₀ k₀) t (edge_at es (r - 1) ∷ [])
+      head-offer = support_offers (seen_of es out₀ k₀) t (edge_at es i ∷ [])
 
       abbrev more_edges : List Offer
-      more_edges = support_offers (seen_of es out₀ k₀) t (left_from es m v (edge_to es (r - 1) + 1))
+      more_edges = support_offers (seen_of es out₀ k₀) t (left_from es m v (edge_to es i + 1))
 
-      parts : support_offers (seen_of es out₀ k₀) t (left_from es m v w.onward.t) ≡ head-offer ++ more_edges
+      parts : support_offers (seen_of es out₀ k₀) t (left_from es m v from) ≡ head-offer ++ more_edges
       parts =
-          ap (support_offers (seen_of es out₀ k₀) t) (onward-split vs es m v r w.fork w.onward ne)
-          ∙ support-cons (seen_of es out₀ k₀) t (edge_at es (r - 1)) (left_from es m v (edge_to es (r - 1) + 1))
+          ap (support_offers (seen_of es out₀ k₀) t) (onward-split vs es m v from w.fork i ne)
+          ∙ support-cons (seen_of es out₀ k₀) t (edge_at es i) (left_from es m v (edge_to es i + 1))
 
-      sizes : length head-offer + length more_edges ≡ length (support_offers (seen_of es out₀ k₀) t (left_from es m v w.onward.t))
+      sizes : length head-offer + length more_edges ≡ length (support_offers (seen_of es out₀ k₀) t (left_from es m v from))
       sizes = sym (ap length parts ∙ length-append head-offer more_edges)
 
       rooms : (a b c : ℕ) → a + b ≡ c → (k + c) * 4 ≤ length out → (k + a) * 4 ≤ length out
@@ -298,51 +232,34 @@ module _ (vs es : List ℕ) (m v t : ℕ) (out₀ : List ℕ) (k₀ : ℕ) where
       rowed : (a : ℕ) → (k + a) * 4 ≤ length out → k * 4 ≤ length out
       rowed a l = omega arith
 
-      pub edging-adds : EdgeAdds es m (r - 1) t vs v out k₀ k
+      pub edging-adds : EdgeAdds es m i t vs v out k₀ k
       edging-adds =
           record {
             fork = w.fork;
-            edge = onward-edge vs es m v r w.fork w.onward ne;
+            edge = onward-edge vs es m v from w.fork i ne;
             few = w.grown.few;
             old = w.grown.le;
             small = w.small;
-            rows = rowed (length (support_offers (seen_of es out₀ k₀) t (left_from es m v w.onward.t))) w.room;
+            rows = rowed (length (support_offers (seen_of es out₀ k₀) t (left_from es m v from))) w.room;
             room =
-                subst (λ (s : List Ends). (k + length (support_offers s t (edge_at es (r - 1) ∷ []))) * 4 ≤ length out) (sym seen_same)
+                subst (λ (s : List Ends). (k + length (support_offers s t (edge_at es i ∷ []))) * 4 ≤ length out) (sym seen_same)
                 (rooms (length head-offer) (length more_edges) _ sizes w.room);
           }
 
-      pub edging-next : (out' : List ℕ) (k' : ℕ) → Grown es m out out' k k' (support_offers (seen_of es out k₀) t (edge_at es (r - 1) ∷ [])) → (r' : ℕ) → After vs es v r r'
-          → Edging vs es m v t out₀ out' k₀ r' k'
-      edging-next out' k' g r' a =
-          let g' : Grown es m out out' k k' (support_offers (seen_of es out₀ k₀) t (edge_at es (r - 1) ∷ []))
-          = subst (λ (s : List Ends). Grown es m out out' k k' (support_offers s t (edge_at es (r - 1) ∷ []))) seen_same g in
-          record {
+      pub edging-next : (out' : List ℕ) (k' : ℕ) → Grown es m out out' k k' (support_offers (seen_of es out k₀) t (edge_at es i ∷ [])) → (from' : ℕ) → from' ≡ edge_to es i + 1
+          → Edging vs es m v t out₀ out' k₀ from' k'
+      edging-next out' k' g from' a =
+          let g' : Grown es m out out' k k' (support_offers (seen_of es out₀ k₀) t (edge_at es i ∷ []))
+          = subst (λ (s : List Ends). Grown es m out out' k k' (support_offers s t (edge_at es i ∷ []))) seen_same g in
+          rw a
+          (record {
             fork = w.fork;
-            onward = record { t = edge_to es (r - 1) + 1; next = a.next };
             small = w.small;
             done = w.done ++ head-offer;
             grown = grown-trans w.grown g';
             run = append_assoc w.done head-offer more_edges ∙ ap (λ (l : List Offer). w.done ++ l) (sym parts) ∙ w.run;
             room = after (length head-offer) (length more_edges) _ sizes w.room (grown-many g') g.long;
-          }
+          })
         where
           after : (a b c : ℕ) → a + b ≡ c → (k + c) * 4 ≤ length out → k' ≡ k + a → length out' ≡ length out → (k' + b) * 4 ≤ length out'
           after a b c h l p q = omega arith
-
-pub named-fits : {a b : ℕ} → a ≡ b → b < 2 ^ 32 → a < 2 ^ 32
-named-fits e h = omega arith
-
-pub not-told : {q : Bool} → not q ≡ true → q ≡ false
-not-told {q} h = go q h
-  where
-    go : (q : Bool) → not q ≡ true → q ≡ false
-    go true k = sym k
-    go false k = refl
-
-pub not_left : {q : Bool} → not q ≡ false → q ≡ true
-not_left {q} h = go q h
-  where
-    go : (q : Bool) → not q ≡ false → q ≡ true
-    go true k = refl
-    go false k = sym k

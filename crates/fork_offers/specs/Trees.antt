@@ -1,7 +1,7 @@
 -- What one active tree offers: all its real branches, or only the best of them, each edge once.
-use Rattle.std.specs.Prelude.{◌≡◌, refl, ℕ, ◌+◌, ◌-◌, ◌*◌, ◌^◌, ◌<◌, ◌≤◌, Bool, true, false, not, cond, eqb, get_or}
+use Rattle.std.specs.Prelude.{◌≡◌, refl, ℕ, ◌+◌, ◌*◌, ◌^◌, ◌<◌, ◌≤◌, Bool, true, false, cond, Option, Some, None}
 use Rattle.std.proofs.Math.Path.{sym, ap, subst}
-use Rattle.std.proofs.Common.{◌∙◌, length-append, eq-eqb, ne_eqb}
+use Rattle.std.proofs.Common.{◌∙◌, length-append}
 use mathlib.Core.List.{List, [], ◌∷◌, ◌++◌, append_assoc}
 use native.Mathlib.Omega.{arith}
 use Rattle.std.proofs.Math.ListN.{length}
@@ -10,12 +10,13 @@ use Rattle.definition.specs.Evidence.{Branches, bare, branch}
 use Rattle.definition.specs.Search.{SearchInput, Offer, among, unseen, real_branches, best}
 use Rattle.assembly.specs.Store.{edge_at}
 use Rattle.threading_node.specs.Slots.{cols, Slot}
-use Rattle.threading_node.specs.Cells.{left}
+use Rattle.threading_node.specs.Links.{slot_at, link_to, Linked, some-link, none-link}
+use Rattle.threading_node.specs.Cells.{above-all, left}
 use Rattle.threading_node.specs.Take.{Wide, wide-slot}
 use Rattle.threading_tree.specs.Read.{Leads, Readable, BranchAt, leads_one, leads-none, leads-branch}
 use Rattle.fork_offers.specs.Fields.{HasOffer}
 use Rattle.fork_offers.specs.Real.{Fork, node_edge, is_real, outs_of, RealEdge}
-use Rattle.fork_offers.specs.Best.{offer_of, one_none, one-some, Chosen, real-bare, real-at, sibling-falls}
+use Rattle.fork_offers.specs.Best.{offer_of, Chosen, real-bare, real-at, sibling-falls, next-link}
 use Rattle.fork_offers.specs.Rows.{Few, seen_of, Offered, Grown, row_put, append-nil, grown-none, grown-one, grown-trans, grown-seen, grown-many, unseen-none, unseen-yes, unseen-no, unseen-split}
 
 -- ---- one branch
@@ -34,58 +35,51 @@ pub record Adds (vs es : List ℕ) (m : ℕ) (x : List ℕ) (s t v : ℕ) (e : E
   pub rows : k * 4 ≤ length out
   pub room : (k + length (branch_offer (seen_of es out seen) (outs_of es m v) e x t s)) * 4 ≤ length out
 
-module _ (vs es : List ℕ) (m : ℕ) (x : List ℕ) (s t v : ℕ) (e : Ends) (out : List ℕ) (seen k : ℕ) (p : Adds vs es m x s t v e out seen k)
-    (r : ℕ) (hr : RealEdge es m v x s e r) where
+module _ (vs es : List ℕ) (m : ℕ) (x : List ℕ) (s t v : ℕ) (e : Ends) (out : List ℕ) (seen k : ℕ) (p : Adds vs es m x s t v e out seen k) where
   abbrev seens : List Ends
   seens = seen_of es out seen
 
-  abbrev outs : List Ends
-  outs = outs_of es m v
+  abbrev outs_here : List Ends
+  outs_here = outs_of es m v
 
-  told : (q : Bool) → not (eqb r 0) ≡ q → branch_offer seens outs e x t s ≡ unseen seens (cond q (offer_of x t s ∷ []) [])
+  pub adds-unreal : RealEdge es m v x s e None → Grown es m out out k k (branch_offer seens outs_here e x t s)
   unfolding branch_offer
-  told q z = ap (λ (d : Bool). unseen seens (cond d (offer_of x t s ∷ []) [])) (hr.is ∙ z)
+  adds-unreal hr =
+      subst (λ (os : List Offer). Grown es m out out k k os)
+      (sym (ap (λ (d : Bool). unseen seens (cond d (offer_of x t s ∷ []) [])) hr.is ∙ unseen-none seens)) (grown-none es m out k p.few)
 
-  pub adds-unreal : r ≡ 0 → Grown es m out out k k (branch_offer seens outs e x t s)
-  adds-unreal z = subst (λ (os : List Offer). Grown es m out out k k os) (sym (told false (ap not (eq-eqb r 0 z)) ∙ unseen-none seens)) (grown-none es m out k p.few)
+  module _ (i : ℕ) (hr : RealEdge es m v x s e (Some i)) where
+    real : branch_offer seens outs_here e x t s ≡ unseen seens (offer_of x t s ∷ [])
+    unfolding branch_offer
+    real = ap (λ (d : Bool). unseen seens (cond d (offer_of x t s ∷ []) [])) hr.is
 
-  module _ (ne : r ≡ 0 → ⊥) where
-    real : branch_offer seens outs e x t s ≡ unseen seens (offer_of x t s ∷ [])
-    real = told true (ap not (ne_eqb r 0 ne))
-
-    pub adds-seen-room : seen * 4 ≤ length out
-    adds-seen-room = let a = p.old in let b = p.rows in omega arith
-
-    pub adds-edge : r - 1 < 2 ^ 32
-    adds-edge = let a = (hr.there ne).0 in let b = p.fork.few in omega arith
-
-    module _ (q : Bool) (hq : Offered out seen (r - 1) q) where
+    module _ (q : Bool) (hq : Offered out seen i q) where
       mine : among (node_edge x s) seens ≡ q
       mine =
-          let w = hr.there ne in
+          let w = hr.there in
           ap (λ (d : Ends). among d seens) (sym w.1)
           ∙ sym (hq.is es m p.fork.distinct (let a = w.0 in omega arith) (λ j h. p.few j (let b = p.old in omega arith)))
 
-      pub adds-seen : q ≡ true → Grown es m out out k k (branch_offer seens outs e x t s)
+      pub adds-seen : q ≡ true → Grown es m out out k k (branch_offer seens outs_here e x t s)
       adds-seen z = subst (λ (os : List Offer). Grown es m out out k k os) (sym (real ∙ unseen-yes seens (offer_of x t s) (mine ∙ z))) (grown-none es m out k p.few)
 
       module _ (z : q ≡ false) where
-        new : branch_offer seens outs e x t s ≡ offer_of x t s ∷ []
+        new : branch_offer seens outs_here e x t s ≡ offer_of x t s ∷ []
         new = real ∙ unseen-no seens (offer_of x t s) (mine ∙ z)
 
         pub adds-room : HasOffer out k
-        adds-room = let a = p.room in let b : length (branch_offer seens outs e x t s) ≡ 1 = ap length new in rooms (length (branch_offer seens outs e x t s)) a b
+        adds-room = let a = p.room in let b : length (branch_offer seens outs_here e x t s) ≡ 1 = ap length new in rooms (length (branch_offer seens outs_here e x t s)) a b
           where
             rooms : (l : ℕ) → (k + l) * 4 ≤ length out → l ≡ 1 → HasOffer out k
             rooms l a b = omega arith
 
-        module _ (c : ℕ) (hc : c ≡ (cols x).count s) (out' : List ℕ) (k' : ℕ) (hp : (out' ≡ row_put out k (r - 1) c t 1) × (k' ≡ k + 1)) where
-          pub adds-new : Grown es m out out' k k' (branch_offer seens outs e x t s)
+        module _ (c : ℕ) (hc : c ≡ (cols x).count s) (out' : List ℕ) (k' : ℕ) (hp : (out' ≡ row_put out k i c t 1) × (k' ≡ k + 1)) where
+          pub adds-new : Grown es m out out' k k' (branch_offer seens outs_here e x t s)
           adds-new =
-              let w = hr.there ne in
-              let g = grown-one es m out k (r - 1) c t 1 p.few adds-room (let a = w.0 in omega arith) in
-              let o : ◌≡◌ {A = Offer} (record { ends = (edge_at es (r - 1)).ends; count = c; out_of = t; guided = true }) (offer_of x t s) = same-offer w.1 hc in
-              rw (hp.0, hp.1) (subst (λ (os : List Offer). Grown es m out (row_put out k (r - 1) c t 1) k (k + 1) os) (ap (λ (d : Offer). d ∷ []) o ∙ sym new) g)
+              let w = hr.there in
+              let g = grown-one es m out k i c t 1 p.few adds-room (let a = w.0 in omega arith) in
+              let o : ◌≡◌ {A = Offer} (record { ends = (edge_at es i).ends; count = c; out_of = t; guided = true }) (offer_of x t s) = same-offer w.1 hc in
+              rw (hp.0, hp.1) (subst (λ (os : List Offer). Grown es m out (row_put out k i c t 1) k (k + 1) os) (ap (λ (d : Offer). d ∷ []) o ∙ sym new) g)
             where
               same-offer : {a b : Ends} {n l : ℕ} → a ≡ b → n ≡ l
                   → ◌≡◌ {A = Offer} (record { ends = a; count = n; out_of = t; guided = true }) (record { ends = b; count = l; out_of = t; guided = true })
@@ -125,10 +119,11 @@ pub record TreeOffered (es : List ℕ) (m n : ℕ) (x : List ℕ) (link t v : �
   pub is : (f : SearchInput) (b : Branches) → f.symbolic ≡ e → Leads n x link b → Grown es m out out' k r (tree_offers f (seen_of es out k) (outs_of es m v) t b)
 
 -- some branches have been offered, and the rest is the row at the link
-pub record Branching (vs es : List ℕ) (m cap n : ℕ) (x : List ℕ) (link t v : ℕ) (e : Ends) (out₀ out : List ℕ) (k₀ at k : ℕ) : Type 0 where
+pub record Branching (vs es : List ℕ) (m cap n : ℕ) (x : List ℕ) (link t v : ℕ) (e : Ends) (out₀ out : List ℕ) (k₀ : ℕ) (at : Option ℕ) (k : ℕ) : Type 0 where
   pub fork : Fork vs es m v
   pub rest : Branches
-  pub leads : Leads n x at rest
+  pub leads : Leads n x (link_to at) rest
+  pub linked : Linked at
   pub few : n ≤ cap
   pub wide : Wide cap x
   pub small : t < 2 ^ 32
@@ -140,66 +135,70 @@ pub record Branching (vs es : List ℕ) (m cap n : ℕ) (x : List ℕ) (link t v
       → done ++ tree_offers f (seen_of es out₀ k₀) (outs_of es m v) t rest ≡ tree_offers f (seen_of es out₀ k₀) (outs_of es m v) t b
   pub room : (k + length (tree_offers input (seen_of es out₀ k₀) (outs_of es m v) t rest)) * 4 ≤ length out
 
-module _ (vs es : List ℕ) (m cap n : ℕ) (x : List ℕ) (link t v : ℕ) (e : Ends) (out₀ : List ℕ) (k₀ : ℕ) where
-  pub branching-start : Offering vs es m cap n x link t v e out₀ k₀ → Branching vs es m cap n x link t v e out₀ out₀ k₀ link k₀
-  branching-start p =
-      record {
-        fork = p.fork;
-        rest = p.readable.branches;
-        leads = p.readable.leads;
-        few = p.readable.room;
-        wide = p.readable.wide;
-        small = p.small;
-        input = p.input;
-        same = p.same;
-        done = [];
-        grown = grown-none es m out₀ k₀ p.few;
-        run = λ f b y h. ap (tree_offers f (seen_of es out₀ k₀) (outs_of es m v) t) (leads_one n x link p.readable.branches b p.readable.leads h);
-        room = p.room;
-      }
+pub branching-start : (vs es : List ℕ) (m cap n : ℕ) (x : List ℕ) (start : Option ℕ) (t v : ℕ) (e : Ends) (out₀ : List ℕ) (k₀ : ℕ) → Offering vs es m cap n x (link_to start) t v e out₀ k₀ → Linked start → Branching vs es m cap n x (link_to start) t v e out₀ out₀ k₀ start k₀
+branching-start vs es m cap n x start t v e out₀ k₀ p l =
+    record {
+      fork = p.fork;
+      rest = p.readable.branches;
+      leads = p.readable.leads;
+      linked = l;
+      few = p.readable.room;
+      wide = p.readable.wide;
+      small = p.small;
+      input = p.input;
+      same = p.same;
+      done = [];
+      grown = grown-none es m out₀ k₀ p.few;
+      run = λ f b y h. ap (tree_offers f (seen_of es out₀ k₀) (outs_of es m v) t) (leads_one n x (link_to start) p.readable.branches b p.readable.leads h);
+      room = p.room;
+    }
 
-  module _ (out : List ℕ) (at k : ℕ) (w : Branching vs es m cap n x link t v e out₀ out k₀ at k) where
-    pub branching-end : at ≡ 0 → TreeOffered es m n x link t v e out₀ out k₀ k
+module _ (vs es : List ℕ) (m cap n : ℕ) (x : List ℕ) (link t v : ℕ) (e : Ends) (out₀ : List ℕ) (k₀ : ℕ) where
+  module _ (out : List ℕ) (at : Option ℕ) (k : ℕ) (w : Branching vs es m cap n x link t v e out₀ out k₀ at k) where
+    pub branching-end : ((s : ℕ) → at ≡ Some s → ⊥) → TreeOffered es m n x link t v e out₀ out k₀ k
     branching-end z =
         record {
           is = λ f b y h.
               subst (λ (os : List Offer). Grown es m out₀ out k₀ k os)
               (sym (append-nil w.done) ∙ ap (λ (l : List Offer). w.done ++ l) (sym (tree-bare f (seen_of es out₀ k₀) (outs_of es m v) t))
-              ∙ ap (λ (d : Branches). w.done ++ tree_offers f (seen_of es out₀ k₀) (outs_of es m v) t d) (sym (leads-none n x at w.rest w.leads z)) ∙ w.run f b y h)
+              ∙ ap (λ (d : Branches). w.done ++ tree_offers f (seen_of es out₀ k₀) (outs_of es m v) t d) (sym (leads-none n x (link_to at) w.rest w.leads (none-link at z))) ∙ w.run f b y h)
               w.grown;
         }
 
-    module _ (ne : at ≡ 0 → ⊥) where
-      here : BranchAt n x at w.rest
-      here = leads-branch n x at w.rest w.leads ne
+    module _ (s : ℕ) (is : at ≡ Some s) where
+      leads-at : Leads n x s w.rest
+      leads-at = rw is at w.leads
 
-      pub branching-slot : Slot at x
+      here : BranchAt n x s w.rest
+      here = leads-branch n x s w.rest leads-at (some-link at s w.linked is)
+
+      pub branching-slot : Slot s x
       unfolding here
-      branching-slot = let q = here.live in let r = w.few in wide-slot w.wide at (omega arith)
+      branching-slot = let q = here.live in let r = w.few in wide-slot w.wide s (omega arith)
 
-      pub branching-falls : (nx : ℕ) → nx ≡ (cols x).next at → ((i : ℕ) → get_or x i 0 < 2 ^ 32) → left (2 ^ 32) x nx < left (2 ^ 32) x at
-      branching-falls nx h u = sibling-falls cap n x at (record { branches = w.rest; leads = w.leads; room = w.few; wide = w.wide }) ne nx h u
+      pub branching-falls : (nx : Option ℕ) → nx ≡ slot_at ((cols x).next s) → left (above-all x) x (link_to nx) < left (above-all x) x (link_to at)
+      branching-falls nx h = sibling-falls cap n x at (record { branches = w.rest; leads = w.leads; room = w.few; wide = w.wide }) w.linked s is nx h
 
       seen_same : seen_of es out k₀ ≡ seen_of es out₀ k₀
       seen_same = grown-seen w.grown k₀ (omega arith)
 
       parts : (f : SearchInput) → f.symbolic ≡ e
           → tree_offers f (seen_of es out₀ k₀) (outs_of es m v) t w.rest
-          ≡ branch_offer (seen_of es out₀ k₀) (outs_of es m v) e x t at ++ tree_offers f (seen_of es out₀ k₀) (outs_of es m v) t here.next
+          ≡ branch_offer (seen_of es out₀ k₀) (outs_of es m v) e x t s ++ tree_offers f (seen_of es out₀ k₀) (outs_of es m v) t here.next
       unfolding here
-      parts f y = tree-at f (seen_of es out₀ k₀) (outs_of es m v) t x at w.rest here.below here.next e y here.is
+      parts f y = tree-at f (seen_of es out₀ k₀) (outs_of es m v) t x s w.rest here.below here.next e y here.is
 
-      sizes : length (branch_offer (seen_of es out₀ k₀) (outs_of es m v) e x t at) + length (tree_offers w.input (seen_of es out₀ k₀) (outs_of es m v) t here.next)
+      sizes : length (branch_offer (seen_of es out₀ k₀) (outs_of es m v) e x t s) + length (tree_offers w.input (seen_of es out₀ k₀) (outs_of es m v) t here.next)
           ≡ length (tree_offers w.input (seen_of es out₀ k₀) (outs_of es m v) t w.rest)
       sizes =
           sym
           (ap length (parts w.input w.same)
-          ∙ length-append (branch_offer (seen_of es out₀ k₀) (outs_of es m v) e x t at) (tree_offers w.input (seen_of es out₀ k₀) (outs_of es m v) t here.next))
+          ∙ length-append (branch_offer (seen_of es out₀ k₀) (outs_of es m v) e x t s) (tree_offers w.input (seen_of es out₀ k₀) (outs_of es m v) t here.next))
 
       rooms : (a b c : ℕ) → a + b ≡ c → (k + c) * 4 ≤ length out → (k + a) * 4 ≤ length out
       rooms a b c h l = omega arith
 
-      pub branching-adds : Adds vs es m x at t v e out k₀ k
+      pub branching-adds : Adds vs es m x s t v e out k₀ k
       branching-adds =
           let ro = w.room in
           record {
@@ -210,36 +209,37 @@ module _ (vs es : List ℕ) (m cap n : ℕ) (x : List ℕ) (link t v : ℕ) (e :
             small = w.small;
             rows = rowed (length (tree_offers w.input (seen_of es out₀ k₀) (outs_of es m v) t w.rest)) ro;
             room =
-                subst (λ (s : List Ends). (k + length (branch_offer s (outs_of es m v) e x t at)) * 4 ≤ length out) (sym seen_same)
-                (rooms (length (branch_offer (seen_of es out₀ k₀) (outs_of es m v) e x t at))
+                subst (λ (l : List Ends). (k + length (branch_offer l (outs_of es m v) e x t s)) * 4 ≤ length out) (sym seen_same)
+                (rooms (length (branch_offer (seen_of es out₀ k₀) (outs_of es m v) e x t s))
                 (length (tree_offers w.input (seen_of es out₀ k₀) (outs_of es m v) t here.next)) _ sizes ro);
           }
         where
           rowed : (a : ℕ) → (k + a) * 4 ≤ length out → k * 4 ≤ length out
           rowed a l = omega arith
 
-      module _ (out' : List ℕ) (k' : ℕ) (g : Grown es m out out' k k' (branch_offer (seen_of es out k₀) (outs_of es m v) e x t at)) (nx : ℕ) (hn : nx ≡ (cols x).next at) where
+      module _ (out' : List ℕ) (k' : ℕ) (g : Grown es m out out' k k' (branch_offer (seen_of es out k₀) (outs_of es m v) e x t s)) (nx : Option ℕ) (hn : nx ≡ slot_at ((cols x).next s)) where
         pub branching-next : Branching vs es m cap n x link t v e out₀ out' k₀ nx k'
         unfolding here
         branching-next =
-            let one : List Offer = branch_offer (seen_of es out₀ k₀) (outs_of es m v) e x t at in
-            let g' : Grown es m out out' k k' (branch_offer (seen_of es out₀ k₀) (outs_of es m v) e x t at)
-            = subst (λ (s : List Ends). Grown es m out out' k k' (branch_offer s (outs_of es m v) e x t at)) seen_same g in
+            let l = next-link x s nx hn in
+            let g' : Grown es m out out' k k' (branch_offer (seen_of es out₀ k₀) (outs_of es m v) e x t s)
+            = subst (λ (l : List Ends). Grown es m out out' k k' (branch_offer l (outs_of es m v) e x t s)) seen_same g in
             record {
               fork = w.fork;
               rest = here.next;
-              leads = subst (λ (d : ℕ). Leads n x d here.next) (sym hn) here.rest;
+              leads = subst (λ (d : ℕ). Leads n x d here.next) (sym l.0) here.rest;
+              linked = l.1;
               few = w.few;
               wide = w.wide;
               small = w.small;
               input = w.input;
               same = w.same;
-              done = w.done ++ branch_offer (seen_of es out₀ k₀) (outs_of es m v) e x t at;
+              done = w.done ++ branch_offer (seen_of es out₀ k₀) (outs_of es m v) e x t s;
               grown = grown-trans w.grown g';
               run = λ f b y h.
-                  append_assoc w.done (branch_offer (seen_of es out₀ k₀) (outs_of es m v) e x t at) (tree_offers f (seen_of es out₀ k₀) (outs_of es m v) t here.next)
+                  append_assoc w.done (branch_offer (seen_of es out₀ k₀) (outs_of es m v) e x t s) (tree_offers f (seen_of es out₀ k₀) (outs_of es m v) t here.next)
                   ∙ ap (λ (l : List Offer). w.done ++ l) (sym (parts f y)) ∙ w.run f b y h;
-              room = after (length (branch_offer (seen_of es out₀ k₀) (outs_of es m v) e x t at)) (length (tree_offers w.input (seen_of es out₀ k₀) (outs_of es m v) t here.next)) _ sizes w.room (grown-many g') g.long;
+              room = after (length (branch_offer (seen_of es out₀ k₀) (outs_of es m v) e x t s)) (length (tree_offers w.input (seen_of es out₀ k₀) (outs_of es m v) t here.next)) _ sizes w.room (grown-many g') g.long;
             }
           where
             after : (a b c : ℕ) → a + b ≡ c → (k + c) * 4 ≤ length out → k' ≡ k + a → length out' ≡ length out → (k' + b) * 4 ≤ length out'
@@ -266,24 +266,23 @@ pub record BestOffering (vs es : List ℕ) (m cap n : ℕ) (x : List ℕ) (link 
 pub record BestOffered (es : List ℕ) (m n : ℕ) (x : List ℕ) (link t v : ℕ) (e : Ends) (out out' : List ℕ) (k r : ℕ) : Type 0 where
   pub is : (f : SearchInput) (b : Branches) → f.symbolic ≡ e → Leads n x link b → Grown es m out out' k r (best_offers f (seen_of es out k) (outs_of es m v) t b)
 
-module _ (vs es : List ℕ) (m cap n : ℕ) (x : List ℕ) (link t v : ℕ) (e : Ends) (out : List ℕ) (k : ℕ) (p : BestOffering vs es m cap n x link t v e out k)
-    (s : ℕ) (h : Chosen n x (outs_of es m v) link e s) where
-  pub best-offers-none : s ≡ 0 → BestOffered es m n x link t v e out out k k
+module _ (vs es : List ℕ) (m cap n : ℕ) (x : List ℕ) (link t v : ℕ) (e : Ends) (out : List ℕ) (k : ℕ) (p : BestOffering vs es m cap n x link t v e out k) where
+  pub best-offers-none : Chosen n x (outs_of es m v) link e None → BestOffered es m n x link t v e out out k k
   unfolding best_offers
-  best-offers-none z =
+  best-offers-none h =
       record {
         is = λ f b y l.
             subst (λ (os : List Offer). Grown es m out out k k os)
-            (sym (ap (unseen (seen_of es out k)) (h.is f t b y l ∙ one_none x t s z) ∙ unseen-none (seen_of es out k))) (grown-none es m out k p.few);
+            (sym (ap (unseen (seen_of es out k)) (h.is f t b y l) ∙ unseen-none (seen_of es out k))) (grown-none es m out k p.few);
       }
 
-  module _ (ne : s ≡ 0 → ⊥) where
+  module _ (s : ℕ) (h : Chosen n x (outs_of es m v) link e (Some s)) where
     only : (f : SearchInput) (b : Branches) → f.symbolic ≡ e → Leads n x link b
         → branch_offer (seen_of es out k) (outs_of es m v) e x t s ≡ best_offers f (seen_of es out k) (outs_of es m v) t b
     unfolding best_offers branch_offer
     only f b y l =
-        ap (λ (q : Bool). unseen (seen_of es out k) (cond q (offer_of x t s ∷ []) [])) (h.real ne)
-        ∙ sym (ap (unseen (seen_of es out k)) (h.is f t b y l ∙ one-some x t s ne))
+        ap (λ (q : Bool). unseen (seen_of es out k) (cond q (offer_of x t s ∷ []) [])) h.real
+        ∙ sym (ap (unseen (seen_of es out k)) (h.is f t b y l))
 
     pub best-adds : Adds vs es m x s t v e out k k
     best-adds =

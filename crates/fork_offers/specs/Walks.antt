@@ -1,10 +1,9 @@
 -- The active trees after an edge is taken.
-use Rattle.std.specs.Prelude.{◌≡◌, refl, ◌⊎◌, ℕ, ◌+◌, ◌-◌, ◌^◌, ◌<◌, ◌≤◌, true, false, not, eqb, set}
-use Rattle.std.proofs.Common.{sym, subst, ◌∙◌, inl, inr, eq-eqb, ne_eqb}
+use Rattle.std.specs.Prelude.{◌≡◌, refl, ◌⊎◌, ℕ, zero, suc, ◌+◌, ◌-◌, ◌^◌, ◌<◌, ◌≤◌, true, false, not, eqb, set, Option, Some, None, IfSome, IfNone, is_some}
+use Rattle.std.proofs.Common.{sym, subst, ◌∙◌, inl, inr, ne_eqb}
 use Rattle.std.proofs.Math.Path.{ap}
 use mathlib.Core.List.{List, [], ◌∷◌, ◌++◌, append_assoc}
 use native.Mathlib.Omega.{arith}
-use Rattle.std.proofs.Math.Decide.{ℕ_discrete}
 use Rattle.std.proofs.Math.ListN.{length, get_or, length-set}
 use Rattle.std.proofs.Math.Seq.{get_or-set_same, get_or-set_other}
 use Rattle.definition.specs.Threading.{Ends}
@@ -12,7 +11,8 @@ use Rattle.definition.specs.Evidence.{Branches, bare, has_branch}
 use Rattle.definition.specs.Search.{child, walk_trees}
 use Rattle.threading_node.specs.Slots.{cols, Slot}
 use Rattle.threading_node.specs.Take.{Wide, wide-slot}
-use Rattle.threading_tree.specs.Read.{Leads, Readable, ChildSlot, leads-has}
+use Rattle.threading_node.specs.Links.{slot_at, link_to, link_is}
+use Rattle.threading_tree.specs.Read.{Leads, ChildSlot, leads-has}
 use Rattle.fork_offers.specs.Actives.{Stand, Actives, Active, First, stand-le, stand-kept, stand-more, append-nil, actives-one, actives-end, actives-first}
 
 -- ---- an edge is taken (Rust: traverse_edge_for_all_trees)
@@ -25,62 +25,49 @@ pub record Treed (cap n : ℕ) (x : List ℕ) (s : ℕ) : Type 0 where
   pub room : n ≤ cap
   pub wide : Wide cap x
 
--- by the answer, 0 or the slot of the child of s for the edge e, which has a branch
-pub record WalkedTo (n : ℕ) (x : List ℕ) (s : ℕ) (e : Ends) (r : ℕ) : Type 0 where
-  pub there : (b : Branches) → Leads n x ((cols x).kid s) b → (r ≡ 0 → ⊥) → (r ≤ n) × Leads n x ((cols x).kid r) (child e b) × (has_branch (child e b) ≡ true)
-  pub missing : (b : Branches) → Leads n x ((cols x).kid s) b → r ≡ 0 → has_branch (child e b) ≡ false
+-- by the answer, the slot of the child of s for the edge e, which has a branch
+pub record WalkedTo (n : ℕ) (x : List ℕ) (s : ℕ) (e : Ends) (r : Option ℕ) : Type 0 where
+  pub there : (b : Branches) → Leads n x ((cols x).kid s) b → IfSome r (λ c. (c ≤ n) × Leads n x ((cols x).kid c) (child e b) × (has_branch (child e b) ≡ true))
+  pub missing : (b : Branches) → Leads n x ((cols x).kid s) b → IfNone r (has_branch (child e b) ≡ false)
 
 bare-none : (b : Branches) → b ≡ bare → has_branch b ≡ false
 unfolding has_branch
 bare-none b z = rw z
 
 module _ (cap n : ℕ) (x : List ℕ) (s : ℕ) (p : Treed cap n x s) where
-  pub treed-slot : Slot s x
-  treed-slot = let q = p.live in let r = p.room in wide-slot p.wide s (omega arith)
+  module _ (start : Option ℕ) (k : start ≡ slot_at ((cols x).kid s)) where
+    linked : (b : Branches) → Leads n x ((cols x).kid s) b → Leads n x (link_to start) b
+    linked b h = subst (λ (d : ℕ). Leads n x d b) (sym (ap link_to k ∙ link_is ((cols x).kid s))) h
 
-  module _ (link : ℕ) (k : link ≡ (cols x).kid s) where
-    linked : (b : Branches) → Leads n x ((cols x).kid s) b → Leads n x link b
-    linked b h = subst (λ (d : ℕ). Leads n x d b) (sym k) h
+    module _ (e : Ends) where
+      pub walked_none : ChildSlot n x (link_to start) e None → WalkedTo n x s e None
+      walked_none hc =
+          record { there = λ b h. tt; missing = λ b h. bare-none (child e b) (hc.missing b (linked b h) refl).child }
 
-    pub treed-readable : Readable cap n x link
-    treed-readable = record { branches = p.branches; leads = linked p.branches p.leads; room = p.room; wide = p.wide }
-
-    module _ (e : Ends) (c : ℕ) (hc : ChildSlot n x link e c) where
-      pub walked_none : c ≡ 0 → WalkedTo n x s e 0
-      walked_none z =
-          record { there = λ b h y. absurd (y refl); missing = λ b h y. bare-none (child e b) (hc.missing b (linked b h) z).child }
-
-      module _ (ne : c ≡ 0 → ⊥) where
+      module _ (c : ℕ) (hc : ChildSlot n x (link_to start) e (Some c)) where
         pub walked-slot : Slot c x
         walked-slot =
-            let q = (hc.there p.branches (linked p.branches p.leads) ne).live in
+            let q = (hc.there p.branches (linked p.branches p.leads) c refl).live in
             let r = p.room in
             wide-slot p.wide c (omega arith)
 
-        module _ (l : ℕ) (hl : l ≡ (cols x).kid c) where
-          has : (b : Branches) → Leads n x ((cols x).kid s) b → has_branch (child e b) ≡ not (eqb l 0)
-          has b h = leads-has n x ((cols x).kid c) (child e b) (hc.there b (linked b h) ne).leads ∙ ap (λ (d : ℕ). not (eqb d 0)) (sym hl)
+        module _ (l : Option ℕ) (hl : l ≡ slot_at ((cols x).kid c)) where
+          has : (b : Branches) → Leads n x ((cols x).kid s) b → has_branch (child e b) ≡ is_some l
+          has b h = leads-has n x ((cols x).kid c) (child e b) (hc.there b (linked b h) c refl).leads ∙ told ((cols x).kid c) ∙ sym (ap is_some hl)
+            where
+              told : (i : ℕ) → not (eqb i 0) ≡ is_some (slot_at i)
+              told zero = refl
+              told (suc i) = ap not (ne_eqb (suc i) 0 (λ z. omega arith))
 
-          pub walked-bare : l ≡ 0 → WalkedTo n x s e 0
-          walked-bare z = record { there = λ b h y. absurd (y refl); missing = λ b h y. has b h ∙ ap not (eq-eqb l 0 z) }
+          pub walked-bare : is_some l ≡ false → WalkedTo n x s e None
+          walked-bare z = record { there = λ b h. tt; missing = λ b h. has b h ∙ z }
 
-          pub walked-there : (l ≡ 0 → ⊥) → WalkedTo n x s e c
+          pub walked-there : is_some l ≡ true → WalkedTo n x s e (Some c)
           walked-there z =
               record {
-                there = λ b h y. let q = hc.there b (linked b h) ne in (q.live, q.leads, has b h ∙ ap not (ne_eqb l 0 z));
-                missing = λ b h y. absurd (ne y);
+                there = λ b h. let q = hc.there b (linked b h) c refl in (q.live, q.leads, has b h ∙ z);
+                missing = λ b h. tt;
               }
-
--- a slot that is not 0 is stored at place j, which is then passed
-pub record Stored (a a' : List ℕ) (j s r : ℕ) : Type 0 where
-  pub none : s ≡ 0 → (a' ≡ a) × (r ≡ j)
-  pub some : (s ≡ 0 → ⊥) → (a' ≡ set a j s) × (r ≡ j + 1)
-
-pub stored-none : (a : List ℕ) (j s : ℕ) → s ≡ 0 → Stored a a j s j
-stored-none a j s z = record { none = λ y. (refl, refl); some = λ y. absurd (y z) }
-
-pub stored_some : (a : List ℕ) (j s : ℕ) → (s ≡ 0 → ⊥) → Stored a (set a j s) j s (j + 1)
-stored_some a j s z = record { none = λ y. absurd (z y); some = λ y. (refl, refl) }
 
 -- The trees from `at` to `end` are walked to the places from `to` on, which lie before them or beyond them.
 pub record Walkable (cap n : ℕ) (x a : List ℕ) (at end to : ℕ) : Type 0 where
@@ -181,64 +168,53 @@ module _ (cap n : ℕ) (x a : List ℕ) (at end to : ℕ) (e : Ends) where
             wide = k.rest.stands.wide;
           }
 
-      pub walking-place : j < length a'
-      walking-place =
-          let b = k.behind in
-          let f = k.from in
-          let ro = k.room in
-          omega arith
-
-      module _ (s : ℕ) (hs : s ≡ get_or a' i 0) (c : ℕ) (hc : WalkedTo n x s e c) where
+      module _ (s : ℕ) (hs : s ≡ get_or a' i 0) where
         first : First cap n x a' i end k.rest.branches
         first = actives-first cap n x a' i end k.rest.branches k.rest.stands l
 
         leads : Leads n x ((cols x).kid s) first.head
         leads = subst (λ (d : ℕ). Leads n x ((cols x).kid d) first.head) (sym hs) first.leads
 
-        pub walking-small : c < 2 ^ 16
+        pub walking-drop : WalkedTo n x s e None → Walking cap n x a a' at end to e (i + 1) j
         unfolding first leads
-        walking-small = go (ℕ_discrete c 0)
-          where
-            go : Dec (c ≡ 0) → c < 2 ^ 16
-            go (yes z) = omega arith
-            go (no z) =
-                let q = (hc.there first.head leads z).0 in
-                let r = k.rest.stands.room in
-                let w = k.few in
-                omega arith
+        walking-drop hc =
+            let b = k.behind in
+            let f = k.from in
+            record {
+              rest = record { branches = first.tail; stands = first.rest };
+              done = k.done;
+              made = k.made;
+              run = λ bs h.
+                  ap (λ (d : List Branches). k.done ++ d) (sym (ap (walk_trees e) first.is ∙ walk-drop e first.head first.tail (hc.missing first.head leads)))
+                  ∙ k.run bs h;
+              apart = k.apart;
+              room = k.room;
+              few = k.few;
+              long = k.long;
+              from = omega arith;
+              start = k.start;
+              behind = omega arith;
+              before = k.before;
+              beyond = k.beyond;
+            }
 
-        module _ (a'' : List ℕ) (j' : ℕ) (st : Stored a' a'' j c j') where
-          drop-it : c ≡ 0 → Walking cap n x a a' at end to e (i + 1) j
+        module _ (c : ℕ) (hc : WalkedTo n x s e (Some c)) where
+          pub walking-small : c < 2 ^ 16
           unfolding first leads
-          drop-it z =
-              let b = k.behind in
-              let f = k.from in
-              record {
-                rest = record { branches = first.tail; stands = first.rest };
-                done = k.done;
-                made = k.made;
-                run = λ bs h.
-                    ap (λ (d : List Branches). k.done ++ d) (sym (ap (walk_trees e) first.is ∙ walk-drop e first.head first.tail (hc.missing first.head leads z)))
-                    ∙ k.run bs h;
-                apart = k.apart;
-                room = k.room;
-                few = k.few;
-                long = k.long;
-                from = omega arith;
-                start = k.start;
-                behind = omega arith;
-                before = k.before;
-                beyond = k.beyond;
-              }
+          walking-small =
+              let q = (hc.there first.head leads).0 in
+              let r = k.rest.stands.room in
+              let w = k.few in
+              omega arith
 
-          keep-it : (c ≡ 0 → ⊥) → Walking cap n x a (set a' j c) at end to e (i + 1) (j + 1)
+          pub walking-keep : Walking cap n x a (set a' j c) at end to e (i + 1) (j + 1)
           unfolding first leads
-          keep-it z =
+          walking-keep =
               let b = k.behind in
               let f = k.from in
               let ss = k.start in
               let ro = k.room in
-              let w = hc.there first.head leads z in
+              let w = hc.there first.head leads in
               let len : length (set a' j c) ≡ length a' = length-set a' j c in
               let other : (m : ℕ) → (m ≡ j → ⊥) → get_or (set a' j c) m 0 ≡ get_or a' m 0 = λ m ne. get_or-set_other a' j m c 0 ne in
               let same : get_or (set a' j c) j 0 ≡ c = get_or-set_same a' j c 0 (omega arith) in
@@ -277,10 +253,3 @@ module _ (cap n : ℕ) (x a : List ℕ) (at end to : ℕ) (e : Ends) where
               apart-far : (to ≤ at) ⊎ (end ≤ to) → (m : ℕ) → i + 1 ≤ m → m < end → m ≡ j → ⊥
               apart-far (inl q) m p r y = let b = k.behind in omega arith
               apart-far (inr q) m p r y = let b = k.start in omega arith
-
-          pub walking-next : Walking cap n x a a'' at end to e (i + 1) j'
-          walking-next = go (ℕ_discrete c 0)
-            where
-              go : Dec (c ≡ 0) → Walking cap n x a a'' at end to e (i + 1) j'
-              go (yes z) = let q = st.none z in rw (q.0, q.1) (drop-it z)
-              go (no z) = let q = st.some z in rw (q.0, q.1) (keep-it z)

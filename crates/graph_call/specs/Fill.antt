@@ -1,9 +1,10 @@
 -- The graph and its trees, and then their rows: what each part asks, and what the answer is to the definition. Assumes nothing.
-use Rattle.std.specs.Prelude.{◌≡◌, List, ℕ, ◌+◌, ◌*◌, ◌≤◌}
-use Rattle.std.proofs.Math.Path.{sym, ap}
-use Rattle.std.proofs.Common.{◌∙◌, arith}
-use Rattle.std.proofs.Math.ListN.{length}
-use Rattle.definition.specs.Refusal.{Result, refused}
+use Rattle.std.specs.Prelude.{◌≡◌, List, ℕ, ◌+◌, ◌*◌, ◌≤◌, length, Result, Ok, Err}
+use Rattle.std.proofs.Common.{sym, ap, ◌∙◌, arith}
+use Rattle.refusals.specs.declared.Refusal.{Refusal}
+use Rattle.refusals.specs.Numbers.{number}
+use Rattle.definition.specs.Refusal as definition
+use Rattle.definition.specs.Refusal.{refused}
 use Rattle.definition.specs.Limits.{Sample, GraphMaxima, edge_width}
 use Rattle.definition.specs.Threading.{threaded, with_symbolic}
 use Rattle.definition.specs.Evidence.{nodes, evidence}
@@ -20,9 +21,7 @@ use Rattle.threading_tree.specs.Write.{Writable, Written, held-writable, held-wr
 use Rattle.junction_trees.specs.Roots.{root_of}
 use Rattle.junction_trees.specs.Stretches.{begun}
 use Rattle.graph_work.specs.declared.Raise.{Raise}
-use Rattle.graph_work.specs.declared.Raised.{Raised}
-use Rattle.graph_work.specs.declared.Raised.TheVariants.{Graph, Refused}
-use Rattle.graph_work.specs.Raise.{raise_refusal, Raises, RaisedAt, RaisedOf, raised-built, edges_few, nodes-few}
+use Rattle.graph_work.specs.Raise.{RaisedAt, RaisedOf, raised-built, edges_few, nodes-few}
 use Rattle.graph_call.specs.declared.GraphAnswer.{GraphAnswer}
 use Rattle.graph_call.specs.Lent.{Lent}
 use Rattle.graph_call.specs.Outcome.{outcome, refused_answer}
@@ -42,10 +41,6 @@ pub record Wrote (we wx wo wo' es es' ns ns' : List ℕ) (b : Raise) (r : GraphA
   pub edges : es' ≡ written_at 0 (flat edge_row (edges_of we (b.edges + 1))) es
   pub nodes : Written b.nodes wx wo wo' ns ns'
 
-pub edges-ask : {wv we wx wo es ns : List ℕ} {b : Raise} {cap : ℕ} (vs : List ℕ) → Writes wv we wx wo es ns b cap → vs ≡ linked wv b.sink b.edges
-    → Orders vs we es (b.edges + 1) × ((b.edges + 1) * edge_width ≤ length es)
-edges-ask vs w e = rw e (w.orders, w.long)
-
 -- ---- the whole
 
 same_outcome : (a a' b b' : ℕ) (x x' y y' : List ℕ) → a ≡ a' → b ≡ b' → x ≡ x' → y ≡ y'
@@ -53,20 +48,14 @@ same_outcome : (a a' b b' : ℕ) (x x' y y' : List ℕ) → a ≡ a' → b ≡ b
 same_outcome a a' b b' x x' y y' p q r s = λ i. record { refusal = 0; edges = p i; nodes = q i; edge_slice = r i; node_slice = s i }
 
 module _ {s : Sample} {m : GraphMaxima} {es ns wv we wi wx wo : List ℕ} (x : Lent s m es ns wv we wi wx wo) where
-  pub fill-raises : Raises s m wv we wi wx wo
-  fill-raises =
-      let o = x.w-open in
-      record { rules = x.rules; maxima = x.maxima; vertices = x.w-vertices; edges = x.w-edges; index = x.w-index; nodes = x.w-nodes; opened = omega arith }
-
-  module _ (vs es₁ xs os : List ℕ) (r : Raised) (h : RaisedOf s m vs es₁ xs os r) where
-    pub fill-refused : (n : ℕ) → r ≡ Refused n → (k : ℕ) → k ≡ raise_refusal r → (a : GraphAnswer) → a ≡ refused_answer k → outcome a es ns ≡ graph_of (built s m) es ns
+  module _ (vs es₁ xs os : List ℕ) (r : Result Raise Refusal) (h : RaisedOf s m vs es₁ xs os r) where
+    pub fill-refused : (e : Refusal) → r ≡ Err e → (a : GraphAnswer) → a ≡ refused_answer (number e) → outcome a es ns ≡ graph_of (built s m) es ns
     unfolding graph_of
-    fill-refused n d k e a f =
-        let o : built s m ≡ refused n = rw d at h in
-        let z : a ≡ refused_answer n = f ∙ ap refused_answer (e ∙ ap raise_refusal d) in
-        ap (λ (q : GraphAnswer). outcome q es ns) z ∙ sym (ap (λ (q : Result Built). graph_of q es ns) o)
+    fill-refused e d a f =
+        let o : built s m ≡ refused (number e) = rw d at h in
+        ap (λ (q : GraphAnswer). outcome q es ns) f ∙ sym (ap (λ (q : definition.Result Built). graph_of q es ns) o)
 
-    module _ (b : Raise) (d : r ≡ Graph b) (lv : length vs ≡ length wv) (le : length es₁ ≡ length we) (lo : length os ≡ length wo) where
+    module _ (b : Raise) (d : r ≡ Ok b) (lv : length vs ≡ length wv) (le : length es₁ ≡ length we) (lo : length os ≡ length wo) where
       raised : RaisedAt s m vs es₁ xs os b
       raised = rw d at h
 
@@ -110,4 +99,4 @@ module _ {s : Sample} {m : GraphMaxima} {es ns wv we wi wx wo : List ℕ} (x : L
           let q : ns₃ ≡ written_at 0 (flat node_row (nodes (evidence s (threaded s)))) ns
           = held-written (begun (evidence s (threaded s))) m.nodes b.nodes 0 there.bound (root_of vs) xs os there.held os ns os₃ ns₃ w.nodes in
           ap (λ (q : GraphAnswer). outcome q es₃ ns₃) w.answer
-          ∙ same_outcome (b.edges + 1) _ b.nodes _ es₃ _ ns₃ _ (sym edges-many) (sym there.count) p q ∙ sym (ap (λ (o : Result Built). graph_of o es ns) (raised-built raised))
+          ∙ same_outcome (b.edges + 1) _ b.nodes _ es₃ _ ns₃ _ (sym edges-many) (sym there.count) p q ∙ sym (ap (λ (o : definition.Result Built). graph_of o es ns) (raised-built raised))

@@ -1,12 +1,9 @@
 -- The whole call for edges and trees: refused by the rules with nothing touched, or the work over the parts told. Assumes nothing.
-use Rattle.std.specs.Prelude.{◌≡◌, false, List, [], ◌∷◌, ◌++◌, length, take, drop}
-use Rattle.std.proofs.Math.Path.{refl, ap}
-use Rattle.std.proofs.Common.{sym, subst, ◌∙◌}
-use Rattle.std.proofs.Math.Bool.{true}
-use Prim.Native.Nat.{ℕ, zero, suc, ◌<◌, ◌≤◌}
-use native.Mathlib.Omega.{arith}
+use Rattle.std.specs.Prelude.{◌≡◌, refl, true, false, List, [], ◌∷◌, ◌++◌, ℕ, zero, suc, ◌<◌, ◌≤◌, length, take, drop}
+use Rattle.std.proofs.Common.{sym, ap, subst, ◌∙◌, arith, length-take-le}
 use Rattle.std.proofs.Math.Decide.{dec_lt}
-use Rattle.std.proofs.Math.Seq.{length-take-le}
+use Rattle.refusals.specs.declared.Refusal.{Refusal}
+use Rattle.refusals.specs.Numbers.{number, number-positive}
 use Rattle.definition.specs.Refusal.{keeps_workspace, Rule, first_broken}
 use Rattle.definition.specs.Limits.{Sample, GraphMaxima, sample_rules, graph_rules, graph_maxima_fit, is_long_enough}
 use Rattle.definition.specs.Building.{built}
@@ -16,7 +13,6 @@ use Rattle.limits.specs.Rules.{rule, Numbered, none-broken, first-broken, first-
 use Rattle.slice_lengths.specs.Workspaces.{vertex_table, edge_table, kmer_index, node_table, open_trees}
 use Rattle.slice_lengths.specs.declared.Workspace.{Workspace}
 use Rattle.slice_lengths.specs.declared.LengthsTold.{LengthsTold}
-use Rattle.slice_lengths.specs.Bounds.{k-most}
 use Rattle.slice_lengths.specs.Lengths.{graph_workspace_told, accepted_lengths}
 use Rattle.graph_work.specs.Clear.{zeros}
 use Rattle.graph_call.specs.declared.GraphAnswer.{GraphAnswer}
@@ -32,7 +28,7 @@ first_part xs ys d e = go (dec_lt 0 (first_broken xs))
   where
     go : Dec (0 < first_broken xs) → (first_broken xs ≡ 0) × (first_broken ys ≡ 0)
     go (yes h) = absurd (let z = first-broken xs ys (first_broken xs) refl h in omega arith)
-    go (no h) = (omega arith, first-hold xs ys (first_broken xs) d refl (omega arith) ∙ e)
+    go (no h) = (omega arith, first-hold xs ys d (omega arith) ∙ e)
 
 module _ (s : Sample) (m : GraphMaxima) (es ns wv we wi wx wo : List ℕ) where
   abbrev lent : List ℕ
@@ -52,95 +48,87 @@ module _ (s : Sample) (m : GraphMaxima) (es ns wv we wi wx wo : List ℕ) where
       let b = none-broken (rule 5 (graph_maxima_fit m) ∷ rule 7 (is_long_enough (told_of m) lent) ∷ []) (omega arith, (omega arith, tt)) a.1 in
       record { sample = a.0; maxima = b.0; long = long_of m (length es) (length ns) (length wv) (length we) (length wi) (length wx) (length wo) b.1.0 }
 
-  module _ (n : ℕ) (e : n ≡ first_broken rules) where
-    -- ---- refused by a rule
-    unchanged : 0 < n → (told : ℕ) (w : List ℕ) → w ≡ workspace_after 0 n told w
+  -- ---- refused by a rule
+  module _ (c : Refusal) (e : number c ≡ first_broken rules) where
+    unchanged : (told : ℕ) (w : List ℕ) → w ≡ workspace_after 0 (number c) told w
     unfolding workspace_after
-    unchanged h told w =
-        let k : keeps_workspace n ≡ true = ap keeps_workspace e ∙ graph-keeps s m (told_of m) lent (omega arith) in
+    unchanged told w =
+        let l = number-positive c in
+        let k : keeps_workspace (number c) ≡ true = ap keeps_workspace e ∙ graph-keeps s m (told_of m) lent (omega arith) in
         rw (k, workspace_after)
 
-    refused-is : 0 < n → outcome (refused_answer n) es ns ≡ graph_call s m (graph_workspace_told m) (length wv ∷ length we ∷ length wi ∷ length wx ∷ length wo ∷ []) es ns
+    refused-is : outcome (refused_answer (number c)) es ns ≡ graph_call s m (graph_workspace_told m) (length wv ∷ length we ∷ length wi ∷ length wx ∷ length wo ∷ []) es ns
     unfolding graph_call graph_of after_graph_checks
-    refused-is h = go n refl h ∙ ap (λ (k : ℕ). graph_of (after_graph_checks s m k) es ns) e
+    refused-is = go (number c) refl (number-positive c) ∙ ap (λ (k : ℕ). graph_of (after_graph_checks s m k) es ns) e
       where
-        go : (k : ℕ) → n ≡ k → 0 < k → outcome (refused_answer n) es ns ≡ graph_of (after_graph_checks s m n) es ns
+        go : (k : ℕ) → number c ≡ k → 0 < k → outcome (refused_answer (number c)) es ns ≡ graph_of (after_graph_checks s m (number c)) es ns
         go zero f l = absurd (omega arith)
         go (suc k) f l = rw f
 
-    pub graph-refused : 0 < n → (a : GraphAnswer) → a ≡ refused_answer n → Graphed s m a es es ns ns wv wv we we wi wi wx wx wo wo
-    graph-refused h a f =
+    pub graph-refused : (a : GraphAnswer) → a ≡ refused_answer (number c) → Graphed s m a es es ns ns wv wv we we wi wi wx wx wo wo
+    graph-refused a f =
         rw f (record {
-          is = refused-is h;
-          w-vertices = unchanged h (vertex_table m) wv;
-          w-edges = unchanged h (edge_table m) we;
-          w-index = unchanged h (kmer_index m) wi;
-          w-nodes = unchanged h (node_table m) wx;
-          w-open = unchanged h (open_trees m) wo;
+          is = refused-is;
+          w-vertices = unchanged (vertex_table m) wv;
+          w-edges = unchanged (edge_table m) we;
+          w-index = unchanged (kmer_index m) wi;
+          w-nodes = unchanged (node_table m) wx;
+          w-open = unchanged (open_trees m) wo;
         })
 
-    -- ---- not refused
-    module _ (h : n ≤ 0) where
-      zero-n : first_broken rules ≡ 0
-      zero-n = omega arith
+  -- ---- not refused
+  module _ (e : 0 ≡ first_broken rules) where
+    work-is : graph_of (built s m) es ns ≡ graph_call s m (graph_workspace_told m) (length wv ∷ length we ∷ length wi ∷ length wx ∷ length wo ∷ []) es ns
+    unfolding graph_call after_graph_checks
+    work-is = ap (λ (k : ℕ). graph_of (after_graph_checks s m k) es ns) e
 
-      pub graph-within : (s.k ≤ 128) × (graph_maxima_fit m ≡ true)
-      unfolding sample_rules
-      graph-within =
-          let x = held zero-n in
-          (k-most s.k (none-broken (sample_rules s) (omega arith, (omega arith, (omega arith, (omega arith, tt)))) x.sample).0, x.maxima)
+    -- t is what the code was told
+    module _ (t : LengthsTold) (q : t ≡ told_for s.k m) where
+      at_told : (P : Workspace → Type 0) → P (told_for s.k m).workspace → P t.workspace
+      at_told P = subst (λ (u : LengthsTold). P u.workspace) (sym q)
 
-      work-is : graph_of (built s m) es ns ≡ graph_call s m (graph_workspace_told m) (length wv ∷ length we ∷ length wi ∷ length wx ∷ length wo ∷ []) es ns
-      unfolding graph_call after_graph_checks
-      work-is = ap (λ (k : ℕ). graph_of (after_graph_checks s m k) es ns) (sym zero-n)
+      pub graph-room : Room t.workspace wv we wi wx wo
+      unfolding accepted_lengths
+      graph-room =
+          let x = (held (sym e)).long in
+          at_told (λ u. Room u wv we wi wx wo)
+          (record { vertices = x.w-vertices; edges = x.w-edges; index = x.w-index; nodes = x.w-nodes; «open» = x.w-open })
 
-      -- t is what the code was told
-      module _ (t : LengthsTold) (q : t ≡ told_for s.k m) where
-        at_told : (P : Workspace → Type 0) → P (told_for s.k m).workspace → P t.workspace
-        at_told P = subst (λ (u : LengthsTold). P u.workspace) (sym q)
+      pub graph-lent : Lent s m es ns (take t.workspace.vertices wv) (take t.workspace.edges we) (take t.workspace.index wi) (take t.workspace.nodes wx) (take t.workspace.«open» wo)
+      unfolding accepted_lengths
+      graph-lent =
+          let x = held (sym e) in
+          at_told (λ u. Lent s m es ns (take u.vertices wv) (take u.edges we) (take u.index wi) (take u.nodes wx) (take u.«open» wo))
+          (record {
+            rules = x.sample;
+            maxima = x.maxima;
+            edges = x.long.edges;
+            nodes = x.long.nodes;
+            w-vertices = length-take-le (vertex_table m) wv x.long.w-vertices;
+            w-edges = length-take-le (edge_table m) we x.long.w-edges;
+            w-index = length-take-le (kmer_index m) wi x.long.w-index;
+            w-nodes = length-take-le (node_table m) wx x.long.w-nodes;
+            w-open = length-take-le (open_trees m) wo x.long.w-open;
+          })
 
-        pub graph-room : Room t.workspace wv we wi wx wo
+      module _ (r : GraphAnswer) (es' ns' pv pe pi px po : List ℕ)
+          (x : Made s m r es es' ns ns' (take t.workspace.vertices wv) pv (take t.workspace.edges we) pe (take t.workspace.index wi) pi (take t.workspace.nodes wx) px (take t.workspace.«open» wo) po) where
+        not-kept : keeps_workspace r.refusal ≡ false
+        not-kept = ap (λ (o : GraphOutcome). keeps_workspace o.refusal) x.is ∙ graph-late s m es ns
+
+        after : (told n : ℕ) (w p : List ℕ) → n ≤ length w → p ≡ zeros (length (take n w)) → n ≡ told → p ++ drop n w ≡ workspace_after 0 r.refusal told w
+        unfolding workspace_after
+        after told n w p l z e = cleared-part n w p l z ∙ ap (λ (k : ℕ). written_at 0 (zeros k) w) e ∙ rw (not-kept, workspace_after)
+
+        pub graph-made : Graphed s m r es es' ns ns' wv (pv ++ drop t.workspace.vertices wv) we (pe ++ drop t.workspace.edges we) wi (pi ++ drop t.workspace.index wi) wx (px ++ drop t.workspace.nodes wx) wo (po ++ drop t.workspace.«open» wo)
         unfolding accepted_lengths
-        graph-room =
-            let x = (held zero-n).long in
-            at_told (λ u. Room u wv we wi wx wo)
-            (record { vertices = x.w-vertices; edges = x.w-edges; index = x.w-index; nodes = x.w-nodes; «open» = x.w-open })
-
-        pub graph-lent : Lent s m es ns (take t.workspace.vertices wv) (take t.workspace.edges we) (take t.workspace.index wi) (take t.workspace.nodes wx) (take t.workspace.«open» wo)
-        unfolding accepted_lengths
-        graph-lent =
-            let x = held zero-n in
-            at_told (λ u. Lent s m es ns (take u.vertices wv) (take u.edges we) (take u.index wi) (take u.nodes wx) (take u.«open» wo))
-            (record {
-              rules = x.sample;
-              maxima = x.maxima;
-              edges = x.long.edges;
-              nodes = x.long.nodes;
-              w-vertices = length-take-le (vertex_table m) wv x.long.w-vertices;
-              w-edges = length-take-le (edge_table m) we x.long.w-edges;
-              w-index = length-take-le (kmer_index m) wi x.long.w-index;
-              w-nodes = length-take-le (node_table m) wx x.long.w-nodes;
-              w-open = length-take-le (open_trees m) wo x.long.w-open;
-            })
-
-        module _ (r : GraphAnswer) (es' ns' pv pe pi px po : List ℕ)
-            (x : Made s m r es es' ns ns' (take t.workspace.vertices wv) pv (take t.workspace.edges we) pe (take t.workspace.index wi) pi (take t.workspace.nodes wx) px (take t.workspace.«open» wo) po) where
-          number : keeps_workspace r.refusal ≡ false
-          number = ap (λ (o : GraphOutcome). keeps_workspace o.refusal) x.is ∙ graph-late s m es ns
-
-          after : (told n : ℕ) (w p : List ℕ) → n ≤ length w → p ≡ zeros (length (take n w)) → n ≡ told → p ++ drop n w ≡ workspace_after 0 r.refusal told w
-          unfolding workspace_after
-          after told n w p l z e = cleared-part n w p l z ∙ ap (λ (k : ℕ). written_at 0 (zeros k) w) e ∙ (rw (number, workspace_after))
-
-          pub graph-made : Graphed s m r es es' ns ns' wv (pv ++ drop t.workspace.vertices wv) we (pe ++ drop t.workspace.edges we) wi (pi ++ drop t.workspace.index wi) wx (px ++ drop t.workspace.nodes wx) wo (po ++ drop t.workspace.«open» wo)
-          unfolding accepted_lengths
-          graph-made =
-              let y = graph-room in
-              record {
-                is = x.is ∙ work-is;
-                w-vertices = after (vertex_table m) t.workspace.vertices wv pv y.vertices x.w-vertices (ap (λ (u : LengthsTold). u.workspace.vertices) q);
-                w-edges = after (edge_table m) t.workspace.edges we pe y.edges x.w-edges (ap (λ (u : LengthsTold). u.workspace.edges) q);
-                w-index = after (kmer_index m) t.workspace.index wi pi y.index x.w-index (ap (λ (u : LengthsTold). u.workspace.index) q);
-                w-nodes = after (node_table m) t.workspace.nodes wx px y.nodes x.w-nodes (ap (λ (u : LengthsTold). u.workspace.nodes) q);
-                w-open = after (open_trees m) t.workspace.«open» wo po y.«open» x.w-open (ap (λ (u : LengthsTold). u.workspace.«open») q);
-              }
+        graph-made =
+            let y = graph-room in
+            record {
+              is = x.is ∙ work-is;
+              w-vertices = after (vertex_table m) t.workspace.vertices wv pv y.vertices x.w-vertices (ap (λ (u : LengthsTold). u.workspace.vertices) q);
+              w-edges = after (edge_table m) t.workspace.edges we pe y.edges x.w-edges (ap (λ (u : LengthsTold). u.workspace.edges) q);
+              w-index = after (kmer_index m) t.workspace.index wi pi y.index x.w-index (ap (λ (u : LengthsTold). u.workspace.index) q);
+              w-nodes = after (node_table m) t.workspace.nodes wx px y.nodes x.w-nodes (ap (λ (u : LengthsTold). u.workspace.nodes) q);
+              w-open = after (open_trees m) t.workspace.«open» wo po y.«open» x.w-open (ap (λ (u : LengthsTold). u.workspace.«open») q);
+            }

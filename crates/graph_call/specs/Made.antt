@@ -1,6 +1,5 @@
 -- The work, and the clearing after it. Assumes nothing.
 use Rattle.std.specs.Prelude.{◌≡◌, List, ℕ, length}
-use Rattle.std.proofs.Common.{ap, ◌∙◌}
 use Rattle.definition.specs.Limits.{Sample, GraphMaxima}
 use Rattle.definition.specs.Building.{built}
 use Rattle.definition.specs.Calls.{graph_of}
@@ -15,7 +14,3 @@ pub record Made (s : Sample) (m : GraphMaxima) (r : GraphAnswer) (es es' ns ns' 
   pub w-index : wi' ≡ zeros (length wi)
   pub w-nodes : wx' ≡ zeros (length wx)
   pub w-open : wo' ≡ zeros (length wo)
-
--- cleared after the work: only the lengths matter
-pub cleared-after : (n n₁ : ℕ) (w : List ℕ) → n₁ ≡ n → w ≡ zeros n₁ → w ≡ zeros n
-cleared-after n n₁ w a e = e ∙ ap zeros a

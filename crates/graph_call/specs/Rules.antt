@@ -1,8 +1,6 @@
 -- 1 to 5 and 7 of the call for edges and trees: the rules 1 to 5 first, then 7, once the maxima are known to be within the limits. Assumes nothing.
-use Rattle.std.specs.Prelude.{◌≡◌, refl, Bool, true, false, ℕ, ◌<◌, ◌≤◌}
-use Rattle.std.proofs.Common.{sym, ap, ◌∙◌}
-use mathlib.Core.List.{List, [], ◌∷◌, ◌++◌}
-use native.Mathlib.Omega.{arith}
+use Rattle.std.specs.Prelude.{◌≡◌, refl, Bool, true, false, List, [], ◌∷◌, ◌++◌, ℕ, ◌<◌, ◌≤◌}
+use Rattle.std.proofs.Common.{sym, ap, ◌∙◌, arith}
 use Rattle.definition.specs.Refusal.{Rule, first_broken}
 use Rattle.definition.specs.Limits.{Sample, GraphMaxima, graph_maxima_fit, is_long_enough, sample_rules, graph_rules}
 use Rattle.slice_lengths.specs.Bounds.{k-most}
@@ -24,21 +22,21 @@ late_is : (s : Sample) (m : GraphMaxima) (told lent : List ℕ) → graph_rules 
 unfolding early graph_rules sample_rules
 late_is s m told lent = refl
 
--- n is what the code's check answered where 7 is taken to hold
-module _ (s : Sample) (m : GraphMaxima) (n : ℕ) (h : n ≡ first_broken (graph_rules s m [] [])) where
-  early-is : n ≡ first_broken (early s m ++ (rule 7 true ∷ []))
-  early-is = h ∙ ap first_broken (late_is s m [] []) ∙ ap (λ (b : Bool). first_broken (early s m ++ (rule 7 b ∷ []))) (sym none-short)
+module _ (s : Sample) (m : GraphMaxima) where
+  -- n is what the code's check answered where 7 is taken to hold
+  early-is : (n : ℕ) → n ≡ first_broken (graph_rules s m [] []) → n ≡ first_broken (early s m ++ (rule 7 true ∷ []))
+  early-is n h = h ∙ ap first_broken (late_is s m [] []) ∙ ap (λ (b : Bool). first_broken (early s m ++ (rule 7 b ∷ []))) (sym none-short)
 
-  pub early-refused : (told lent : List ℕ) → 0 < n → n ≡ first_broken (graph_rules s m told lent)
-  early-refused told lent l =
-      last-untested (early s m) (early-numbered s m) 7 n early-is l (is_long_enough told lent) ∙ ap first_broken (sym (late_is s m told lent))
+  pub early-refused : (n : ℕ) → n ≡ first_broken (graph_rules s m [] []) → 0 < n → (told lent : List ℕ) → n ≡ first_broken (graph_rules s m told lent)
+  early-refused n h l told lent =
+      last-untested (early s m) (early-numbered s m) 7 n (early-is n h) l (is_long_enough told lent) ∙ ap first_broken (sym (late_is s m told lent))
 
-  module _ (l : n ≤ 0) where
+  -- it refused nothing
+  module _ (h : 0 ≡ first_broken (graph_rules s m [] [])) where
     pub within-limits : (s.k ≤ 128) × (graph_maxima_fit m ≡ true)
     unfolding graph_rules sample_rules
     within-limits =
-        let z : first_broken (graph_rules s m [] []) ≡ 0 = omega arith in
-        let p = none-broken (graph_rules s m [] []) (omega arith, (omega arith, (omega arith, (omega arith, (omega arith, (omega arith, tt)))))) z in
+        let p = none-broken (graph_rules s m [] []) (omega arith, (omega arith, (omega arith, (omega arith, (omega arith, (omega arith, tt)))))) (sym h) in
         (k-most s.k p.0, p.1.1.1.1.0)
 
     -- t is what the code was told
@@ -48,10 +46,10 @@ module _ (s : Sample) (m : GraphMaxima) (n : ℕ) (h : n ≡ first_broken (graph
 
       pub late-refused : is_long_enough (graph_slices t) lent ≡ false → 7 ≡ first_broken (graph_rules s m (told_of m) lent)
       late-refused f =
-          last-broken (early s m) (early-numbered s m) 7 n early-is l (is_long_enough (told_of m) lent) (told_is ∙ f)
+          last-broken (early s m) (early-numbered s m) 7 0 (early-is 0 h) (omega arith) (is_long_enough (told_of m) lent) (told_is ∙ f)
           ∙ ap first_broken (sym (late_is s m (told_of m) lent))
 
       pub late-accepted : is_long_enough (graph_slices t) lent ≡ true → 0 ≡ first_broken (graph_rules s m (told_of m) lent)
       late-accepted f =
-          last-holds (early s m) (early-numbered s m) 7 n early-is l (is_long_enough (told_of m) lent) (told_is ∙ f)
+          last-holds (early s m) (early-numbered s m) 7 0 (early-is 0 h) (omega arith) (is_long_enough (told_of m) lent) (told_is ∙ f)
           ∙ ap first_broken (sym (late_is s m (told_of m) lent))

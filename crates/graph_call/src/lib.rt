@@ -1,12 +1,14 @@
 // The call for edges and trees: checks, build, trees, the rows, and clearing.
 #![tactic(auto)]
 
-ghost use Rattle.std.specs.Prelude.{◌≡◌, true, ℕ, ◌≤◌};
+ghost use Rattle.std.specs.Prelude.{◌≡◌, true, ◌≤◌, IfOk};
 ghost use Rattle.definition.specs.Refusal.{first_broken};
 ghost use Rattle.definition.specs.Limits.{is_long_enough, graph_maxima_fit, graph_rules};
 ghost use Rattle.definition.specs.Building.{built};
 ghost use Rattle.definition.specs.Calls.{graph_of};
-ghost use Rattle.limits.specs.Handed.{sample_of, graph_maxima_of};
+ghost use Rattle.refusals.specs.Numbers.{number, refusal_of};
+ghost use Rattle.samples.specs.Handed.{sample_of};
+ghost use Rattle.limits.specs.Handed.{graph_maxima_of};
 ghost use Rattle.slice_lengths.specs.Lengths.{graph_slices};
 ghost use Rattle.graph_call.specs.Lent.{told_for, told_of, lent_of, Lent};
 ghost use Rattle.graph_call.specs.Outcome.{outcome, refused_answer, Graphed};
@@ -15,16 +17,18 @@ ghost use Rattle.graph_call.specs.Fill.{Writes, Wrote};
 ghost use Rattle.graph_call.specs.Made.{Made};
 
 use assembly::link_symbolic_edge;
-use graph_rows::{clear, write_edges};
-use graph_work::{Raise, Raised, raise_graph, raise_refusal};
+use graph_rows::write_edges;
+use graph_work::{Raise, raise_graph};
 use limits::{GraphMaxima, SearchMaxima, check_graph};
-use refusals::SHORT_SLICE;
+use out_edges::Graph;
+use refusals::Refusal;
+use samples::Sample;
 use slice_lengths::{LengthsTold, lengths_within};
-use threading_tree::write_nodes;
+use threading_tree::Trees;
 
-// The answer of `graph`: a refusal, or how many rows of edges and of nodes were written.
+// The answer of `graph`, for C: the number of a refusal, or 0 and how many rows of edges and of nodes were written.
 #[repr(C)]
-#[derive(Clone, Copy)]
+#[derive(Clone, Copy, Default)]
 pub struct GraphAnswer {
     pub refusal: u32,
     pub edges: u32,
@@ -61,69 +65,40 @@ fn lent_fits(told: LengthsTold, l: GraphLent) -> bool
     ensures { result ≡ is_long_enough (graph_slices told) (lent_of l) }
 {
     let tables = told.workspace;
-    if l.edge_rows < told.edges {
-        return false;
-    }
-    if l.node_rows < told.nodes {
-        return false;
-    }
-    if l.vertices < tables.vertices {
-        return false;
-    }
-    if l.edges < tables.edges {
-        return false;
-    }
-    if l.index < tables.index {
-        return false;
-    }
-    if l.nodes < tables.nodes {
-        return false;
-    }
-    if l.open < tables.open {
-        return false;
-    }
-    true
+    told.edges <= l.edge_rows
+        && told.nodes <= l.node_rows
+        && tables.vertices <= l.vertices
+        && tables.edges <= l.edges
+        && tables.index <= l.index
+        && tables.nodes <= l.nodes
+        && tables.open <= l.open
 }
 
-// 1 to 5 and 7; the lengths told are known once the maxima are.
-fn check(
-    k: u32,
-    reference: &[u8],
-    ends: &[u32],
-    bases: &[u8],
-    qualities: &[u8],
-    g: GraphMaxima,
-    l: GraphLent,
-) -> u32
-    ensures { (quality : ℕ)
-        → result ≡ first_broken (graph_rules
-        (sample_of k quality reference.now ends.now bases.now qualities.now)
+// 1 to 5 and 7; the lengths told are known once the maxima are, and are what is answered where nothing is refused.
+fn check(sample: Sample, g: GraphMaxima, l: GraphLent) -> Result<LengthsTold, Refusal>
+    ensures refusal { refusal_of result ≡ first_broken (graph_rules (sample_of sample.entry)
         (graph_maxima_of g) (told_of (graph_maxima_of g)) (lent_of l)) }
+    ensures told { IfOk result (λ t. t ≡ told_for sample.entry.k (graph_maxima_of g)) }
 {
-    let refusal = check_graph(k, reference, ends, bases, qualities, g, true);
-    if refusal > 0 {
-        return refusal;
+    check_graph(sample, g, true)?;
+    let told = told_for(sample.k, g);
+    if !lent_fits(told, l) {
+        return Err(Refusal::ShortSlice);
     }
-    let told = told_for(k, g);
-    let fits = lent_fits(told, l);
-    if !fits {
-        return SHORT_SLICE;
-    }
-    0
+    Ok(told)
 }
 
 // A refused answer holds 0 in every other field.
-fn refused(number: u32) -> GraphAnswer
-    ensures { result ≡ refused_answer number }
+fn refused(refusal: Refusal) -> GraphAnswer
+    ensures { result ≡ refused_answer (number refusal) }
 {
     GraphAnswer {
-        refusal: number,
-        edges: 0,
-        nodes: 0,
+        refusal: u32::from(refusal),
+        ..GraphAnswer::default()
     }
 }
 
-// ---- the work; w_v, w_e and w_n are the workspace's tables of vertices, edges and nodes, w_i its index of kmers, and w_o its open trees
+// ---- the work; each slice of the workspace is a `&mut` of its own, since a struct of them would need a clause in each contract on which slice it lends
 
 // All of the workspace becomes 0.
 fn clear_all(
@@ -135,11 +110,11 @@ fn clear_all(
 )
     ensures { Zeroed w_vertices.old w_vertices.new w_edges.old w_edges.new w_index.old w_index.new w_nodes.old w_nodes.new w_open.old w_open.new }
 {
-    clear(w_vertices, w_vertices.len());
-    clear(w_edges, w_edges.len());
-    clear(w_index, w_index.len());
-    clear(w_nodes, w_nodes.len());
-    clear(w_open, w_open.len());
+    w_vertices.fill(0);
+    w_edges.fill(0);
+    w_index.fill(0);
+    w_nodes.fill(0);
+    w_open.fill(0);
 }
 
 // The rows of edges and nodes, and how many; nothing can be refused any more.
@@ -157,8 +132,18 @@ fn write_rows(
     ensures { Wrote w_edges.now w_nodes.now w_open.old w_open.new edges.old edges.new nodes.old nodes.new b result }
 {
     link_symbolic_edge(w_vertices, b.sink, b.edges);
-    write_edges(w_vertices, w_edges, b.edges + 1, edges);
-    write_nodes(w_nodes, w_open, nodes, b.nodes, cap);
+    let graph = Graph {
+        vertices: w_vertices,
+        edges: w_edges,
+        count: b.edges + 1,
+    };
+    write_edges(graph, edges);
+    let trees = Trees {
+        nodes: w_nodes,
+        count: b.nodes,
+        cap,
+    };
+    trees.write_nodes(w_open, nodes);
     GraphAnswer {
         refusal: 0,
         edges: (b.edges + 1) as u32,
@@ -168,12 +153,7 @@ fn write_rows(
 
 // The graph and its trees, whatever the workspace holds; the output is written once both are known to fit.
 fn fill(
-    k: u32,
-    quality: u8,
-    reference: &[u8],
-    ends: &[u32],
-    bases: &[u8],
-    qualities: &[u8],
+    sample: Sample,
     maxima: GraphMaxima,
     edges: &mut [u32],
     nodes: &mut [u32],
@@ -183,28 +163,22 @@ fn fill(
     w_nodes: &mut [u32],
     w_open: &mut [u32],
 ) -> GraphAnswer
-    requires { Lent (sample_of k quality reference.now ends.now bases.now qualities.now) (graph_maxima_of maxima) edges.old nodes.old w_vertices.old w_edges.old w_index.old w_nodes.old w_open.old }
-    ensures { outcome result edges.new nodes.new ≡ graph_of (built (sample_of k quality reference.now ends.now bases.now qualities.now) (graph_maxima_of maxima)) edges.old nodes.old }
+    requires { Lent (sample_of sample) (graph_maxima_of maxima) edges.old nodes.old w_vertices.old w_edges.old w_index.old w_nodes.old w_open.old }
+    ensures { outcome result edges.new nodes.new ≡ graph_of (built (sample_of sample.entry) (graph_maxima_of maxima)) edges.old nodes.old }
 {
     let cap = maxima.nodes as usize;
     let r = raise_graph(
-        k, quality, reference, ends, bases, qualities, maxima, w_vertices, w_edges, w_index,
-        w_nodes, w_open,
+        sample, maxima, w_vertices, w_edges, w_index, w_nodes, w_open,
     );
-    let Raised::Graph(b) = r else {
-        return refused(raise_refusal(r));
+    let Ok(b) = r else {
+        return refused(r.unwrap_err());
     };
     write_rows(w_vertices, w_edges, w_nodes, w_open, edges, nodes, b, cap)
 }
 
 // The whole work over a workspace of just the lengths told: it may hold anything before, and is zero after.
 fn make_graph(
-    k: u32,
-    quality: u8,
-    reference: &[u8],
-    ends: &[u32],
-    bases: &[u8],
-    qualities: &[u8],
+    sample: Sample,
     maxima: GraphMaxima,
     edges: &mut [u32],
     nodes: &mut [u32],
@@ -214,13 +188,11 @@ fn make_graph(
     w_nodes: &mut [u32],
     w_open: &mut [u32],
 ) -> GraphAnswer
-    requires { Lent (sample_of k quality reference.now ends.now bases.now qualities.now) (graph_maxima_of maxima) edges.old nodes.old w_vertices.old w_edges.old w_index.old w_nodes.old w_open.old }
-    ensures { let sample = sample_of k quality reference.now ends.now bases.now qualities.now in
-        Made sample (graph_maxima_of maxima) result edges.old edges.new nodes.old nodes.new w_vertices.old w_vertices.new w_edges.old w_edges.new w_index.old w_index.new w_nodes.old w_nodes.new w_open.old w_open.new }
+    requires { Lent (sample_of sample) (graph_maxima_of maxima) edges.old nodes.old w_vertices.old w_edges.old w_index.old w_nodes.old w_open.old }
+    ensures { Made (sample_of sample.entry) (graph_maxima_of maxima) result edges.old edges.new nodes.old nodes.new w_vertices.old w_vertices.new w_edges.old w_edges.new w_index.old w_index.new w_nodes.old w_nodes.new w_open.old w_open.new }
 {
     let r = fill(
-        k, quality, reference, ends, bases, qualities, maxima, edges, nodes, w_vertices, w_edges,
-        w_index, w_nodes, w_open,
+        sample, maxima, edges, nodes, w_vertices, w_edges, w_index, w_nodes, w_open,
     );
     clear_all(w_vertices, w_edges, w_index, w_nodes, w_open);
     r
@@ -230,12 +202,7 @@ fn make_graph(
 
 // Refused with nothing touched, or the work over just the part of each workspace slice that is told.
 pub fn graph(
-    k: u32,
-    quality: u8,
-    reference: &[u8],
-    ends: &[u32],
-    bases: &[u8],
-    qualities: &[u8],
+    sample: Sample,
     maxima: GraphMaxima,
     edges: &mut [u32],
     nodes: &mut [u32],
@@ -245,8 +212,7 @@ pub fn graph(
     w_nodes: &mut [u32],
     w_open: &mut [u32],
 ) -> GraphAnswer
-    ensures { let sample = sample_of k quality reference.now ends.now bases.now qualities.now in
-        Graphed sample (graph_maxima_of maxima) result edges.old edges.new nodes.old nodes.new w_vertices.old w_vertices.new w_edges.old w_edges.new w_index.old w_index.new w_nodes.old w_nodes.new w_open.old w_open.new }
+    ensures { Graphed (sample_of sample.entry) (graph_maxima_of maxima) result edges.old edges.new nodes.old nodes.new w_vertices.old w_vertices.new w_edges.old w_edges.new w_index.old w_index.new w_nodes.old w_nodes.new w_open.old w_open.new }
 {
     let l = GraphLent {
         edge_rows: edges.len(),
@@ -257,31 +223,19 @@ pub fn graph(
         nodes: w_nodes.len(),
         open: w_open.len(),
     };
-    let refusal = check(k, reference, ends, bases, qualities, maxima, l);
-    if refusal > 0 {
-        return refused(refusal);
-    }
-    let told = told_for(k, maxima);
-    let tables = told.workspace;
-    let of_vertices = tables.vertices;
-    let of_edges = tables.edges;
-    let of_index = tables.index;
-    let of_nodes = tables.nodes;
-    let of_open = tables.open;
+    let tables = match check(sample, maxima, l) {
+        Ok(told) => told.workspace,
+        Err(refusal) => return refused(refusal),
+    };
     make_graph(
-        k,
-        quality,
-        reference,
-        ends,
-        bases,
-        qualities,
+        sample,
         maxima,
         edges,
         nodes,
-        &mut w_vertices[..of_vertices],
-        &mut w_edges[..of_edges],
-        &mut w_index[..of_index],
-        &mut w_nodes[..of_nodes],
-        &mut w_open[..of_open],
+        &mut w_vertices[..tables.vertices],
+        &mut w_edges[..tables.edges],
+        &mut w_index[..tables.index],
+        &mut w_nodes[..tables.nodes],
+        &mut w_open[..tables.open],
     )
 }

@@ -1,8 +1,7 @@
 -- The index of kmers. Its first half holds for each bucket the last vertex of it, its second half for each vertex the last one before it of the same bucket;
 -- numbers plus 1, 0 for none. Assumes nothing.
-use Rattle.std.specs.Prelude.{◌≡◌, refl, ◌≢◌, Bool, true, false, ℕ, zero, suc, ◌+◌, ◌-◌, ◌*◌, ◌/◌, ◌%◌, ◌<◌, ◌≤◌, ltb, get_or, set}
-use Rattle.std.proofs.Common.{sym, ap, ◌∙◌, arith, mod-lt, ltb-true, ltb-false, length-append, get_or-set_same, get_or-set_other}
-use mathlib.Core.List.{List, [], ◌∷◌, ◌++◌}
+use Rattle.std.specs.Prelude.{◌≡◌, refl, ◌≢◌, Bool, true, false, Option, None, Some, SomeIff, ℕ, zero, suc, ◌+◌, ◌-◌, ◌*◌, ◌/◌, ◌%◌, ◌<◌, ◌≤◌, ltb, get_or, set}
+use Rattle.std.proofs.Common.{sym, ap, ◌∙◌, arith, mod-lt, ltb-true, ltb-false, length-append, get_or-set_same, get_or-set_other, List, [], ◌∷◌, ◌++◌}
 use Rattle.std.proofs.Math.Decide.{ℕ_discrete}
 use Rattle.std.proofs.Math.ListN.{length, length-set, get_or-append}
 use Rattle.std.proofs.lemmas.List.{get_or_at}
@@ -10,7 +9,7 @@ use Rattle.laws.specs.Lists.{position}
 use Rattle.laws.specs.Numbers.{eq_list, eq_list-true, eq_list-self}
 use Rattle.laws.specs.Rows.{get_d_rows}
 use Rattle.definition.specs.Threading.{number_of}
-use Rattle.assembly.specs.Fields.{HasVertices, kmer_place}
+use Rattle.assembly.specs.Fields.{HasVertices, slot_of, kmer_place}
 use Rattle.assembly.specs.Store.{kmers_of, kmer_at}
 use Rattle.assembly.specs.Kmers.{part, get_d_part, length-of, number-here, number-none}
 
@@ -97,55 +96,62 @@ module _ {k size : ℕ} {ks : List (List ℕ)} {idx : List ℕ} (i : Sized k siz
       let l = i.heads (bucket_of k size x) (bucket-lt k size x p) in
       record { below = l.below; its = l.its; none = λ w a b. differ k size (get_or ks w []) x (l.none w a b) }
 
-  module _ {c : ℕ} (u : Walks k size ks x c) (p : 0 < c) where
-    the-next : Last k size ks (c - 1) (bucket_of k size (get_or ks (c - 1) [])) (get_or idx (size + (c - 1)) 0)
-    the-next = i.nexts (c - 1) (let z = u.below in omega arith)
+  -- v is the last of them
+  module _ (v : ℕ) (u : Walks k size ks x (v + 1)) where
+    the-next : Last k size ks v (bucket_of k size (get_or ks v [])) (get_or idx (size + v) 0)
+    the-next = i.nexts v (let z = u.below in omega arith)
 
-    pub walk-less : get_or idx (size + (c - 1)) 0 < c
-    walk-less = let z = the-next.below in omega arith
+    its-bucket : bucket_of k size (get_or ks v []) ≡ bucket_of k size x
+    its-bucket = let z : v + 1 - 1 ≡ v = omega arith in rw z at (u.its (omega arith))
 
-    pub walk-next : eq_list (get_or ks (c - 1) []) x ≡ false → Walks k size ks x (get_or idx (size + (c - 1)) 0)
+    pub walk-next : eq_list (get_or ks v []) x ≡ false → Walks k size ks x (get_or idx (size + v) 0)
     walk-next e =
         record {
           below = (let z = the-next.below in let y = u.below in omega arith);
-          its = λ q. the-next.its q ∙ u.its p;
-          none = λ w a b. go w a b (ltb w (c - 1)) refl (ℕ_discrete w (c - 1));
+          its = λ q. the-next.its q ∙ its-bucket;
+          none = λ w a b. go w a b (ltb w v) refl (ℕ_discrete w v);
         }
       where
-        go : (w : ℕ) → get_or idx (size + (c - 1)) 0 ≤ w → w < length ks → (t : Bool) → ltb w (c - 1) ≡ t → Dec (w ≡ c - 1) → eq_list (get_or ks w []) x ≡ false
-        go w a b true l d = differ k size (get_or ks w []) x (λ y. the-next.none w a (ltb-true w (c - 1) l) (y ∙ sym (u.its p)))
+        go : (w : ℕ) → get_or idx (size + v) 0 ≤ w → w < length ks → (t : Bool) → ltb w v ≡ t → Dec (w ≡ v) → eq_list (get_or ks w []) x ≡ false
+        go w a b true l d = differ k size (get_or ks w []) x (λ y. the-next.none w a (ltb-true w v l) (y ∙ sym its-bucket))
         go w a b false l (yes z) = rw z e
-        go w a b false l (no z) = u.none w (let y = ltb-false w (c - 1) l in omega arith) b
+        go w a b false l (no z) = u.none w (let y = ltb-false w v l in omega arith) b
 
-  -- the next one's place
-  pub walk-place : {c : ℕ} → Walks k size ks x c → 0 < c → size + size ≤ length idx → size + (c - 1) < length idx
-  walk-place u p l = let z = u.below in let y = i.room in omega arith
+-- the number in a slot, as the lookup takes it
+pub slot-is : (o : Option ℕ) (x : ℕ) → SomeIff o (1 ≤ x) (x - 1) → x ≡ slot_of o
+slot-is None x h = let z : 1 ≤ x → ⊥ = h in omega arith
+slot-is (Some v) x h = let z = h.0 in let y = h.1 in omega arith
+
+-- what a lookup among n vertices answers: the number w, which is n where there is none
+abbrev pub Found : ℕ → ℕ → Option ℕ → Type 0
+Found n w (Some v) = (v ≡ w) × (v < n)
+Found n w None = n ≡ w
 
 -- what is found is the number: there is no other vertex of the kmer
-module _ {k size : ℕ} (text vs : List ℕ) {idx : List ℕ} (n : ℕ) (i : Sized k size (kmers_of k text vs n) idx) (q : ℕ) {c : ℕ}
-    (u : Walks k size (kmers_of k text vs n) (part k text q) c) where
+module _ {k size : ℕ} (text vs : List ℕ) {idx : List ℕ} (n : ℕ) (i : Sized k size (kmers_of k text vs n) idx) (q : ℕ) where
   kmer-is : (w : ℕ) → w < n → get_or (kmers_of k text vs n) w [] ≡ kmer_at k text vs w
   unfolding kmers_of
   kmer-is w h = get_d_rows (kmer_at k text vs) n w [] h
 
-  pub walk-in : 0 < c → c - 1 < n
-  walk-in p = let z = u.below in let y = length-of k text vs n in omega arith
+  pub walk_none : Walks k size (kmers_of k text vs n) (part k text q) 0 → n ≡ number_of (kmers_of k text vs n) (part k text q)
+  walk_none u = number-none k text vs n q (record { none = λ j h. rw (← kmer-is j h) (u.none j (omega arith) (rw (length-of k text vs n) h)) })
 
-  pub walk-found : 0 < c → eq_list (kmer_at k text vs (c - 1)) (part k text q) ≡ true → c - 1 ≡ number_of (kmers_of k text vs n) (part k text q)
-  walk-found p e = number-here k text vs n q (c - 1) (record { none = λ j h. go j h (eq_list (kmer_at k text vs j) (part k text q)) refl }) (walk-in p) e
-    where
-      go : (j : ℕ) → j < c - 1 → (t : Bool) → eq_list (kmer_at k text vs j) (part k text q) ≡ t → t ≡ false
-      go j h true d =
-          absurd (i.apart j (c - 1) h (rw (length-of k text vs n) (walk-in p))
-          (kmer-is j (let z = walk-in p in omega arith) ∙ eq_list-true (kmer_at k text vs j) (part k text q) d ∙ sym (eq_list-true (kmer_at k text vs (c - 1)) (part k text q) e) ∙ sym (kmer-is (c - 1) (walk-in p))))
-      go j h false d = refl
+  module _ (v : ℕ) (u : Walks k size (kmers_of k text vs n) (part k text q) (v + 1)) where
+    pub walk-in : v < n
+    walk-in = let z = u.below in let y = length-of k text vs n in omega arith
 
-  pub walk_none : c ≤ 0 → n ≡ number_of (kmers_of k text vs n) (part k text q)
-  walk_none z = number-none k text vs n q (record { none = λ j h. rw (← kmer-is j h) (u.none j (omega arith) (rw (length-of k text vs n) h)) })
+    pub walk-found : eq_list (kmer_at k text vs v) (part k text q) ≡ true → v ≡ number_of (kmers_of k text vs n) (part k text q)
+    walk-found e = number-here k text vs n q v (record { none = λ j h. go j h (eq_list (kmer_at k text vs j) (part k text q)) refl }) walk-in e
+      where
+        go : (j : ℕ) → j < v → (t : Bool) → eq_list (kmer_at k text vs j) (part k text q) ≡ t → t ≡ false
+        go j h true d =
+            absurd (i.apart j v h (rw (length-of k text vs n) walk-in)
+            (kmer-is j (let z = walk-in in omega arith) ∙ eq_list-true (kmer_at k text vs j) (part k text q) d ∙ sym (eq_list-true (kmer_at k text vs v) (part k text q) e) ∙ sym (kmer-is v walk-in)))
+        go j h false d = refl
 
-  -- the comparison's answer in the walk's words
-  pub walk-on : 0 < c → eq_list (kmer_at k text vs (c - 1)) (part k text q) ≡ false → Walks k size (kmers_of k text vs n) (part k text q) (get_or idx (size + (c - 1)) 0)
-  walk-on p e = walk-next i (part k text q) u p (rw (kmer-is (c - 1) (walk-in p)) e)
+    -- the comparison's answer in the walk's words
+    pub walk-on : eq_list (kmer_at k text vs v) (part k text q) ≡ false → Walks k size (kmers_of k text vs n) (part k text q) (get_or idx (size + v) 0)
+    walk-on e = walk-next i (part k text q) v u (rw (kmer-is v walk-in) e)
 
 -- what a lookup asks
 pub record Finds (k : ℕ) (text vs idx : List ℕ) (n q : ℕ) : Type 0 where

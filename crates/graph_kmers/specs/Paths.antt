@@ -1,11 +1,9 @@
 -- The bases of a path: the first vertex's kmer, then the last base of each vertex reached, read off the tables. Assumes nothing.
 use Rattle.std.specs.Prelude.{◌≡◌, set, take}
 use Rattle.std.proofs.Math.Path.{refl, sym, ap}
-use Rattle.std.proofs.Common.{◌∙◌, arith, add-one, length-set, get_or-append-add, get_or-take}
-use mathlib.Core.List.{List, [], ◌∷◌, ◌++◌, map}
-use Prim.Native.Nat.{ℕ, zero, suc, ◌+◌, ◌-◌, ◌^◌, ◌<◌, ◌≤◌}
+use Rattle.std.proofs.Common.{◌∙◌, arith, add-one, length-set, get_or-append-add, get_or-take, List, [], ◌∷◌, ◌++◌, map, ℕ, zero, suc, ◌+◌, ◌-◌, ◌^◌, ◌<◌, ◌≤◌}
 use Rattle.std.proofs.Math.ListN.{length, get_or, length-append, length-map, get_or-append}
-use Rattle.std.proofs.Math.Seq.{length-take-le, paste, paste-zero, paste-suc}
+use Rattle.std.proofs.Math.Seq.{length-take-le, paste, paste-suc}
 use Rattle.laws.specs.Lists.{last_or}
 use Rattle.laws.specs.ListLaws.{All, cons}
 use Rattle.laws.specs.Rows.{get_d_rows}
@@ -45,10 +43,22 @@ pub record Spells (k : ℕ) (text vs es path : List ℕ) (e : ℕ) : Type 0 wher
   pub to_room : (j : ℕ) → j < e → HasVertex vs (edge_to es (get_or path j 0))
   pub to-fits : (j : ℕ) → j < e → kmer_place vs (edge_to es (get_or path j 0)) + k ≤ length text
 
-module _ {k : ℕ} {text vs es path : List ℕ} {e : ℕ} (x : Spells k text vs es path e) where
-  abbrev all : List ℕ
-  all = bases_of k text vs es (take e path)
+-- the first e edges alone
+pub spells-cut : {k : ℕ} {text vs es path : List ℕ} {e : ℕ} → Spells k text vs es path e → Spells k text vs es (take e path) (length (take e path))
+spells-cut {path = path} {e = e} x =
+    let n : (j : ℕ) → j < length (take e path) → j < e = (λ j h. rw (length-take-le e path x.long) at h) in
+    record {
+      some = x.some;
+      small = x.small;
+      long = omega arith;
+      first-room = x.first-room;
+      first_fits = x.first_fits;
+      edge-room = λ j h. rw (get_or-take e path j 0 (n j h)) (x.edge-room j (n j h));
+      to_room = λ j h. rw (get_or-take e path j 0 (n j h)) (x.to_room j (n j h));
+      to-fits = λ j h. rw (get_or-take e path j 0 (n j h)) (x.to-fits j (n j h));
+    }
 
+module _ {k : ℕ} {text vs es path : List ℕ} {e : ℕ} (x : Spells k text vs es path e) where
   first-length : length (kmer_at k text vs 0) ≡ k
   first-length = length_part k text (kmer_place vs 0) x.first_fits
 
@@ -58,19 +68,21 @@ module _ {k : ℕ} {text vs es path : List ℕ} {e : ℕ} (x : Spells k text vs 
       length-append (kmer_at k text vs 0) (map (end_base k text vs es) (take e path))
       ∙ rw (first-length, length-map (take e path) (end_base k text vs es), length-take-le e path x.long)
 
+module _ {k : ℕ} {text vs es path : List ℕ} (x : Spells k text vs es path (length path)) where
+  all-length : length (bases_of k text vs es path) ≡ k + length path
+  unfolding bases_of
+  all-length = length-append (kmer_at k text vs 0) (map (end_base k text vs es) path) ∙ rw (first-length x, length-map path (end_base k text vs es))
+
   module _ (i : ℕ) where
-    pub base-first : i < k → (p : ℕ) → p ≡ kmer_place vs 0 → get_or text (p + i) 0 ≡ get_or (bases_of k text vs es (take e path)) i 0
+    pub base-first : i < k → (p : ℕ) → p ≡ kmer_place vs 0 → get_or text (p + i) 0 ≡ get_or (bases_of k text vs es path) i 0
     unfolding bases_of
     base-first h p hp =
         rw hp
-        (sym (get_or-append (kmer_at k text vs 0) (map (end_base k text vs es) (take e path)) 0 i (rw first-length h) ∙ get_d_part k text (kmer_place vs 0) i h))
+        (sym (get_or-append (kmer_at k text vs 0) (map (end_base k text vs es) path) 0 i (rw (first-length x) h) ∙ get_d_part k text (kmer_place vs 0) i h))
 
-    module _ (l : k ≤ i) (r : i < k + e) where
-      j-in : i - k < e
+    module _ (l : k ≤ i) (r : i < k + length path) where
+      j-in : i - k < length path
       j-in = omega arith
-
-      pub base-edge : (j : ℕ) → j ≡ get_or path (i - k) 0 → HasEdge es j
-      base-edge j h = rw h (x.edge-room (i - k) j-in)
 
       module _ (j : ℕ) (hj : j ≡ get_or path (i - k) 0) (v : ℕ) (hv : v ≡ edge_to es j) where
         v-is : v ≡ edge_to es (get_or path (i - k) 0)
@@ -82,17 +94,16 @@ module _ {k : ℕ} {text vs es path : List ℕ} {e : ℕ} (x : Spells k text vs 
         pub base-fits : (p : ℕ) → p ≡ kmer_place vs v → p + k ≤ length text
         base-fits p h = rw (h, v-is) (x.to-fits (i - k) j-in)
 
-        pub base-later : (p : ℕ) → p ≡ kmer_place vs v → get_or text (p + k - 1) 0 ≡ get_or (bases_of k text vs es (take e path)) i 0
+        pub base-later : (p : ℕ) → p ≡ kmer_place vs v → get_or text (p + k - 1) 0 ≡ get_or (bases_of k text vs es path) i 0
         unfolding bases_of
         base-later p h =
-            let z : i ≡ length (kmer_at k text vs 0) + (i - k) = (let y = first-length in omega arith) in
+            let z : i ≡ length (kmer_at k text vs 0) + (i - k) = (let y = first-length x in omega arith) in
             sym (last-part k text p x.some (base-fits p h))
             ∙ ap (λ (q : ℕ). last_or 0 (part k text q)) h
             ∙ ap (λ (u : ℕ). last_or 0 (kmer_at k text vs u)) v-is
-            ∙ sym (ap (λ (u : ℕ). end_base k text vs es u) (get_or-take e path (i - k) 0 j-in))
-            ∙ sym (mapped (take e path) (i - k) (rw (length-take-le e path x.long) j-in))
-            ∙ sym (get_or-append-add (kmer_at k text vs 0) (map (end_base k text vs es) (take e path)) (i - k) 0)
-            ∙ ap (λ (u : ℕ). get_or (kmer_at k text vs 0 ++ map (end_base k text vs es) (take e path)) u 0) (sym z)
+            ∙ sym (mapped path (i - k) j-in)
+            ∙ sym (get_or-append-add (kmer_at k text vs 0) (map (end_base k text vs es) path) (i - k) 0)
+            ∙ ap (λ (u : ℕ). get_or (kmer_at k text vs 0 ++ map (end_base k text vs es) path) u 0) (sym z)
           where
             mapped : (q : List ℕ) (c : ℕ) → c < length q → get_or (map (end_base k text vs es) q) c 0 ≡ end_base k text vs es (get_or q c 0)
             mapped [] c h = absurd (omega arith)
@@ -104,9 +115,6 @@ pub record Written (bs out out' : List ℕ) (at i : ℕ) : Type 0 where
   pub within : i ≤ length bs
   pub is : out' ≡ paste out at bs i
   pub same : length out' ≡ length out
-
-pub written_start : (bs out : List ℕ) (at : ℕ) → Written bs out out at 0
-written_start bs out at = record { within = omega arith; is = paste-zero out at bs; same = refl }
 
 pub written_next : (bs out out' : List ℕ) (at i b : ℕ) → Written bs out out' at i → at + length bs ≤ length out → i < length bs → b ≡ get_or bs i 0 → Written bs out (set out' (at + i) b) at (i + 1)
 written_next bs out out' at i b w r l h =
@@ -120,11 +128,11 @@ written_next bs out out' at i b w r l h =
       same = length-set out' (at + i) b ∙ w.same;
     }
 
-module _ {k : ℕ} {text vs es path : List ℕ} {e : ℕ} (x : Spells k text vs es path e) (out : List ℕ) (at : ℕ) (room : at + (k + e) ≤ length out) where
-  pub path-next : (out' : List ℕ) (i b : ℕ) → Written (bases_of k text vs es (take e path)) out out' at i → i < k + e → b ≡ get_or (bases_of k text vs es (take e path)) i 0
-      → Written (bases_of k text vs es (take e path)) out (set out' (at + i) b) at (i + 1)
+module _ {k : ℕ} {text vs es path : List ℕ} (x : Spells k text vs es path (length path)) (out : List ℕ) (at : ℕ) (room : at + (k + length path) ≤ length out) where
+  pub path-next : (out' : List ℕ) (i b : ℕ) → Written (bases_of k text vs es path) out out' at i → i < k + length path → b ≡ get_or (bases_of k text vs es path) i 0
+      → Written (bases_of k text vs es path) out (set out' (at + i) b) at (i + 1)
   path-next out' i b w l h =
-      written_next (bases_of k text vs es (take e path)) out out' at i b w (let z = bases-length x in omega arith) (let z = bases-length x in omega arith) h
+      written_next (bases_of k text vs es path) out out' at i b w (let z = all-length x in omega arith) (let z = all-length x in omega arith) h
 
-  pub path-end : (out' : List ℕ) (i : ℕ) → Written (bases_of k text vs es (take e path)) out out' at i → k + e ≤ i → out' ≡ paste out at (bases_of k text vs es (take e path)) (k + e)
-  path-end out' i w l = let z : i ≡ k + e = (let y = w.within in let u = bases-length x in omega arith) in rw z at w.is
+  pub path-end : (out' : List ℕ) (i : ℕ) → Written (bases_of k text vs es path) out out' at i → k + length path ≤ i → out' ≡ paste out at (bases_of k text vs es path) (k + length path)
+  path-end out' i w l = let z : i ≡ k + length path = (let y = w.within in let u = all-length x in omega arith) in rw z at w.is

@@ -2,101 +2,85 @@
 // index, by which a kmer is found: its first half holds for each bucket the last vertex of it, its second half for each vertex the last before it of its bucket; each a vertex's number plus 1, or 0.
 #![tactic(auto)]
 
-ghost use Rattle.std.specs.Prelude.{◌≡◌, ◌++◌, ◌+◌, ◌^◌, ◌<◌, ◌≤◌, length, get_or, take};
+ghost use Rattle.std.specs.Prelude.{◌≡◌, ◌+◌, ◌^◌, ◌<◌, ◌≤◌, length, get_or};
 ghost use Rattle.std.proofs.Math.Seq.{paste};
 ghost use Rattle.laws.specs.Numbers.{eq_list};
 ghost use Rattle.definition.specs.Threading.{number_of};
+ghost use Rattle.samples.specs.Handed.{text_of};
 ghost use Rattle.assembly.specs.Store.{kmers_of};
 ghost use Rattle.assembly.specs.Kmers.{part};
-ghost use Rattle.graph_kmers.specs.Index.{bucket_of, size_of, Finds, entered};
+ghost use Rattle.graph_kmers.specs.Index.{bucket_of, size_of, Finds, Found, entered};
 ghost use Rattle.graph_kmers.specs.Paths.{bases_of, Spells};
 
-use assembly::{edge_to, kmer_place, wide};
-
-// A byte of the text: the reference with the read bases after it.
-pub fn byte_at(reference: &[u8], bases: &[u8], p: usize) -> u8
-    requires { p < length reference.now + length bases.now }
-    ensures { result ≡ get_or (reference.now ++ bases.now) p 0 }
-{
-    let n = reference.len();
-    if p < n {
-        return reference[p];
-    }
-    bases[p - n]
-}
+use assembly::{edge_to, kmer_place};
+use samples::Text;
 
 // Whether the k bytes at p are those at q.
-fn same_kmer(reference: &[u8], bases: &[u8], k: usize, p: usize, q: usize) -> bool
-    requires { (p + k ≤ length (reference.now ++ bases.now)) × (q + k ≤ length (reference.now ++ bases.now)) }
-    ensures { result ≡ eq_list (part k (reference.now ++ bases.now) p) (part k (reference.now ++ bases.now) q) }
+fn same_kmer(text: Text, k: usize, p: usize, q: usize) -> bool
+    requires { (p + k ≤ length (text_of text)) × (q + k ≤ length (text_of text)) }
+    ensures { result ≡ eq_list (part k (text_of text.entry) p) (part k (text_of text.entry) q) }
 {
-    let mut j: usize = 0;
-    while j < k {
-        if byte_at(reference, bases, p + j) != byte_at(reference, bases, q + j) {
+    for j in 0..k {
+        if text.byte_at(p + j) != text.byte_at(q + j) {
             return false;
         }
-        j += 1;
     }
     true
 }
 
 // The bucket, of `size`, of the kmer at q.
-pub fn kmer_bucket(reference: &[u8], bases: &[u8], k: usize, q: usize, size: usize) -> usize
-    requires { (q + k ≤ length (reference.now ++ bases.now)) × (0 < size) }
-    ensures { result ≡ bucket_of k size (part k (reference.now ++ bases.now) q) }
+pub fn kmer_bucket(text: Text, k: usize, q: usize, size: usize) -> usize
+    requires { (q + k ≤ length (text_of text)) × (0 < size) }
+    ensures { result ≡ bucket_of k size (part k (text_of text.entry) q) }
 {
     let mut h: usize = 0;
-    let mut j: usize = 0;
-    while j < k {
-        let b = byte_at(reference, bases, q + j) as usize;
+    for j in 0..k {
+        let b = usize::from(text.byte_at(q + j));
         h = (h * 31 + b) % 4294967296;
-        j += 1;
     }
     h % size
 }
 
-// The number of the kmer at q, of bucket h, or n where it has none: only vertices of that bucket are compared, the last first.
+// The number of the kmer at q, of bucket h: only vertices of that bucket are compared, the last first.
+// (`h` stands beside k and q, so that the bucket, a pass over k bases, is worked out once for the search and for a kmer that is added.)
 pub fn find_in_bucket(
-    reference: &[u8],
-    bases: &[u8],
+    text: Text,
     vertices: &[u32],
     index: &[u32],
     n: usize,
     k: usize,
     q: usize,
     h: usize,
-) -> usize
-    requires { Finds k (reference.now ++ bases.now) vertices.now index.now n q × (h ≡ bucket_of k (size_of index.now) (part k (reference.now ++ bases.now) q)) }
-    ensures { result ≡ number_of (kmers_of k (reference.now ++ bases.now) vertices.now n) (part k (reference.now ++ bases.now) q) }
+) -> Option<usize>
+    requires { Finds k (text_of text) vertices.now index.now n q × (h ≡ bucket_of k (size_of index.now) (part k (text_of text) q)) }
+    ensures { Found n (number_of (kmers_of k (text_of text.entry) vertices.now n) (part k (text_of text.entry) q)) result }
 {
     let size = index.len() / 2;
-    let mut c = wide(index[h]);
-    while c > 0 {
-        let v = c - 1;
+    let mut next = (index[h] as usize).checked_sub(1);
+    while let Some(v) = next {
         let p = kmer_place(vertices, v);
-        if same_kmer(reference, bases, k, p, q) {
-            return v;
+        if same_kmer(text, k, p, q) {
+            return Some(v);
         }
-        c = wide(index[size + v]);
+        next = (index[size + v] as usize).checked_sub(1);
     }
-    n
+    None
 }
 
-// The number of the kmer at q, or n where it has none.
+// The number of the kmer at q.
 pub fn find_kmer(
-    reference: &[u8],
-    bases: &[u8],
+    text: Text,
     vertices: &[u32],
     index: &[u32],
     n: usize,
     k: usize,
     q: usize,
-) -> usize
-    requires { Finds k (reference.now ++ bases.now) vertices.now index.now n q }
-    ensures { result ≡ number_of (kmers_of k (reference.now ++ bases.now) vertices.now n) (part k (reference.now ++ bases.now) q) }
+) -> Option<usize>
+    requires { Finds k (text_of text) vertices.now index.now n q }
+    ensures { Found n (number_of (kmers_of k (text_of text.entry) vertices.now n) (part k (text_of text.entry) q)) result }
 {
-    let h = kmer_bucket(reference, bases, k, q, index.len() / 2);
-    find_in_bucket(reference, bases, vertices, index, n, k, q, h)
+    let h = kmer_bucket(text, k, q, index.len() / 2);
+    find_in_bucket(text, vertices, index, n, k, q, h)
 }
 
 // Vertex n enters the bucket h: it is its head, and the head so far comes next.
@@ -110,46 +94,33 @@ pub fn enter_kmer(index: &mut [u32], n: usize, h: usize)
 }
 
 // Byte i of the path that leaves vertex 0 over the edges that `path` names.
-fn path_base(
-    reference: &[u8],
-    bases: &[u8],
-    vertices: &[u32],
-    edges: &[u32],
-    k: usize,
-    path: &[u32],
-    e: usize,
-    i: usize,
-) -> u8
-    requires { Spells k (reference.now ++ bases.now) vertices.now edges.now path.now e × (i < k + e) }
-    ensures { result ≡ get_or (bases_of k (reference.now ++ bases.now) vertices.now edges.now (take e path.now)) i 0 }
+fn path_base(text: Text, vertices: &[u32], edges: &[u32], k: usize, path: &[u32], i: usize) -> u8
+    requires { Spells k (text_of text) vertices.now edges.now path.now (length path.now) × (i < k + length path.now) }
+    ensures { result ≡ get_or (bases_of k (text_of text.entry) vertices.now edges.now path.now) i 0 }
 {
     if i < k {
-        return byte_at(reference, bases, kmer_place(vertices, 0) + i);
+        return text.byte_at(kmer_place(vertices, 0) + i);
     }
-    let j = wide(path[i - k]);
+    let j = path[i - k] as usize;
     let v = edge_to(edges, j);
-    byte_at(reference, bases, kmer_place(vertices, v) + k - 1)
+    text.byte_at(kmer_place(vertices, v) + k - 1)
 }
 
-// The k + e bases of a path of e edges, written from place `at` of `out` on.
+// The bases of a path, k and one for each edge, written from place `at` of `out` on.
+// (`at` stands beside `out`, since what is written is told of the whole slice, as in the definition; a part of it would have to be put back by a law.)
 pub fn path_bases(
-    reference: &[u8],
-    bases: &[u8],
+    text: Text,
     vertices: &[u32],
     edges: &[u32],
     k: usize,
     path: &[u32],
-    e: usize,
     out: &mut [u8],
     at: usize,
 )
-    requires { Spells k (reference.now ++ bases.now) vertices.now edges.now path.now e × (at + (k + e) ≤ length out.old) }
-    ensures { out.new ≡ paste out.old at (bases_of k (reference.now ++ bases.now) vertices.now edges.now (take e path.now)) (k + e) }
+    requires { Spells k (text_of text) vertices.now edges.now path.now (length path.now) × (at + (k + length path.now) ≤ length out.old) }
+    ensures { out.new ≡ paste out.old at (bases_of k (text_of text.entry) vertices.now edges.now path.now) (k + length path.now) }
 {
-    let n = k + e;
-    let mut i: usize = 0;
-    while i < n {
-        out[at + i] = path_base(reference, bases, vertices, edges, k, path, e, i);
-        i += 1;
+    for i in 0..k + path.len() {
+        out[at + i] = path_base(text, vertices, edges, k, path, i);
     }
 }

@@ -1,6 +1,8 @@
 -- The graph and its trees over cleared tables: what each part asks, and what the answer is to the definition. Assumes nothing.
-use Rattle.std.specs.Prelude.{◌≡◌, true, ◌&&◌, List, ℕ, ◌≤◌, leb, length}
-use Rattle.std.proofs.Common.{sym, ap, ◌∙◌, arith, leb-true}
+use Rattle.std.specs.Prelude.{◌≡◌, true, ◌&&◌, List, ℕ, ◌≤◌, leb, length, Result, Ok, Err}
+use Rattle.std.proofs.Common.{◌∙◌, arith, leb-true}
+use Rattle.refusals.specs.declared.Refusal.{Refusal}
+use Rattle.refusals.specs.Numbers.{number}
 use Rattle.laws.specs.ListLaws.{and_right}
 use Rattle.laws.specs.Numbers.{within}
 use Rattle.definition.specs.Refusal.{ok, refused, first_broken}
@@ -10,31 +12,13 @@ use Rattle.definition.specs.Evidence.{evidence}
 use Rattle.definition.specs.Building.{built}
 use Rattle.graph_kmers.specs.Index.{Finding}
 use Rattle.junction_tree_graph.specs.declared.Built as tables
-use Rattle.junction_tree_graph.specs.declared.Answer.{Answer}
-use Rattle.junction_tree_graph.specs.declared.Answer.TheVariants as answer
 use Rattle.kmer_threading.specs.Indexes.{Fresh}
 use Rattle.junction_tree_graph.specs.Built.{Builds, BuiltAt, NotBuilt}
 use Rattle.junction_tree_graph.specs.Answers.{BuiltOf, FoundOf, maxima-in, not-built}
-use Rattle.junction_trees.specs.declared.Evidence.{Evidence}
-use Rattle.junction_trees.specs.declared.Evidence.TheVariants as trees
 use Rattle.junction_trees.specs.Trees.{Gathers, Gathered, Evident, NotEvident, built-kept, built-fits, built-over}
 use Rattle.slice_lengths.specs.Workspaces.{vertex_table, edge_table, kmer_index, node_table, open_trees}
 use Rattle.graph_work.specs.declared.Raise.{Raise}
-use Rattle.graph_work.specs.declared.Raised.{Raised}
-use Rattle.graph_work.specs.declared.Raised.TheVariants.{Graph, Refused}
 use Rattle.graph_work.specs.Clear.{Cleared}
-
-abbrev pub graph_refusal : Answer → ℕ
-graph_refusal (answer.Done b) = 0
-graph_refusal (answer.Refused n) = n
-
-abbrev pub trees_refusal : Evidence → ℕ
-trees_refusal (trees.Trees c) = 0
-trees_refusal (trees.Refused n) = n
-
-abbrev pub raise_refusal : Raised → ℕ
-raise_refusal (Graph b) = 0
-raise_refusal (Refused n) = n
 
 pub edges_few : (m : GraphMaxima) → graph_maxima_fit m ≡ true → m.edges ≤ 8192
 edges_few m h = leb-true m.edges 8192 (and_right (leb 1 m.edges) (leb m.edges 8192) (maxima-in m h).1)
@@ -59,9 +43,9 @@ pub record RaisedAt (s : Sample) (m : GraphMaxima) (vs es x op : List ℕ) (b : 
   pub at : BuiltAt s m.vertices m.edges vs es b.vertices b.edges b.sink
   pub there : Evident s vs x op m.nodes b.nodes
 
-abbrev pub RaisedOf : Sample → GraphMaxima → List ℕ → List ℕ → List ℕ → List ℕ → Raised → Type 0
-RaisedOf s m vs es x op (Graph b) = RaisedAt s m vs es x op b
-RaisedOf s m vs es x op (Refused n) = built s m ≡ refused n
+abbrev pub RaisedOf : Sample → GraphMaxima → List ℕ → List ℕ → List ℕ → List ℕ → Result Raise Refusal → Type 0
+RaisedOf s m vs es x op (Ok b) = RaisedAt s m vs es x op b
+RaisedOf s m vs es x op (Err e) = built s m ≡ refused (number e)
 
 pub raised-built : {s : Sample} {m : GraphMaxima} {vs es x op : List ℕ} {b : Raise} → RaisedAt s m vs es x op b
     → built s m ≡ ok (record { graph = threaded s; edges = with_symbolic s (threaded s); trees = evidence s (threaded s) })
@@ -83,13 +67,11 @@ module _ {s : Sample} {m : GraphMaxima} {wv we wi wx wo : List ℕ} (x : Raises 
   pub raise-fresh : Fresh m.vertices wi₁
   raise-fresh = record { size = z.index.size ∙ x.index; zero = z.index.zeros }
 
-  module _ (vs₁ es₁ : List ℕ) (r : Answer) (h : BuiltOf s m.vertices m.edges vs₁ es₁ r) where
-    pub raise-eight : {n : ℕ} → r ≡ answer.Refused n → {k : ℕ} → k ≡ graph_refusal r → built s m ≡ refused k
-    raise-eight {n} d e =
-        let o : NotBuilt s m.vertices m.edges n = rw d at h in
-        not-built s m n o ∙ ap (λ (j : ℕ). refused j) (sym (e ∙ ap graph_refusal d))
+  module _ (vs₁ es₁ : List ℕ) (r : Result tables.Built Refusal) (h : BuiltOf s m.vertices m.edges vs₁ es₁ r) where
+    pub raise-eight : {e : Refusal} → r ≡ Err e → built s m ≡ refused (number e)
+    raise-eight {e} d = let o : NotBuilt s m.vertices m.edges (number e) = rw d at h in not-built s m (number e) o
 
-    module _ {b : tables.Built} (d : r ≡ answer.Done b) where
+    module _ {b : tables.Built} (d : r ≡ Ok b) where
       pub raise-found : (k : ℕ) (text idx : List ℕ) → FoundOf k text vs₁ idx r → Finding k text vs₁ idx b.vertices
       raise-found k text idx f = rw d at f
 
@@ -116,13 +98,11 @@ module _ {s : Sample} {m : GraphMaxima} {wv we wi wx wo : List ℕ} (x : Raises 
             zero-x = λ i l. z.nodes.zeros i;
           }
 
-      module _ {vs₂ xs₂ os₂ : List ℕ} {t : Evidence} (g : Gathered s vs₁ vs₂ wx₁ xs₂ wo os₂ b m.nodes t) where
-        pub raise-nine : {n : ℕ} → t ≡ trees.Refused n → {k : ℕ} → k ≡ trees_refusal t → built s m ≡ refused k
-        raise-nine {n} e f =
-            let o : NotEvident s m.nodes n = rw e at g.is in
-            built-over at m.nodes n o ∙ ap (λ (j : ℕ). refused j) (sym (f ∙ ap trees_refusal e))
+      module _ {vs₂ xs₂ os₂ : List ℕ} {t : Result ℕ Refusal} (g : Gathered s vs₁ vs₂ wx₁ xs₂ wo os₂ b m.nodes t) where
+        pub raise-nine : {e : Refusal} → t ≡ Err e → built s m ≡ refused (number e)
+        raise-nine {e} f = let o : NotEvident s m.nodes (number e) = rw f at g.is in built-over at m.nodes (number e) o
 
-        pub raise-done : {c : ℕ} → t ≡ trees.Trees c → RaisedAt s m vs₂ es₁ xs₂ os₂ (record { vertices = b.vertices; edges = b.edges; sink = b.sink; nodes = c })
+        pub raise-done : {c : ℕ} → t ≡ Ok c → RaisedAt s m vs₂ es₁ xs₂ os₂ (record { vertices = b.vertices; edges = b.edges; sink = b.sink; nodes = c })
         raise-done {c} e =
             let y : Evident s vs₂ xs₂ os₂ m.nodes c = rw e at g.is in
             record { at = built-kept g.kept at; there = y }

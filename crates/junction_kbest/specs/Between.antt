@@ -1,5 +1,5 @@
 -- Between turns: the stores hold the definition's state, and there is room for whatever a turn makes.
-use Rattle.std.specs.Prelude.{◌≡◌, true, List, ℕ, ◌+◌, ◌*◌, ◌<◌, ◌≤◌, length, Float}
+use Rattle.std.specs.Prelude.{◌≡◌, true, Option, Some, None, Result, Ok, Err, List, ℕ, ◌+◌, ◌*◌, ◌<◌, ◌≤◌, length, Float}
 use Rattle.std.proofs.Common.{mul-le-mul_right, arith}
 use Rattle.definition.specs.Limits.{column_fits}
 use Rattle.definition.specs.Score.{column_scoring}
@@ -9,15 +9,20 @@ use Rattle.theorems.proofs.Column.{NotNan, column-keeps}
 use Rattle.theorems.proofs.Walks.{GoodState}
 use Rattle.theorems.proofs.Turns.{turn_more}
 use Rattle.tables.specs.Widths.{offer_numbers}
-use Rattle.search_state.specs.declared.Setting.{Setting}
+use Rattle.search_state.specs.Settings.{Setting}
 use Rattle.search_state.specs.declared.Progress.{Progress}
 use Rattle.search_state.specs.Ground.{Ground}
 use Rattle.search_state.specs.State.{Holds, Made as Counted, Room}
+use Rattle.path_queue.specs.Push.{AllPushed}
 use Rattle.junction_kbest.specs.Turn.{Stopped}
 use Rattle.junction_kbest.specs.Counts.{closed-many}
 use Rattle.junction_kbest.specs.Extend.{Roomy}
-use Rattle.junction_kbest.specs.declared.Turned.{Turned}
-use Rattle.junction_kbest.specs.declared.Turned.TheVariants as turned
+use Rattle.refusals.specs.declared.Refusal.{Refusal}
+use Rattle.refusals.specs.Numbers.{number}
+
+-- what comes of a turn: the search goes on, it ends as it is, or a refusal
+abbrev pub Turned : Type 0
+Turned = Result (Option Progress) Refusal
 
 -- the stores as a search f has them between turns
 pub record At (f : SearchInput) (g : Setting) (vs es x index targets : List ℕ) (column : List Float) (bs : ℕ → List Branches) (closing : ℕ → ℕ) (t : List ℕ) (sc : List Float) (ac queue closed order marks : List ℕ)
@@ -52,9 +57,15 @@ pub record Rests (t : List ℕ) (sc : List Float) (ac queue closed marks t' : Li
 
 -- by what came of the turn
 abbrev pub TurnBy : SearchInput → Setting → List ℕ → List ℕ → List ℕ → List ℕ → List ℕ → List Float → List ℕ → State Float → List ℕ → List Float → List ℕ → List ℕ → List ℕ → List ℕ → Turned → List ℕ → List Float → List ℕ → List ℕ → List ℕ → List ℕ → Type 0
-TurnBy f g vs es x index targets column order s t sc ac queue closed marks (turned.More p') t' sc' ac' queue' closed' marks' = Onward f g vs es x index targets column order t' sc' ac' queue' closed' marks' p' s
-TurnBy f g vs es x index targets column order s t sc ac queue closed marks turned.Ended t' sc' ac' queue' closed' marks' = (turn_of column f g s ≡ ended s) × Rests t sc ac queue closed marks t' sc' ac' queue' closed' marks'
-TurnBy f g vs es x index targets column order s t sc ac queue closed marks (turned.Refused k) t' sc' ac' queue' closed' marks' = Stopped (turn_of column f g s) k
+TurnBy f g vs es x index targets column order s t sc ac queue closed marks (Ok (Some p')) t' sc' ac' queue' closed' marks' = Onward f g vs es x index targets column order t' sc' ac' queue' closed' marks' p' s
+TurnBy f g vs es x index targets column order s t sc ac queue closed marks (Ok None) t' sc' ac' queue' closed' marks' = (turn_of column f g s ≡ ended s) × Rests t sc ac queue closed marks t' sc' ac' queue' closed' marks'
+TurnBy f g vs es x index targets column order s t sc ac queue closed marks (Err k) t' sc' ac' queue' closed' marks' = Stopped (turn_of column f g s) (number k)
+
+-- a turn whose last step pushes, by the answer of its pushes: it goes on, or is refused
+abbrev pub PushedTurn : List Float → List ℕ → Setting → Progress → ℕ → List ℕ → Turned → Type 0
+PushedTurn sc queue g q from queue' (Ok (Some p')) = AllPushed sc queue g q from queue' (Ok p')
+PushedTurn sc queue g q from queue' (Ok None) = ⊥
+PushedTurn sc queue g q from queue' (Err k) = AllPushed sc queue g q from queue' (Err k)
 
 -- what a turn asks: the stores are those of some search, which is not to end yet
 pub record TurnAsks (g : Setting) (vs es x index targets : List ℕ) (column : List Float) (t : List ℕ) (sc : List Float) (ac queue closed order marks walks : List ℕ) (p : Progress) : Type 0 where

@@ -6,7 +6,7 @@ use Rattle.laws.specs.Lists.{is_empty}
 use Rattle.definition.specs.Search.{SearchInput, Path, Closed, State}
 use Rattle.definition.specs.Evidence.{Branches}
 use Rattle.path_heap.specs.Heap.{waiting, waiting-length}
-use Rattle.search_state.specs.declared.Setting.{Setting}
+use Rattle.search_state.specs.Settings.{Setting}
 use Rattle.search_state.specs.declared.Progress.{Progress}
 use Rattle.search_state.specs.State.{path_of, closed_record, Holds}
 use Rattle.junction_kbest.specs.Turn.{most_waiting}

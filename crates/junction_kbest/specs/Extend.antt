@@ -1,5 +1,5 @@
 -- A taken path is extended over the stores: the tree at the end of its chain joins, it may close, and all its extensions are made.
-use Rattle.std.specs.Prelude.{◌≡◌, refl, ◌⊎◌, Bool, true, false, ◌&&◌, not, List, [], ◌∷◌, ◌++◌, map, ℕ, ◌+◌, ◌-◌, ◌*◌, ◌<◌, ◌≤◌, ltb, eqb, length, Float}
+use Rattle.std.specs.Prelude.{◌≡◌, refl, ◌⊎◌, Bool, true, false, ◌&&◌, not, List, [], ◌∷◌, ◌++◌, map, ℕ, ◌+◌, ◌-◌, ◌*◌, ◌<◌, ◌≤◌, ltb, eqb, length, Float, Ok, Err}
 use Rattle.std.proofs.Common.{sym, ap, subst, ◌∙◌, inl, inr, mul-le-mul_right, arith}
 use Rattle.std.proofs.Math.Option.{none, some}
 use Rattle.laws.specs.Lists.{any}
@@ -13,10 +13,11 @@ use Rattle.tables.specs.Widths.{offer_numbers}
 use Rattle.path_growth.specs.declared.Taken.{Taken}
 use Rattle.path_store.specs.Cells.{HasPaths, since_of}
 use Rattle.path_growth.specs.Grow.{Following}
-use Rattle.search_state.specs.declared.Setting.{Setting}
+use Rattle.search_state.specs.Settings.{Setting}
 use Rattle.search_state.specs.declared.Progress.{Progress}
-use Rattle.search_state.specs.declared.Step.{Step}
-use Rattle.search_state.specs.declared.Step.TheVariants.{On, Refused}
+use Rattle.std.specs.Prelude as std
+use Rattle.refusals.specs.declared.Refusal.{Refusal}
+use Rattle.refusals.specs.Numbers.{number}
 use Rattle.search_state.specs.Ground.{Ground}
 use Rattle.search_state.specs.State.{path_of, Idle, Holds, Apart, up_from}
 use Rattle.search_state.specs.Keep.{with_records, holds_kept}
@@ -73,9 +74,9 @@ pub record Makes (f : SearchInput) (g : Setting) (es x index targets queue order
   pub new : (q : ℕ) → first_new p p' ≤ q → q < p'.records → Idle t' p'.records q
   pub further : Further p p'
 
-abbrev pub MakesBy : SearchInput → Setting → List ℕ → List ℕ → List ℕ → List ℕ → List ℕ → List ℕ → Progress → Step → Made Float → List ℕ → List Float → List ℕ → List ℕ → List ℕ → Type 0
-MakesBy f g es x index targets queue order p (On p') want t' sc' ac' closed' marks' = Makes f g es x index targets queue order p p' want t' sc' ac' closed' marks'
-MakesBy f g es x index targets queue order p (Refused k) want t' sc' ac' closed' marks' = want ≡ broken k
+abbrev pub MakesBy : SearchInput → Setting → List ℕ → List ℕ → List ℕ → List ℕ → List ℕ → List ℕ → Progress → std.Result Progress Refusal → Made Float → List ℕ → List Float → List ℕ → List ℕ → List ℕ → Type 0
+MakesBy f g es x index targets queue order p (Ok p') want t' sc' ac' closed' marks' = Makes f g es x index targets queue order p p' want t' sc' ac' closed' marks'
+MakesBy f g es x index targets queue order p (Err k) want t' sc' ac' closed' marks' = want ≡ broken (number k)
 
 -- what the code asks: the stores are those of some search
 pub record ExtendsTaken (g : Setting) (vs es x index targets : List ℕ) (column : List Float) (t : List ℕ) (sc : List Float) (ac closed marks out : List ℕ) (p : Progress) (taken : Taken) : Type 0 where
@@ -94,7 +95,7 @@ extended_at column f es index targets bs t sc taken s =
     extend_at (column_scoring column) f (path_of f es index targets bs t sc taken.path) (chain_after f (path_of f es index targets bs t sc taken.path)) taken.vertex s
 
 -- by the answer, for every search whose stores these are
-pub record TakenExtended (g : Setting) (vs es x index targets : List ℕ) (column : List Float) (t : List ℕ) (sc : List Float) (ac closed marks : List ℕ) (p : Progress) (taken : Taken) (r : Step) (t' : List ℕ)
+pub record TakenExtended (g : Setting) (vs es x index targets : List ℕ) (column : List Float) (t : List ℕ) (sc : List Float) (ac closed marks : List ℕ) (p : Progress) (taken : Taken) (r : std.Result Progress Refusal) (t' : List ℕ)
     (sc' : List Float) (ac' closed' marks' : List ℕ) : Type 0 where
   pub is : (f : SearchInput) (bs : ℕ → List Branches) (closings : ℕ → ℕ) (queue order : List ℕ) (s : State Float)
       → Extending f g vs es x index targets column bs closings t sc ac queue closed order marks p s taken

@@ -1,6 +1,6 @@
 -- Turn after turn: what is left of the search from the state that the stores hold is the answer, and every turn lowers the measure.
-use Rattle.std.specs.Prelude.{◌≡◌, refl, ◌⊎◌, Bool, List, [], ℕ, ◌+◌, ◌-◌, ◌<◌, ◌≤◌, length, take, drop, Float}
-use Rattle.std.proofs.Common.{sym, ap, subst, ◌∙◌, inl, inr, arith}
+use Rattle.std.specs.Prelude.{◌≡◌, refl, Bool, Some, None, Ok, Err, List, [], ℕ, ◌+◌, ◌-◌, ◌<◌, ◌≤◌, length, take, drop, Float}
+use Rattle.std.proofs.Common.{ap, ◌∙◌, arith}
 use Rattle.std.proofs.lemmas.List.{length-map}
 use Rattle.definition.specs.Score.{column_scoring}
 use Rattle.definition.specs.Threading.{Ends}
@@ -10,18 +10,16 @@ use Rattle.theorems.proofs.Column.{column-keeps}
 use Rattle.theorems.proofs.Turns.{measure, turn_more, first_good}
 use Rattle.tables.specs.Widths.{offer_numbers}
 use Rattle.closed_paths.specs.Cross.{unvisited}
-use Rattle.path_queue.specs.Begin.{Begins, Begun, begun_with}
-use Rattle.search_state.specs.declared.Setting.{Setting}
+use Rattle.path_queue.specs.Begin.{Begun, begun_with}
+use Rattle.search_state.specs.Settings.{Setting}
 use Rattle.search_state.specs.declared.Progress.{Progress}
 use Rattle.search_state.specs.Ground.{Ground, name_of}
-use Rattle.junction_kbest.specs.declared.Search as declared
-use Rattle.junction_kbest.specs.declared.Search.TheVariants as found
-use Rattle.junction_kbest.specs.declared.Turned.{Turned}
-use Rattle.junction_kbest.specs.declared.Turned.TheVariants as turned
+use Rattle.refusals.specs.declared.Refusal.{Refusal}
+use Rattle.refusals.specs.Numbers.{number}
 use Rattle.junction_kbest.specs.Turn.{Stopped, fails, fills, turn-done}
 use Rattle.junction_kbest.specs.Run.{rest, pivotal_for, rest-start, rest_ended, rest-failed, rest-full, rest_more}
 use Rattle.junction_kbest.specs.Counts.{waiting-many, closed-many}
-use Rattle.junction_kbest.specs.Between.{At, turn_of, Onward, TurnBy, TurnAsks, NextTurn, room-kept}
+use Rattle.junction_kbest.specs.Between.{Turned, At, turn_of, Onward, TurnBy, TurnAsks, NextTurn, room-kept}
 use Rattle.junction_kbest.specs.Pivot.{TurnMadeIn, PivotTurn}
 use Rattle.junction_kbest.specs.Find.{searched, Finds, Found}
 
@@ -69,24 +67,6 @@ left_is f g vs es x index targets column bs cl t sc ac queue closed order marks 
 
 module _ (g : Setting) (vs es x index targets : List ℕ) (column : List Float) (recovery : Bool) where
   -- ---- the start
-  pub find-begins : (t : List ℕ) (sc : List Float) (ac queue closed order marks walks : List ℕ) → Finds g vs es x index targets column t sc ac queue closed order marks walks → Begins g vs es t sc queue walks order marks
-  find-begins t sc ac queue closed order marks walks F =
-      let a = F.room.paths in
-      let b = F.room.scores in
-      record {
-        lists =
-            record {
-              based = record { f = F.input; x = x; index = index; targets = targets; on_ground = F.on_ground };
-              queue-room = F.queued;
-              order-room = F.order-room;
-              marks-room = F.marks-room;
-            };
-        paths = omega arith;
-        scores = omega arith;
-        allowed = F.allowed;
-        waiting = F.room.waiting;
-      }
-
   pub find-started : (t : List ℕ) (sc : List Float) (ac queue closed order marks walks : List ℕ) → Finds g vs es x index targets column t sc ac queue closed order marks walks
       → (t₁ : List ℕ) (sc₁ : List Float) (queue₁ order₁ marks₁ walks₁ : List ℕ) (p : Progress) → Begun g vs es t₁ sc₁ queue₁ order₁ marks₁ recovery p
       → length t₁ ≡ length t → length sc₁ ≡ length sc → length queue₁ ≡ length queue → length walks₁ ≡ length walks
@@ -125,7 +105,7 @@ module _ (g : Setting) (vs es x index targets : List ℕ) (column : List Float) 
 
   module _ (t : List ℕ) (sc : List Float) (ac queue closed order marks walks : List ℕ) (p : Progress) (R : Running g vs es x index targets column recovery t sc ac queue closed order marks walks p) where
     -- ---- as many have closed as are asked for
-    pub find-met : g.asked ≤ p.closed → Found g vs es x index targets column recovery (found.Paths p) t sc ac queue closed order marks
+    pub find-met : g.asked ≤ p.closed → Found g vs es x index targets column recovery (Ok p) t sc ac queue closed order marks
     find-met h =
         record {
           is = λ f G.
@@ -143,21 +123,42 @@ module _ (g : Setting) (vs es x index targets : List ℕ) (column : List Float) 
         }
 
     module _ (unmet : p.closed < g.asked) where
-      pub find-turn : TurnAsks g vs es x index targets column t sc ac queue closed order marks walks p
-      find-turn =
-          let L = R.run R.input R.on_ground in
-          record { input = R.input; branches = L.branches; closings = L.closings; state = L.state; at = L.at; unmet = unmet; walks-room = R.walks-room; rows = R.rows }
+      module _ (t₁ : List ℕ) (sc₁ : List Float) (ac₁ queue₁ closed₁ marks₁ : List ℕ) where
+        abbrev Came : Turned → Type 0
+        Came r = TurnMadeIn order g vs es x index targets column t sc ac queue closed marks p r t₁ sc₁ ac₁ queue₁ closed₁ marks₁
 
-      module _ (r : Turned) (t₁ : List ℕ) (sc₁ : List Float) (ac₁ queue₁ closed₁ marks₁ : List ℕ)
-          (M : TurnMadeIn order g vs es x index targets column t sc ac queue closed marks p r t₁ sc₁ ac₁ queue₁ closed₁ marks₁) where
-        by : (f : SearchInput) (G : Ground f g vs es x index targets)
+        by : (r : Turned) → Came r → (f : SearchInput) (G : Ground f g vs es x index targets)
             → TurnBy f g vs es x index targets column order (R.run f G).state t sc ac queue closed marks r t₁ sc₁ ac₁ queue₁ closed₁ marks₁
-        by f G = let L = R.run f G in M.is f L.branches L.closings L.state L.at unmet
+        by r M f G = let L = R.run f G in M.is f L.branches L.closings L.state L.at unmet
+
+        -- ---- the turn is refused, or ends the search
+        stopped_by : (f : SearchInput) (G : Ground f g vs es x index targets) (k : ℕ) → Stopped (turn_of column f g (R.run f G).state) k → Stopped (searched column f g recovery) k
+        stopped_by f G k (fails e) = fails ((R.run f G).is ∙ rest-failed (column_scoring column) f g.asked g.pushes (R.run f G).state k e)
+        stopped_by f G k (fills h s ps e) = fills h s ps ((R.run f G).is ∙ rest-full (column_scoring column) f g.asked g.pushes (R.run f G).state s ps e)
+
+        pub find-refused : (k : Refusal) → Came (Err k) → Found g vs es x index targets column recovery (Err k) t₁ sc₁ ac₁ queue₁ closed₁ order marks₁
+        find-refused k M = record { is = λ f G. stopped_by f G (number k) (by (Err k) M f G) }
+
+        pub find-ended : Came (Ok None) → Found g vs es x index targets column recovery (Ok p) t₁ sc₁ ac₁ queue₁ closed₁ order marks₁
+        find-ended M =
+            record {
+              is = λ f G.
+                  (let L = R.run f G in
+                  let B = by (Ok None) M f G in
+                  let S = B.1 in
+                  record {
+                    branches = L.branches;
+                    closings = L.closings;
+                    state = L.state;
+                    is = L.is ∙ rest_ended (column_scoring column) f g.asked g.pushes L.state B.0;
+                    holds = rw (S.paths, S.scores, S.actives, S.waiting, S.closed_same, S.marked) L.at.holds;
+                  });
+            }
 
         -- ---- the turn goes on
-        module _ (q : Progress) (e : r ≡ turned.More q) where
+        module _ (q : Progress) (M : Came (Ok (Some q))) where
           onward : (f : SearchInput) (G : Ground f g vs es x index targets) → Onward f g vs es x index targets column order t₁ sc₁ ac₁ queue₁ closed₁ marks₁ q (R.run f G).state
-          onward f G = subst (λ (b : Turned). TurnBy f g vs es x index targets column order (R.run f G).state t sc ac queue closed marks b t₁ sc₁ ac₁ queue₁ closed₁ marks₁) e (by f G)
+          onward f G = by (Ok (Some q)) M f G
 
           pub find-on : (walks₁ : List ℕ) → length walks₁ ≡ length walks → Running g vs es x index targets column recovery t₁ sc₁ ac₁ queue₁ closed₁ order marks₁ walks₁ q
           find-on walks₁ lw =
@@ -192,54 +193,6 @@ module _ (g : Setting) (vs es x index targets : List ℕ) (column : List Float) 
               let a = left_is f g vs es x index targets column L.branches L.closings t sc ac queue closed order marks p L.state L.at in
               let b = left_is f g vs es x index targets column O.branches O.closings t₁ sc₁ ac₁ queue₁ closed₁ order marks₁ q O.state O.at in
               omega arith
-
--- what the search answers when a turn does not go on
-abbrev pub found_of : Turned → Progress → declared.Search
-found_of (turned.More q) p = found.Paths p
-found_of turned.Ended p = found.Paths p
-found_of (turned.Refused k) p = found.Refused k
-
-module _ (g : Setting) (vs es x index targets : List ℕ) (column : List Float) (recovery : Bool) (t : List ℕ) (sc : List Float) (ac queue closed order marks walks : List ℕ) (p : Progress)
-    (R : Running g vs es x index targets column recovery t sc ac queue closed order marks walks p) (unmet : p.closed < g.asked) where
-  stopped_by : (f : SearchInput) (G : Ground f g vs es x index targets) (k : ℕ) → Stopped (turn_of column f g (R.run f G).state) k → Stopped (searched column f g recovery) k
-  stopped_by f G k (fails e) = fails ((R.run f G).is ∙ rest-failed (column_scoring column) f g.asked g.pushes (R.run f G).state k e)
-  stopped_by f G k (fills h s ps e) = fills h s ps ((R.run f G).is ∙ rest-full (column_scoring column) f g.asked g.pushes (R.run f G).state s ps e)
-
-  pub find-stopped : (r : Turned) (t₁ : List ℕ) (sc₁ : List Float) (ac₁ queue₁ closed₁ marks₁ : List ℕ)
-      → TurnMadeIn order g vs es x index targets column t sc ac queue closed marks p r t₁ sc₁ ac₁ queue₁ closed₁ marks₁ → ((q : Progress) → r ≡ turned.More q → ⊥)
-      → (a : declared.Search) → a ≡ found_of r p → Found g vs es x index targets column recovery a t₁ sc₁ ac₁ queue₁ closed₁ order marks₁
-  find-stopped (turned.More q) t₁ sc₁ ac₁ queue₁ closed₁ marks₁ M stop a e = absurd (stop q refl)
-  find-stopped (turned.Refused k) t₁ sc₁ ac₁ queue₁ closed₁ marks₁ M stop a e =
-      rw e (record { is = λ f G. stopped_by f G k (by g vs es x index targets column recovery t sc ac queue closed order marks walks p R unmet (turned.Refused k) t₁ sc₁ ac₁ queue₁ closed₁ marks₁ M f G) })
-  find-stopped turned.Ended t₁ sc₁ ac₁ queue₁ closed₁ marks₁ M stop a e =
-      rw e
-      (record {
-        is = λ f G.
-            (let L = R.run f G in
-            let B = by g vs es x index targets column recovery t sc ac queue closed order marks walks p R unmet turned.Ended t₁ sc₁ ac₁ queue₁ closed₁ marks₁ M f G in
-            let S = B.1 in
-            record {
-              branches = L.branches;
-              closings = L.closings;
-              state = L.state;
-              is = L.is ∙ rest_ended (column_scoring column) f g.asked g.pushes L.state B.0;
-              holds = rw (S.paths, S.scores, S.actives, S.waiting, S.closed_same, S.marked) L.at.holds;
-            });
-      })
-
--- no turn that went on
-pub not_on : (n : ℕ) → (n ≡ 1) ⊎ (n ≡ 2) → n ≡ 0 → ⊥
-not_on n (inl h) e = omega arith
-not_on n (inr h) e = omega arith
-
-pub found-on : (r : Turned) (p q : Progress) → r ≡ turned.More q → found.Paths p ≡ found_of r p
-found-on r p q e = sym (ap (λ (b : Turned). found_of b p) e)
-
-pub found-ended : (r : Turned) (p : Progress) → r ≡ turned.Ended → found.Paths p ≡ found_of r p
-found-ended r p e = sym (ap (λ (b : Turned). found_of b p) e)
-
-pub found-refused : (r : Turned) (p : Progress) (k : ℕ) → r ≡ turned.Refused k → found.Refused k ≡ found_of r p
-found-refused r p k e = sym (ap (λ (b : Turned). found_of b p) e)
 
 -- what the loop keeps: the search is running, and no slice has changed its length
 pub record Looping (g : Setting) (vs es x index targets : List ℕ) (column : List Float) (recovery : Bool) (t₀ : List ℕ) (sc₀ : List Float) (ac₀ queue₀ closed₀ marks₀ walks₀ order t : List ℕ) (sc : List Float)

@@ -1,27 +1,25 @@
 -- A turn where paths wait, by what each callee answers.
-use Rattle.std.specs.Prelude.{◌≡◌, refl, Bool, true, false, cond, List, [], ◌∷◌, ℕ, ◌<◌, ◌≤◌, eqb, ltb, length, Float}
+use Rattle.std.specs.Prelude.{◌≡◌, refl, Bool, true, false, Some, None, Ok, Err, cond, List, [], ◌∷◌, ℕ, ◌<◌, ◌≤◌, eqb, ltb, length, Float}
 use Rattle.std.proofs.Common.{sym, ap, subst, ◌∙◌, arith, ltb-true, ltb-false}
 use Rattle.definition.specs.Score.{column_scoring}
 use Rattle.definition.specs.Evidence.{Branches}
 use Rattle.definition.specs.Search.{SearchInput, State, Made, broken, take_path, push_made}
-use Rattle.search_state.specs.declared.Setting.{Setting}
+use Rattle.search_state.specs.Settings.{Setting}
 use Rattle.search_state.specs.declared.Progress.{Progress}
-use Rattle.search_state.specs.declared.Step.{Step}
-use Rattle.search_state.specs.declared.Step.TheVariants.{On, Refused}
+use Rattle.refusals.specs.declared.Refusal.{Refusal}
+use Rattle.refusals.specs.Numbers.{number}
 use Rattle.search_state.specs.State.{path_of}
 use Rattle.path_queue.specs.declared.Taking.{Taking}
 use Rattle.path_queue.specs.Scene.{Scene}
-use Rattle.path_queue.specs.Push.{Ready, Pushes, pushes_from, Filled, Pushed-all, AllPushed}
+use Rattle.path_queue.specs.Push.{Ready, Pushes, pushes_from, Pushed-all, AllPushed}
 use Rattle.path_queue.specs.Take.{Takes, First}
 use Rattle.path_queue.specs.Take as first
-use Rattle.junction_kbest.specs.declared.Turned.TheVariants as turned
 use Rattle.turn_rules.specs.Rules.{first_new}
-use Rattle.turn_rules.specs.Answers.{step_refusal}
 use Rattle.junction_kbest.specs.Turn.{with_waiting, fails, fills, turn-over, turn-takes, push-made, push-broken}
 use Rattle.junction_kbest.specs.Counts.{waiting-many, most-waiting}
-use Rattle.junction_kbest.specs.Extend.{Makes, MakesBy}
+use Rattle.junction_kbest.specs.Extend.{Makes}
 use Rattle.junction_kbest.specs.Take.{Going, TakesPath, PathTaken}
-use Rattle.junction_kbest.specs.Between.{At, turn_of, NextTurn, TurnMade, closed-unmet, roomy, good-on, room-kept}
+use Rattle.junction_kbest.specs.Between.{Turned, At, turn_of, PushedTurn, NextTurn, TurnMade, closed-unmet, roomy, good-on, room-kept}
 
 -- the first of a list that is not empty
 record Head {A : Type 0} (xs : List A) : Type 0 where
@@ -41,7 +39,7 @@ scene_of f es x index targets bs cl t ac closed order marks =
 module _ (g : Setting) (vs es x index targets : List ℕ) (column : List Float) (t : List ℕ) (sc : List Float) (ac queue closed marks : List ℕ) (p : Progress) where
   -- ---- too many wait
   pub next-over : (b : Bool) → b ≡ ltb (cond (eqb p.closed 0) 1000 10000) p.waiting → b ≡ true → 0 < p.waiting
-      → TurnMade g vs es x index targets column t sc ac queue closed marks p turned.Ended t sc ac queue closed marks
+      → TurnMade g vs es x index targets column t sc ac queue closed marks p (Ok None) t sc ac queue closed marks
   next-over b e h some =
       record {
         is = λ f bs cl order s A unmet.
@@ -111,31 +109,27 @@ module _ (g : Setting) (vs es x index targets : List ℕ) (column : List Float) 
           rows = N.rows;
         }
 
-    module _ (c : Step) (t₁ : List ℕ) (sc₁ : List Float) (ac₁ closed₁ marks₁ : List ℕ) (X : PathTaken g vs es x index targets column t sc ac closed marks r.left r.path c t₁ sc₁ ac₁ closed₁ marks₁) where
-      module _ (f : SearchInput) (bs : ℕ → List Branches) (cl : ℕ → ℕ) (order : List ℕ) (s : State Float) (A : At f g vs es x index targets column bs cl t sc ac queue closed order marks p s)
-          (unmet : p.closed < g.asked) where
-        abbrev want : Made Float
-        want = take_path (column_scoring column) f (path_of f es index targets bs t sc r.path) (with_waiting s (taken f bs cl order s A unmet).rest)
+    module _ (t₁ : List ℕ) (sc₁ : List Float) (ac₁ closed₁ marks₁ : List ℕ) where
+      abbrev want : (f : SearchInput) (bs : ℕ → List Branches) (cl : ℕ → ℕ) (order : List ℕ) (s : State Float) → At f g vs es x index targets column bs cl t sc ac queue closed order marks p s → p.closed < g.asked
+          → Made Float
+      want f bs cl order s A unmet = take_path (column_scoring column) f (path_of f es index targets bs t sc r.path) (with_waiting s (taken f bs cl order s A unmet).rest)
 
-        makes-by : MakesBy f g es x index targets queue₁ order r.left c want t₁ sc₁ ac₁ closed₁ marks₁
-        makes-by = X.is f bs cl queue₁ order (with_waiting s (taken f bs cl order s A unmet).rest) (going f bs cl order s A unmet)
-
-      pub next-refused : (k : ℕ) → c ≡ Refused k → (n : ℕ) → n ≡ step_refusal c → (queue' : List ℕ) → TurnMade g vs es x index targets column t sc ac queue closed marks p (turned.Refused n) t₁ sc₁ ac₁ queue' closed₁ marks₁
-      next-refused k e n h queue' =
+      pub next-refused : (k : Refusal) → PathTaken g vs es x index targets column t sc ac closed marks r.left r.path (Err k) t₁ sc₁ ac₁ closed₁ marks₁ → (queue' : List ℕ)
+          → TurnMade g vs es x index targets column t sc ac queue closed marks p (Err k) t₁ sc₁ ac₁ queue' closed₁ marks₁
+      next-refused k X queue' =
           record {
             is = λ f bs cl order s A unmet.
-                (let z : n ≡ k = h ∙ ap step_refusal e in
-                let w : want f bs cl order s A unmet ≡ broken k =
-                subst (λ (d : Step). MakesBy f g es x index targets queue₁ order r.left d (want f bs cl order s A unmet) t₁ sc₁ ac₁ closed₁ marks₁) e (makes-by f bs cl order s A unmet)
+                (let w : want f bs cl order s A unmet ≡ broken (number k) =
+                X.is f bs cl queue₁ order (with_waiting s (taken f bs cl order s A unmet).rest) (going f bs cl order s A unmet)
                 in
-                rw z (fails (turn_is f bs cl order s A unmet (broken k) w ∙ push-broken (column_scoring column) f g.asked g.pushes s k)));
+                fails (turn_is f bs cl order s A unmet (broken (number k)) w ∙ push-broken (column_scoring column) f g.asked g.pushes s (number k)));
           }
 
-      module _ (q : Progress) (e : c ≡ On q) where
+      module _ (q : Progress) (X : PathTaken g vs es x index targets column t sc ac closed marks r.left r.path (Ok q) t₁ sc₁ ac₁ closed₁ marks₁) where
         module _ (f : SearchInput) (bs : ℕ → List Branches) (cl : ℕ → ℕ) (order : List ℕ) (s : State Float) (A : At f g vs es x index targets column bs cl t sc ac queue closed order marks p s)
             (unmet : p.closed < g.asked) where
           makes : Makes f g es x index targets queue₁ order r.left q (want f bs cl order s A unmet) t₁ sc₁ ac₁ closed₁ marks₁
-          makes = subst (λ (d : Step). MakesBy f g es x index targets queue₁ order r.left d (want f bs cl order s A unmet) t₁ sc₁ ac₁ closed₁ marks₁) e (makes-by f bs cl order s A unmet)
+          makes = X.is f bs cl queue₁ order (with_waiting s (taken f bs cl order s A unmet).rest) (going f bs cl order s A unmet)
 
         pub next-counts : (walks : List ℕ) → NextTurn g vs es x index targets column t sc ac queue closed marks walks p → (r.left.closed ≤ q.closed) × (first_new r.left q ≤ q.records)
         next-counts walks P =
@@ -186,24 +180,18 @@ module _ (g : Setting) (vs es x index targets : List ℕ) (column : List Float) 
                 room = omega arith;
               }
 
-          module _ (d : Step) (queue₂ : List ℕ) (Y : AllPushed sc₁ queue₁ g q from queue₂ d) where
-            pub next-full : (k : ℕ) → d ≡ Refused k → (n : ℕ) → n ≡ step_refusal d → TurnMade g vs es x index targets column t sc ac queue closed marks p (turned.Refused n) t₁ sc₁ ac₁ queue₂ closed₁ marks₁
-            next-full k u n h =
-                let F : Filled sc₁ queue₁ g q from k = subst (λ (b : Step). AllPushed sc₁ queue₁ g q from queue₂ b) u Y in
+          module _ (queue₂ : List ℕ) where
+            next-full : (k : Refusal) → AllPushed sc₁ queue₁ g q from queue₂ (Err k) → TurnMade g vs es x index targets column t sc ac queue closed marks p (Err k) t₁ sc₁ ac₁ queue₂ closed₁ marks₁
+            next-full k F =
                 record {
                   is = λ f bs cl order s A unmet.
-                      (let z : n ≡ k = h ∙ ap step_refusal u in
-                      let E = F.each (scene f bs cl order s A unmet) (M f bs cl order s A unmet).state column (ready f bs cl order s A unmet) in
-                      rw z (fills F.number E.state E.left (pushed-is f bs cl order s A unmet ∙ E.is)));
+                      (let E = F.each (scene f bs cl order s A unmet) (M f bs cl order s A unmet).state column (ready f bs cl order s A unmet) in
+                      fills F.number E.state E.left (pushed-is f bs cl order s A unmet ∙ E.is));
                 }
 
-            module _ (p' : Progress) (u : d ≡ On p') (lt : length t₁ ≡ length t) (ls : length sc₁ ≡ length sc) (la : length ac₁ ≡ length ac) (lh : length closed₁ ≡ length closed)
-                (lr : length queue₂ ≡ length queue₁) where
-              F : Pushed-all sc₁ queue₁ g q from queue₂ p'
-              F = subst (λ (b : Step). AllPushed sc₁ queue₁ g q from queue₂ b) u Y
-
-              pub next_more : TurnMade g vs es x index targets column t sc ac queue closed marks p (turned.More p') t₁ sc₁ ac₁ queue₂ closed₁ marks₁
-              next_more =
+            module _ (lt : length t₁ ≡ length t) (ls : length sc₁ ≡ length sc) (la : length ac₁ ≡ length ac) (lh : length closed₁ ≡ length closed) (lr : length queue₂ ≡ length queue₁) where
+              next_more : (p' : Progress) → Pushed-all sc₁ queue₁ g q from queue₂ p' → TurnMade g vs es x index targets column t sc ac queue closed marks p (Ok (Some p')) t₁ sc₁ ac₁ queue₂ closed₁ marks₁
+              next_more p' F =
                   record {
                     is = λ f bs cl order s A unmet.
                         (let E = F.each (scene f bs cl order s A unmet) (M f bs cl order s A unmet).state column (ready f bs cl order s A unmet) in
@@ -235,3 +223,8 @@ module _ (g : Setting) (vs es x index targets : List ℕ) (column : List Float) 
                               };
                         });
                   }
+
+              pub next-pushed : (d : Turned) → PushedTurn sc₁ queue₁ g q from queue₂ d → TurnMade g vs es x index targets column t sc ac queue closed marks p d t₁ sc₁ ac₁ queue₂ closed₁ marks₁
+              next-pushed (Ok (Some p')) F = next_more p' F
+              next-pushed (Ok None) F = absurd F
+              next-pushed (Err k) F = next-full k F

@@ -1,72 +1,24 @@
 -- A turn where nothing waits: the next pivotal edge is tried, and what is recovered is pushed.
-use Rattle.std.specs.Prelude.{◌≡◌, refl, List, [], ℕ, ◌+◌, ◌*◌, ◌<◌, ◌≤◌, length, Float}
-use Rattle.std.proofs.Common.{sym, ap, subst, ◌∙◌, mul-le-mul_right, arith}
+use Rattle.std.specs.Prelude.{◌≡◌, refl, Some, None, Ok, Err, List, [], ℕ, ◌+◌, ◌*◌, ◌<◌, ◌≤◌, length, Float}
+use Rattle.std.proofs.Common.{◌∙◌, mul-le-mul_right, arith}
 use Rattle.definition.specs.Score.{column_scoring}
 use Rattle.definition.specs.Evidence.{Branches}
 use Rattle.definition.specs.Search.{SearchInput, State}
-use Rattle.search_state.specs.declared.Setting.{Setting}
+use Rattle.search_state.specs.Settings.{Setting}
 use Rattle.search_state.specs.declared.Progress.{Progress}
-use Rattle.search_state.specs.declared.Step.{Step}
-use Rattle.search_state.specs.declared.Step.TheVariants.{On, Refused}
+use Rattle.refusals.specs.declared.Refusal.{Refusal}
+use Rattle.refusals.specs.Numbers.{number}
 use Rattle.search_state.specs.Ground.{name_of}
-use Rattle.path_queue.specs.declared.Recovery.{Recovery}
-use Rattle.path_queue.specs.declared.Recovery.TheVariants as recovery
 use Rattle.path_queue.specs.Scene.{Scene}
-use Rattle.path_queue.specs.Push.{Ready, Pushes, pushes_from, AllPushed}
+use Rattle.path_queue.specs.Push.{Ready, Pushes, pushes_from}
 use Rattle.path_queue.specs.Enqueue.{Around, Resting, TriesNext, Remade, Tried}
-use Rattle.junction_kbest.specs.declared.Turned.{Turned}
-use Rattle.junction_kbest.specs.declared.Turned.TheVariants as turned
-use Rattle.turn_rules.specs.Answers.{step_refusal}
 use Rattle.junction_kbest.specs.Turn.{with_pivotal, fails, fills, turn-ended, turn-recovers, push-made, push-broken}
 use Rattle.junction_kbest.specs.Counts.{none-wait}
 use Rattle.junction_kbest.specs.Extend.{Roomy}
 use Rattle.junction_kbest.specs.Next.{scene_of}
-use Rattle.junction_kbest.specs.Between.{At, turn_of, TurnBy, TurnAsks, TurnMade, closed-unmet, roomy, good-on, room-kept}
+use Rattle.junction_kbest.specs.Between.{Turned, At, turn_of, TurnBy, PushedTurn, TurnAsks, TurnMade, closed-unmet, roomy, good-on, room-kept}
 
 -- ---- what the contracts say
-
--- a turn, by the answer of its pushes
-abbrev pub turned_of : Step → Turned
-turned_of (On p) = turned.More p
-turned_of (Refused k) = turned.Refused k
-
-pub record PushedTurn (sc : List Float) (queue : List ℕ) (g : Setting) (q : Progress) (from : ℕ) (queue' : List ℕ) (out : Turned) : Type 0 where
-  pub step : Step
-  pub pushed : AllPushed sc queue g q from queue' step
-  pub is : out ≡ turned_of step
-
-pub pushed-full : (sc : List Float) (queue : List ℕ) (g : Setting) (q : Progress) (from : ℕ) (queue' : List ℕ) (d : Step) → AllPushed sc queue g q from queue' d → (k : ℕ) → d ≡ Refused k → (n : ℕ) → n ≡ step_refusal d
-    → PushedTurn sc queue g q from queue' (turned.Refused n)
-pushed-full sc queue g q from queue' d Y k e n h =
-    record { step = d; pushed = Y; is = (let z : n ≡ k = h ∙ ap step_refusal e in ap turned.Refused z ∙ ap turned_of (sym e)) }
-
-pub pushed_more : (sc : List Float) (queue : List ℕ) (g : Setting) (q : Progress) (from : ℕ) (queue' : List ℕ) (d : Step) → AllPushed sc queue g q from queue' d → (n : Progress) → d ≡ On n
-    → PushedTurn sc queue g q from queue' (turned.More n)
-pushed_more sc queue g q from queue' d Y n e = record { step = d; pushed = Y; is = ap turned_of (sym e) }
-
--- what was recovered may be pushed
-abbrev pub RecoveredAsks : List Float → List ℕ → Setting → Progress → Recovery → Type 0
-RecoveredAsks sc queue g p recovery.Ended = Unit {0}
-RecoveredAsks sc queue g p (recovery.Made q) = Pushes sc queue g q p.records
-RecoveredAsks sc queue g p (recovery.Refused k) = Unit {0}
-
-abbrev pub RecoveredTurn : List Float → List ℕ → Setting → Progress → Recovery → List ℕ → Turned → Type 0
-RecoveredTurn sc queue g p recovery.Ended queue' out = (queue' ≡ queue) × (out ≡ turned.Ended)
-RecoveredTurn sc queue g p (recovery.Made q) queue' out = PushedTurn sc queue g q p.records queue' out
-RecoveredTurn sc queue g p (recovery.Refused k) queue' out = out ≡ turned.Refused k
-
-module _ (sc : List Float) (queue : List ℕ) (g : Setting) (p : Progress) (r : Recovery) where
-  pub recovered-asks : (q : Progress) → r ≡ recovery.Made q → RecoveredAsks sc queue g p r → Pushes sc queue g q p.records
-  recovered-asks q e a = subst (RecoveredAsks sc queue g p) e a
-
-  pub recovered-ended : r ≡ recovery.Ended → RecoveredTurn sc queue g p r queue turned.Ended
-  recovered-ended e = subst (λ (b : Recovery). RecoveredTurn sc queue g p b queue turned.Ended) (sym e) (refl, refl)
-
-  pub recovered-refused : (k : ℕ) → r ≡ recovery.Refused k → RecoveredTurn sc queue g p r queue (turned.Refused k)
-  recovered-refused k e = subst (λ (b : Recovery). RecoveredTurn sc queue g p b queue (turned.Refused k)) (sym e) refl
-
-  pub recovered-made : (q : Progress) → r ≡ recovery.Made q → (queue' : List ℕ) (out : Turned) → PushedTurn sc queue g q p.records queue' out → RecoveredTurn sc queue g p r queue' out
-  recovered-made q e queue' out P = subst (λ (b : Recovery). RecoveredTurn sc queue g p b queue' out) (sym e) P
 
 -- by the answer, for every search whose stores these are, where the pivotal edges stand in this order
 pub record TurnMadeIn (order : List ℕ) (g : Setting) (vs es x index targets : List ℕ) (column : List Float) (t : List ℕ) (sc : List Float) (ac queue closed marks : List ℕ) (p : Progress) (r : Turned) (t' : List ℕ)
@@ -132,7 +84,7 @@ module _ (g : Setting) (es index targets t : List ℕ) (sc : List Float) (queue 
       }
 
   module _ (t₁ : List ℕ) (sc₁ : List Float) where
-    module _ (q : Progress) (X : Tried es index targets t sc closed order marks g p t₁ sc₁ (recovery.Made q)) (vs x ac : List ℕ) (column : List Float) (f : SearchInput) (bs : ℕ → List Branches) (cl : ℕ → ℕ) (s : State Float)
+    module _ (q : Progress) (X : Tried es index targets t sc closed order marks g p t₁ sc₁ (Ok (Some q))) (vs x ac : List ℕ) (column : List Float) (f : SearchInput) (bs : ℕ → List Branches) (cl : ℕ → ℕ) (s : State Float)
         (A : At f g vs es x index targets column bs cl t sc ac queue closed order marks p s) (unmet : p.closed < g.asked) where
       abbrev K : Remade (around vs x ac column f bs cl s A unmet) es index targets closed order marks g p s column t₁ sc₁ q
       K = X.1 (around vs x ac column f bs cl s A unmet) s column (resting vs x ac column f bs cl s A unmet)
@@ -151,10 +103,8 @@ module _ (g : Setting) (es index targets t : List ℕ) (sc : List Float) (queue 
           (still vs x ac column f bs cl s A unmet) K.next.is _ K.gives
           ∙ push-made (column_scoring column) f g.asked g.pushes s (with_pivotal s K.next.rest) _
 
-    pub pivot-pushes : (r : Recovery) → Tried es index targets t sc closed order marks g p t₁ sc₁ r → (walks : List ℕ) → PivotTurn es index targets t sc queue closed order marks walks g p → RecoveredAsks sc₁ queue g p r
-    pivot-pushes recovery.Ended X walks P = tt
-    pivot-pushes (recovery.Refused k) X walks P = tt
-    pivot-pushes (recovery.Made q) X walks P =
+    pub pivot-pushes : (q : Progress) → Tried es index targets t sc closed order marks g p t₁ sc₁ (Ok (Some q)) → (walks : List ℕ) → PivotTurn es index targets t sc queue closed order marks walks g p → Pushes sc₁ queue g q p.records
+    pivot-pushes q X walks P =
         let N = P.asks in
         record {
           scene = scene q X P.vertices P.nodes P.actives P.column N.input N.branches N.closings N.state N.at N.unmet;
@@ -163,10 +113,35 @@ module _ (g : Setting) (es index targets t : List ℕ) (sc : List Float) (queue 
           room = N.at.room.waiting;
         }
 
-    module _ (lt : length t₁ ≡ length t) (ls : length sc₁ ≡ length sc) (queue₁ : List ℕ) (lq : length queue₁ ≡ length queue) where
-      pushed-turn : (q : Progress) → Tried es index targets t sc closed order marks g p t₁ sc₁ (recovery.Made q) → (d : Step) → AllPushed sc₁ queue g q p.records queue₁ d
-          → PivotMade es index targets t sc queue closed order marks g p (turned_of d) t₁ sc₁ queue₁
-      pushed-turn q X (Refused k) F =
+    -- there is no edge to try, or it is refused
+    pub pivot-ended : Tried es index targets t sc closed order marks g p t₁ sc₁ (Ok None) → PivotMade es index targets t sc queue closed order marks g p (Ok None) t₁ sc₁ queue
+    pivot-ended X =
+        record {
+          is = λ vs x ac column. record {
+            is = λ f bs cl s A unmet. (
+              turn-ended (column_scoring column) f g.asked g.pushes s (still-unmet vs x ac column f bs cl s A unmet) (still vs x ac column f bs cl s A unmet)
+                  (X.2 (around vs x ac column f bs cl s A unmet) s (resting vs x ac column f bs cl s A unmet)),
+              record { paths = X.0; scores = X.1; actives = refl; waiting = refl; closed_same = refl; marked = refl },
+            );
+          };
+        }
+
+    pub pivot-refused : (k : Refusal) → Tried es index targets t sc closed order marks g p t₁ sc₁ (Err k) → PivotMade es index targets t sc queue closed order marks g p (Err k) t₁ sc₁ queue
+    pivot-refused k X =
+        record {
+          is = λ vs x ac column. record {
+            is = λ f bs cl s A unmet.
+                (let B = X (around vs x ac column f bs cl s A unmet) s column (resting vs x ac column f bs cl s A unmet) in
+                fails
+                (turn-recovers (column_scoring column) f g.asked g.pushes s (still-unmet vs x ac column f bs cl s A unmet) (name_of es B.next.edge) B.next.rest
+                (still vs x ac column f bs cl s A unmet) B.next.is _ B.gives
+                ∙ push-broken (column_scoring column) f g.asked g.pushes s (number k)));
+          };
+        }
+
+    module _ (lt : length t₁ ≡ length t) (ls : length sc₁ ≡ length sc) (queue₁ : List ℕ) (lq : length queue₁ ≡ length queue) (q : Progress) (X : Tried es index targets t sc closed order marks g p t₁ sc₁ (Ok (Some q))) where
+      pub pivot-turn : (d : Turned) → PushedTurn sc₁ queue g q p.records queue₁ d → PivotMade es index targets t sc queue closed order marks g p d t₁ sc₁ queue₁
+      pivot-turn (Err k) F =
           record {
             is = λ vs x ac column. record {
               is = λ f bs cl s A unmet.
@@ -174,7 +149,8 @@ module _ (g : Setting) (es index targets t : List ℕ) (sc : List Float) (queue 
                   fills F.number E.state E.left (pushed-is q X vs x ac column f bs cl s A unmet ∙ E.is));
             };
           }
-      pushed-turn q X (On n) F =
+      pivot-turn (Ok None) F = absurd F
+      pivot-turn (Ok (Some n)) F =
           record {
             is = λ vs x ac column. record {
               is = λ f bs cl s A unmet.
@@ -204,31 +180,3 @@ module _ (g : Setting) (es index targets t : List ℕ) (sc : List Float) (queue 
                   });
             };
           }
-
-      pub pivot-turn : (r : Recovery) → Tried es index targets t sc closed order marks g p t₁ sc₁ r → (out : Turned) → RecoveredTurn sc₁ queue g p r queue₁ out
-          → PivotMade es index targets t sc queue closed order marks g p out t₁ sc₁ queue₁
-      pivot-turn recovery.Ended X out Y =
-          subst (λ (o : Turned). PivotMade es index targets t sc queue closed order marks g p o t₁ sc₁ queue₁) (sym Y.1)
-          (record {
-            is = λ vs x ac column. record {
-              is = λ f bs cl s A unmet. (
-                turn-ended (column_scoring column) f g.asked g.pushes s (still-unmet vs x ac column f bs cl s A unmet) (still vs x ac column f bs cl s A unmet)
-                    (X.2 (around vs x ac column f bs cl s A unmet) s (resting vs x ac column f bs cl s A unmet)),
-                record { paths = X.0; scores = X.1; actives = refl; waiting = Y.0; closed_same = refl; marked = refl },
-              );
-            };
-          })
-      pivot-turn (recovery.Refused k) X out Y =
-          subst (λ (o : Turned). PivotMade es index targets t sc queue closed order marks g p o t₁ sc₁ queue₁) (sym Y)
-          (record {
-            is = λ vs x ac column. record {
-              is = λ f bs cl s A unmet.
-                  (let B = X (around vs x ac column f bs cl s A unmet) s column (resting vs x ac column f bs cl s A unmet) in
-                  fails
-                  (turn-recovers (column_scoring column) f g.asked g.pushes s (still-unmet vs x ac column f bs cl s A unmet) (name_of es B.next.edge) B.next.rest
-                  (still vs x ac column f bs cl s A unmet) B.next.is _ B.gives
-                  ∙ push-broken (column_scoring column) f g.asked g.pushes s k));
-            };
-          })
-      pivot-turn (recovery.Made q) X out Y =
-          subst (λ (o : Turned). PivotMade es index targets t sc queue closed order marks g p o t₁ sc₁ queue₁) (sym Y.is) (pushed-turn q X Y.step Y.pushed)

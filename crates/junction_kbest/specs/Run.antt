@@ -1,9 +1,6 @@
 -- The definition's search as what is left of it from a state: a turn that goes on leaves the same answer, with a lower measure.
-use Rattle.std.specs.Prelude.{◌≡◌, Bool, true, false, List, [], length}
-use Rattle.std.proofs.Math.Path.{refl, ap}
-use Rattle.std.proofs.Common.{◌∙◌}
-use Prim.Native.Nat.{ℕ, suc, ◌+◌, ◌-◌, ◌<◌}
-use native.Mathlib.Omega.{arith}
+use Rattle.std.specs.Prelude.{◌≡◌, Bool, true, false, List, [], length, refl, ℕ, suc, ◌+◌, ◌-◌, ◌<◌}
+use Rattle.std.proofs.Common.{ap, ◌∙◌, arith}
 use Rattle.definition.specs.Score.{Scoring}
 use Rattle.definition.specs.Threading.{Ends}
 use Rattle.definition.specs.Search.{SearchInput, Path, State, Turn, more, ended, failed, full, turn, run, pivotal_edges, first_state, search}

@@ -1,8 +1,6 @@
 -- The path that was taken: dropped where it has too many decisions since guidance, else its chain is followed and it is extended.
-use Rattle.std.specs.Prelude.{◌≡◌, refl, true, List, map, ℕ, ◌+◌, ◌-◌, ◌<◌, ◌≤◌, length, Float}
-use Rattle.std.proofs.Common.{sym, subst, ◌∙◌}
-use Rattle.std.proofs.Math.Path.{ap}
-use native.Mathlib.Omega.{arith}
+use Rattle.std.specs.Prelude.{◌≡◌, refl, true, Result, Ok, List, map, ℕ, ◌-◌, ◌<◌, ◌≤◌, length, Float}
+use Rattle.std.proofs.Common.{sym, subst, ◌∙◌, ap, arith}
 use Rattle.definition.specs.Limits.{column_fits}
 use Rattle.definition.specs.Score.{column_scoring}
 use Rattle.definition.specs.Evidence.{Branches}
@@ -11,22 +9,21 @@ use Rattle.definition.specs.Search as defs
 use Rattle.tables.specs.Widths.{offer_numbers}
 use Rattle.path_store.specs.declared.records.PathRecord.{PathRecord}
 use Rattle.path_growth.specs.declared.Taken.{Taken}
-use Rattle.path_store.specs.Cells.{end_of, since_of, Inside, path_at}
-use Rattle.path_edges.specs.Path.{Table, edges, inside, table-front}
+use Rattle.path_store.specs.Cells.{end_of, since_of, path_at}
+use Rattle.path_edges.specs.Path.{edges}
 use Rattle.path_growth.specs.Grow.{Following}
 use Rattle.path_growth.specs.Held.{following-own}
 use Rattle.path_growth.specs.Link.{chain_same, end_same}
 use Rattle.path_store.specs.Walk.{run, end-run}
-use Rattle.search_state.specs.declared.Setting.{Setting}
+use Rattle.search_state.specs.Settings.{Setting}
 use Rattle.search_state.specs.declared.Progress.{Progress}
-use Rattle.search_state.specs.declared.Step.{Step}
-use Rattle.search_state.specs.declared.Step.TheVariants.{On}
+use Rattle.refusals.specs.declared.Refusal.{Refusal}
 use Rattle.search_state.specs.Ground.{Ground, name_of}
 use Rattle.search_state.specs.State.{path_of, Idle, Holds, Apart, up_from}
 use Rattle.path_closing.specs.Closes.{chain_after}
 use Rattle.turn_rules.specs.Rules.{first_new}
 use Rattle.junction_kbest.specs.Turn.{take-drops, take-extends}
-use Rattle.junction_kbest.specs.Extend.{Roomy, Extending, MakesBy, ExtendsTaken, extended_at, TakenExtended}
+use Rattle.junction_kbest.specs.Extend.{Roomy, Extending, MakesBy, extended_at, TakenExtended}
 
 -- ---- what the contract says
 
@@ -50,7 +47,7 @@ pub record TakesPath (g : Setting) (vs es x index targets : List ℕ) (column : 
   pub all : Going input g vs es x index targets column branches closings t sc ac queue closed order marks p state path
   pub rows : offer_numbers ≤ length out
 
-pub record PathTaken (g : Setting) (vs es x index targets : List ℕ) (column : List Float) (t : List ℕ) (sc : List Float) (ac closed marks : List ℕ) (p : Progress) (path : ℕ) (r : Step) (t' : List ℕ) (sc' : List Float)
+pub record PathTaken (g : Setting) (vs es x index targets : List ℕ) (column : List Float) (t : List ℕ) (sc : List Float) (ac closed marks : List ℕ) (p : Progress) (path : ℕ) (r : Result Progress Refusal) (t' : List ℕ) (sc' : List Float)
     (ac' closed' marks' : List ℕ) : Type 0 where
   pub is : (f : SearchInput) (bs : ℕ → List Branches) (closings : ℕ → ℕ) (queue order : List ℕ) (s : State Float)
       → Going f g vs es x index targets column bs closings t sc ac queue closed order marks p s path
@@ -76,15 +73,8 @@ vertex-is f g vs es x index targets bs cl t sc ac queue closed order marks p s t
 
 -- ---- the steps
 module _ (g : Setting) (vs es x index targets : List ℕ) (column : List Float) (t : List ℕ) (sc : List Float) (ac closed marks : List ℕ) (p : Progress) (path : ℕ) where
-  module _ (out : List ℕ) (T : TakesPath g vs es x index targets column t sc ac closed marks out p path) where
-    pub take-inside : Inside t sc path
-    take-inside = inside index targets t sc p.records T.all.holds.records.held.table path T.all.idle.known
-
-    pub take-table : Table index targets t sc (path + 1)
-    take-table = let h = T.all.idle.known in table-front index targets t sc p.records (path + 1) T.all.holds.records.held.table (omega arith)
-
   -- too many decisions since guidance
-  pub path-dropped : (row : PathRecord) → row ≡ path_at t sc path → 5 < row.since → PathTaken g vs es x index targets column t sc ac closed marks p path (On p) t sc ac closed marks
+  pub path-dropped : (row : PathRecord) → row ≡ path_at t sc path → 5 < row.since → PathTaken g vs es x index targets column t sc ac closed marks p path (Ok p) t sc ac closed marks
   unfolding up_from
   path-dropped row e h =
       record {
@@ -132,19 +122,6 @@ module _ (g : Setting) (vs es x index targets : List ℕ) (column : List Float) 
           roomy = G.roomy;
         }
 
-    pub path-extends : (out : List ℕ) → TakesPath g vs es x index targets column t sc ac closed marks out p path → ExtendsTaken g vs es x index targets column t sc ac closed marks out p taken
-    path-extends out T =
-        record {
-          input = T.input;
-          branches = T.branches;
-          closings = T.closings;
-          queue = T.queue;
-          order = T.order;
-          state = T.state;
-          all = extending T.input T.branches T.closings T.queue T.order T.state T.all;
-          rows = T.rows;
-        }
-
     wanted : (f : SearchInput) (bs : ℕ → List Branches) (cl : ℕ → ℕ) (queue order : List ℕ) (s : State Float) → Going f g vs es x index targets column bs cl t sc ac queue closed order marks p s path
         → extended_at column f es index targets bs t sc taken s ≡ take_path (column_scoring column) f (path_of f es index targets bs t sc path) s
     wanted f bs cl queue order s G =
@@ -158,7 +135,7 @@ module _ (g : Setting) (vs es x index targets : List ℕ) (column : List Float) 
         ∙ ap (λ (r : ℕ). extend_at (column_scoring column) f (view r) (chain_after f (view r)) (defs.end_from (defs.end_from f.source (view r).edges) (chain_after f (view r))) s) q
         ∙ sym (take-extends (column_scoring column) f (view path) s d)
 
-    pub path-extended : (r : Step) (t' : List ℕ) (sc' : List Float) (ac' closed' marks' : List ℕ)
+    pub path-extended : (r : Result Progress Refusal) (t' : List ℕ) (sc' : List Float) (ac' closed' marks' : List ℕ)
         → TakenExtended g vs es x index targets column t sc ac closed marks p taken r t' sc' ac' closed' marks' → PathTaken g vs es x index targets column t sc ac closed marks p path r t' sc' ac' closed' marks'
     path-extended r t' sc' ac' closed' marks' X =
         record {

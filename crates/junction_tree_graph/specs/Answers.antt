@@ -1,6 +1,6 @@
--- What the enums of the code answer, case by case. Assumes nothing.
-use Rattle.std.specs.Prelude.{◌≡◌, true, false, ◌&&◌, List, leb, ℕ, ◌+◌, ◌-◌, ◌*◌, ◌^◌, ◌<◌, ◌≤◌, length}
-use Rattle.std.proofs.Common.{ap, ◌∙◌, arith}
+-- What the code answers, case by case. Assumes nothing.
+use Rattle.std.specs.Prelude.{◌≡◌, true, false, Option, IsSome, Result, Ok, Err, ◌&&◌, List, leb, ℕ, ◌+◌, ◌-◌, ◌*◌, ◌^◌, ◌<◌, ◌≤◌, length}
+use Rattle.std.proofs.Common.{arith}
 use Rattle.laws.specs.ListLaws.{and_left, and_right}
 use Rattle.laws.specs.Numbers.{within}
 use Rattle.definition.specs.Refusal.{ok, refused}
@@ -12,50 +12,47 @@ use Rattle.assembly.specs.Fields.{HasVertices, kmer_place, HasEdge}
 use Rattle.assembly.specs.Store.{kmers_of}
 use Rattle.assembly.specs.Moves.{added_e}
 use Rattle.assembly.specs.Kmers.{part}
-use Rattle.graph_kmers.specs.Index.{Finding}
+use Rattle.graph_kmers.specs.Index.{Finding, Found}
 use Rattle.assembly.specs.Symbolic.{symbolic}
 use Rattle.kmer_threading.specs.declared.At.{At}
-use Rattle.kmer_threading.specs.declared.Step.{Step}
-use Rattle.kmer_threading.specs.declared.Step.TheVariants.{Next, Refused}
-use Rattle.junction_tree_graph.specs.declared.Answer.{Answer}
-use Rattle.junction_tree_graph.specs.declared.Answer.TheVariants as answer
+use Rattle.refusals.specs.declared.Refusal.{Refusal}
+use Rattle.refusals.specs.Numbers.{number}
+use Rattle.junction_tree_graph.specs.declared.Built.{Built}
 use Rattle.sequence_threading.specs.Stretches.{OverG, CameG, Threaded}
-use Rattle.junction_tree_graph.specs.Built.{Builds, graph_fits, BuiltAt, NotBuilt, most_of, text_of, build-stop, sink-asks, symbolic-asks, built-at}
+use Rattle.junction_tree_graph.specs.Built.{Builds, graph_fits, BuiltAt, NotBuilt, most_of, text_of, build-stop, sink-asks, sink-found, symbolic-asks, built-at}
 
-abbrev pub refusal_of : Step → ℕ
-refusal_of (Next s) = 0
-refusal_of (Refused n) = n
-
-abbrev pub BuiltOf : Sample → ℕ → ℕ → List ℕ → List ℕ → Answer → Type 0
-BuiltOf s v e vs es (answer.Done b) = BuiltAt s v e vs es b.vertices b.edges b.sink
-BuiltOf s v e vs es (answer.Refused n) = NotBuilt s v e n
+abbrev pub BuiltOf : Sample → ℕ → ℕ → List ℕ → List ℕ → Result Built Refusal → Type 0
+BuiltOf s v e vs es (Ok b) = BuiltAt s v e vs es b.vertices b.edges b.sink
+BuiltOf s v e vs es (Err n) = NotBuilt s v e (number n)
 
 -- the index has the kmers of the graph
-abbrev pub FoundOf : ℕ → List ℕ → List ℕ → List ℕ → Answer → Type 0
-FoundOf k text vs idx (answer.Done b) = Finding k text vs idx b.vertices
-FoundOf k text vs idx (answer.Refused n) = Unit {0}
+abbrev pub FoundOf : ℕ → List ℕ → List ℕ → List ℕ → Result Built Refusal → Type 0
+FoundOf k text vs idx (Ok b) = Finding k text vs idx b.vertices
+FoundOf k text vs idx (Err n) = Unit {0}
 
 -- ---- the whole build in the code's words
-module _ {s : Sample} {v e : ℕ} {vs es : List ℕ} (x : Builds s v e vs es) (vs' es' : List ℕ) (r : Step)
+module _ {s : Sample} {v e : ℕ} {vs es : List ℕ} (x : Builds s v e vs es) (vs' es' : List ℕ) (r : Result At Refusal)
     (h : Threaded s.k (text_of s) vs' es' (most_of v e) (2 * length (text_of s)) r (threaded s)) where
-  pub answer-stop : (n : ℕ) → r ≡ Refused n → (m : ℕ) → m ≡ refusal_of r → NotBuilt s v e m
-  answer-stop n d m f =
-      let o : OverG (most_of v e) n (threaded s) = rw d at h in
-      let z : m ≡ n = f ∙ ap refusal_of d in
-      rw z (build-stop x n o)
+  pub answer-stop : (n : Refusal) → r ≡ Err n → NotBuilt s v e (number n)
+  answer-stop n d =
+      let o : OverG (most_of v e) (number n) (threaded s) = rw d at h in
+      build-stop x (number n) o
 
-  module _ (t : At) (d : r ≡ Next t) where
+  module _ (t : At) (d : r ≡ Ok t) where
     came : CameG s.k (text_of s) vs' es' (most_of v e) t (2 * length (text_of s)) (threaded s)
     came = rw d at h
 
     pub answer-asks : (length s.reference - s.k + s.k ≤ length (text_of s)) × (HasVertices vs' t.vertices) × ((u : ℕ) → u < t.vertices → kmer_place vs' u + s.k ≤ length (text_of s))
     answer-asks = sink-asks x came
 
+    pub answer-found : (o : Option ℕ) → Found t.vertices (number_of (kmers_of s.k (text_of s) vs' t.vertices) (part s.k (text_of s) (length s.reference - s.k))) o → IsSome o
+    answer-found o f = sink-found x came o f
+
     module _ (le : length es' ≡ length es) (sink : ℕ) (hs : sink ≡ number_of (kmers_of s.k (text_of s) vs' t.vertices) (part s.k (text_of s) (length s.reference - s.k))) where
       pub answer-symbolic : (HasEdge es' t.edges) × (sink < 2 ^ 32) × (t.vertices < 2 ^ 32) × (length s.reference - s.k < 2 ^ 32)
       answer-symbolic = symbolic-asks x came le sink hs
 
-      pub answer-done : (fs : List ℕ) → fs ≡ added_e es' t.edges (symbolic sink t.vertices (length s.reference - s.k)) 1 → BuiltAt s v e vs' fs t.vertices t.edges sink
+      pub answer-done : (fs : List ℕ) → fs ≡ added_e es' t.edges (symbolic sink t.vertices (length s.reference - s.k)) → BuiltAt s v e vs' fs t.vertices t.edges sink
       answer-done fs f = built-at x came le sink hs (omega arith) fs f
 
 -- ---- what this is to the call for the graph: its maxima's limits, and refusal 8

@@ -1,6 +1,6 @@
 -- The whole build: what the sample's rules give, the reference first and then the reads, the symbolic edge last, and when the graph fits the maxima.
 -- Assumes nothing.
-use Rattle.std.specs.Prelude.{◌≡◌, refl, ◌⊎◌, Bool, true, false, ◌&&◌, List, [], ◌∷◌, ◌++◌, ℕ, zero, suc, ◌+◌, ◌-◌, ◌*◌, ◌^◌, ◌<◌, ◌≤◌, eqb, leb, get_or}
+use Rattle.std.specs.Prelude.{◌≡◌, refl, ◌⊎◌, Bool, true, false, Option, None, Some, IsSome, Result, Ok, Err, ◌&&◌, List, [], ◌∷◌, ◌++◌, ℕ, zero, suc, ◌+◌, ◌-◌, ◌*◌, ◌^◌, ◌<◌, ◌≤◌, eqb, leb, get_or}
 use Rattle.std.proofs.Common.{sym, ◌∙◌, inl, inr, arith, length-append, leb-true, eqb-true, le-leb}
 use Rattle.std.proofs.Math.Path.{ap}
 use Rattle.std.proofs.Math.ListN.{length, get_or-append}
@@ -21,14 +21,15 @@ use Rattle.assembly.specs.Store.{edge_at, edges_of, kmers_of, graph_of, Good, go
 use Rattle.assembly.specs.Moves.{added_e, added_e-row}
 use Rattle.assembly.specs.Kmers.{part, length-of}
 use Rattle.assembly.specs.Symbolic.{symbolic, symbolic-put, symbolic-front, symbolic-from, symbolic-to, symbolic-good}
+use Rattle.graph_kmers.specs.Index.{Found}
 use Rattle.kmer_threading.specs.declared.Most.{Most}
 use Rattle.kmer_threading.specs.declared.At.{At}
-use Rattle.kmer_threading.specs.declared.Step.{Step}
-use Rattle.kmer_threading.specs.declared.Step.TheVariants.{Next, Refused}
+use Rattle.refusals.specs.declared.Refusal.{Refusal}
+use Rattle.refusals.specs.Numbers.{number}
 use Rattle.sequence_threading.specs.Starts.{good-empty}
 use Rattle.sequence_threading.specs.Stretches.{CameG, OverG, Threaded, Threads, stretch_at}
 use Rattle.junction_tree_graph.specs.Spelling.{Has, spelled-empty, thread-has, thread_all-has, number_in, last-kmer}
-use Rattle.read_threading.specs.Reads.{ReadsThread, reads_of, all-grow, over-on}
+use Rattle.read_threading.specs.Reads.{reads_of, all-grow, over-on}
 use Rattle.junction_tree_graph.specs.Bounds.{threaded-inside, length-symbolic}
 
 abbrev pub sample_of : ℕ → ℕ → List ℕ → List ℕ → List ℕ → List ℕ → Sample
@@ -158,29 +159,16 @@ module _ {s : Sample} {vs es : List ℕ} {most : Most} (x : Begins s vs es most)
   unfolding threaded stretches
   is-threaded = rw (the-stretch, nothing)
 
-  pub begin-stop : (vs' es' : List ℕ) (n : ℕ) (r : Step) (c c' : ℕ) → Threaded s.k (text_of s) vs' es' most c r first → r ≡ Refused n → Threaded s.k (text_of s) vs' es' most c' r (threaded s)
+  pub begin-stop : (vs' es' : List ℕ) (n : Refusal) (r : Result At Refusal) (c c' : ℕ) → Threaded s.k (text_of s) vs' es' most c r first → r ≡ Err n → Threaded s.k (text_of s) vs' es' most c' r (threaded s)
   begin-stop vs' es' n r c c' t e =
-      let o : OverG most n first = rw e at t in
-      rw e (over-on most n first (threaded s) (rw (← is-threaded) (all-grow s.k (reads_of s.k s.quality s.ends s.bases s.qualities) first)) o)
+      let o : OverG most (number n) first = rw e at t in
+      rw e (over-on most (number n) first (threaded s) (rw (← is-threaded) (all-grow s.k (reads_of s.k s.quality s.ends s.bases s.qualities) first)) o)
 
-  module _ (vs' es' : List ℕ) (t : At) (r : Step) (c : Threaded s.k (text_of s) vs' es' most (0 + s.k + length s.reference) r first) (e : r ≡ Next t) where
+  module _ (vs' es' : List ℕ) (t : At) (r : Result At Refusal) (c : Threaded s.k (text_of s) vs' es' most (0 + s.k + length s.reference) r first) (e : r ≡ Ok t) where
     came : CameG s.k (text_of s) vs' es' most t (0 + s.k + length s.reference) first
     came = rw e at c
 
-    pub begin-reads : ReadsThread s.k s.reference s.ends s.bases s.qualities vs' es' most t
-    begin-reads =
-        record {
-          fine = came.fine;
-          some = (let z = x.fits.k-low in omega arith);
-          rises = x.fits.rises;
-          last = x.fits.last;
-          quals-b = x.fits.quals;
-          few = x.fits.few;
-          small = small;
-          steps = (let z = came.counted in let y = x.fits.low in omega arith);
-        }
-
-    pub begin-done : (us fs : List ℕ) (q : Step)
+    pub begin-done : (us fs : List ℕ) (q : Result At Refusal)
         → Threaded s.k (text_of s) us fs most (2 * length (text_of s)) q (thread_all s.k (reads_of s.k s.quality s.ends s.bases s.qualities) (graph_of s.k (text_of s) vs' t.vertices es' t.edges))
         → Threaded s.k (text_of s) us fs most (2 * length (text_of s)) q (threaded s)
     begin-done us fs q d = rw (← is-threaded, ← came.is) d
@@ -228,9 +216,6 @@ module _ {s : Sample} {v e : ℕ} {vs es : List ℕ} (x : Builds s v e vs es) wh
 
   pub low-v : 1 ≤ v
   low-v = let z = vs-in.0 in omega arith
-
-  pub low-e : 1 ≤ e
-  low-e = es-in.0
 
   pub fits-s : Fits s
   fits-s = fits-of s x.rules
@@ -292,13 +277,26 @@ module _ {s : Sample} {v e : ℕ} {vs es : List ℕ} (x : Builds s v e vs es) wh
     pub sink-asks : (length s.reference - s.k + s.k ≤ length (text_of s)) × (HasVertices vs' t.vertices) × ((u : ℕ) → u < t.vertices → kmer_place vs' u + s.k ≤ length (text_of s))
     sink-asks = (place_in, (let a = g.fine.room-v in let b = g.fine.vertices in omega arith), g.fine.good.fits)
 
+    last_in : number_of (kmers_of s.k (text_of s) vs' t.vertices) (part s.k (text_of s) (length s.reference - s.k)) < t.vertices
+    last_in =
+        let x = part s.k (text_of s) (length s.reference - s.k) in
+        let z = number_in (threaded s) x has_last in
+        let y = count-v in
+        let u : number_of (kmers_of s.k (text_of s) vs' t.vertices) x ≡ number_of (threaded s).kmers x = rw kmers-are in
+        omega arith
+
+    -- so the lookup finds it
+    pub sink-found : (o : Option ℕ) → Found t.vertices (number_of (kmers_of s.k (text_of s) vs' t.vertices) (part s.k (text_of s) (length s.reference - s.k))) o → IsSome o
+    sink-found None h = absurd (let z = last_in in omega arith)
+    sink-found (Some w) h = refl
+
     module _ (le : length es' ≡ length es) (sink : ℕ) (hs : sink ≡ number_of (kmers_of s.k (text_of s) vs' t.vertices) (part s.k (text_of s) (length s.reference - s.k))) where
       the-sink : sink ≡ sink_of s (threaded s)
       unfolding sink_of
       the-sink = hs ∙ rw (kmers-are, last-is)
 
       sink-in : sink < t.vertices
-      sink-in = let z = number_in (threaded s) (part s.k (text_of s) (length s.reference - s.k)) has_last in let y = count-v in let u : sink ≡ number_of (threaded s).kmers (part s.k (text_of s) (length s.reference - s.k)) = rw kmers-are hs in omega arith
+      sink-in = let z = last_in in omega arith
 
       room-m : HasEdge es' t.edges
       room-m = let a = g.fine.edges in let b = x.length-e in let c = es-in.0 in omega arith
@@ -319,7 +317,7 @@ module _ {s : Sample} {v e : ℕ} {vs es : List ℕ} (x : Builds s v e vs es) wh
       unfolding with_symbolic symbolic_of last_place
       with-is = rw (← the-sink, count-v, edges_are)
 
-      graph_is : graph_of s.k (text_of s) vs' t.vertices (added_e es' t.edges (symbolic sink t.vertices (length s.reference - s.k)) 1) t.edges ≡ threaded s
+      graph_is : graph_of s.k (text_of s) vs' t.vertices (added_e es' t.edges (symbolic sink t.vertices (length s.reference - s.k))) t.edges ≡ threaded s
       unfolding graph_of
       graph_is = rw (symbolic-front es' t.edges sink t.vertices (length s.reference - s.k) room-m) g.is
 
@@ -329,7 +327,7 @@ module _ {s : Sample} {v e : ℕ} {vs es : List ℕ} (x : Builds s v e vs es) wh
       fits-e : length (with_symbolic s (threaded s)) ≤ e
       fits-e = let a = g.fine.edges in let b = es-in.0 in let d = count-e in let h = length-symbolic s (threaded s) (threaded-inside s) in omega arith
 
-      pub built-at : c ≤ 2 * length (text_of s) → (fs : List ℕ) → fs ≡ added_e es' t.edges (symbolic sink t.vertices (length s.reference - s.k)) 1
+      pub built-at : c ≤ 2 * length (text_of s) → (fs : List ℕ) → fs ≡ added_e es' t.edges (symbolic sink t.vertices (length s.reference - s.k))
           → BuiltAt s v e vs' fs t.vertices t.edges sink
       built-at h fs d =
           rw d (record {
@@ -345,6 +343,6 @@ module _ {s : Sample} {v e : ℕ} {vs es : List ℕ} (x : Builds s v e vs es) wh
             to = symbolic-to es' t.edges sink t.vertices (length s.reference - s.k) room-m;
             supports =
                 λ i l.
-                rw (added_e-row es' t.edges (symbolic sink t.vertices (length s.reference - s.k)) 1 i 2 (omega arith) (omega arith))
+                rw (added_e-row es' t.edges (symbolic sink t.vertices (length s.reference - s.k)) i 2 (omega arith) (omega arith))
                 (let a = g.fine.supports i l in let b = g.counted in omega arith);
           })

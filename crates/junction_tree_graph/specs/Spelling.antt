@@ -1,10 +1,9 @@
 -- Every edge joins two kmers that overlap in all but one base, so threading reaches the vertex of each kmer that it steps to: the reference's last
 -- kmer has a vertex, the sink, in every graph that grows from the reference's. Assumes nothing.
 use Rattle.std.specs.Prelude.{◌≡◌, refl, Bool, true, false, eqb, get_or, take, drop}
-use Rattle.std.proofs.Common.{sym, ap, ◌∙◌, arith, take-take, drop-drop, eqb-true}
+use Rattle.std.proofs.Common.{sym, ap, ◌∙◌, arith, take-take, drop-drop, eqb-true, List, [], ◌∷◌, ◌++◌, ℕ, zero, suc, ◌+◌, ◌-◌, ◌<◌, ◌≤◌}
 use Rattle.std.proofs.Math.Option.{Option, none, some}
-use mathlib.Core.List.{List, [], ◌∷◌, ◌++◌}
-use Prim.Native.Nat.{ℕ, zero, suc, ◌+◌, ◌-◌, ◌<◌, ◌≤◌, Ordering}
+use Prim.Native.Nat.{Ordering}
 use Rattle.std.proofs.Math.Decide.{ℕ_discrete}
 use Rattle.std.proofs.Math.ListN.{length, length-append, get_or-append}
 use Rattle.std.proofs.Math.Seq.{get_or_at}
@@ -16,8 +15,7 @@ use Rattle.definition.specs.Threading.{Ends, Origin, Edge, Graph, Threading, com
 use Rattle.graph_kmers.specs.Index.{position_first}
 use Rattle.assembly.specs.Puts.{put-nil, put-lt, put-eq, put-gt, merge-ends}
 use Rattle.assembly.specs.Kmers.{part, length_part, with-yes, with-no, position-true, position-le}
-use Rattle.kmer_threading.specs.Steps.{origin_of}
-use Rattle.sequence_threading.specs.Stretches.{pieces, pieces-0, pieces-suc, steps-cons, steps-nil, kmers-is, thread-is, stretch_at}
+use Rattle.sequence_threading.specs.Stretches.{origin_at, pieces, pieces-0, pieces-suc, steps-cons, steps-nil, kmers-is, thread-is, stretch_at}
 
 -- ---- kmers that overlap
 split-last : (l : List ℕ) (n d : ℕ) → length l ≡ suc n → l ≡ take n l ++ (last_or d l ∷ [])
@@ -204,8 +202,8 @@ spelled-steps k ref sq i text a zero t h l s =
 spelled-steps k ref sq i text a (suc n) t h l s =
     let e : a + suc n ≡ a + 1 + n = omega arith in
     rw (pieces-suc k text (a + 1) n, steps-cons ref sq i (part k text (a + 1)) (pieces k text (a + 1 + 1) n) t, e)
-    (spelled-steps k ref sq (suc i) text (a + 1) n (step ref (origin_of sq i) (part k text (a + 1)) t) h (omega arith)
-    (spelled_step k ref (origin_of sq i) (part k text a) (part k text (a + 1)) t h (length_part k text (a + 1) (omega arith)) (parts_join k text a h) s))
+    (spelled-steps k ref sq (suc i) text (a + 1) n (step ref (origin_at sq i) (part k text (a + 1)) t) h (omega arith)
+    (spelled_step k ref (origin_at sq i) (part k text a) (part k text (a + 1)) t h (length_part k text (a + 1) (omega arith)) (parts_join k text a h) s))
 
 -- ---- a kmer that has a vertex, and graphs that keep the vertices of others
 pub record Has (g : Graph) (x : List ℕ) : Type 0 where
@@ -240,8 +238,8 @@ steps-keep : (ref : Bool) (sq i : ℕ) (xs : List (List ℕ)) (t : Threading) �
 steps-keep ref sq i [] t = rw (steps-nil ref sq i t) (λ v h. (h, refl))
 steps-keep ref sq i (x ∷ xs) t =
     rw (steps-cons ref sq i x xs t)
-    (keeps-trans t.graph (step ref (origin_of sq i) x t).graph (steps ref sq (suc i) xs (step ref (origin_of sq i) x t)).graph (step_keeps ref (origin_of sq i) x t)
-    (steps-keep ref sq (suc i) xs (step ref (origin_of sq i) x t)))
+    (keeps-trans t.graph (step ref (origin_at sq i) x t).graph (steps ref sq (suc i) xs (step ref (origin_at sq i) x t)).graph (step_keeps ref (origin_at sq i) x t)
+    (steps-keep ref sq (suc i) xs (step ref (origin_at sq i) x t)))
 
 start-keeps : (k : ℕ) (x : List ℕ) (g : Graph) → Keeps g (start_at k x g).graph
 unfolding start_at

@@ -1,17 +1,15 @@
 -- What the eight slots of a vertex say of its out-edges: how many there are, and whether a target has two or more in-edges. Assumes nothing.
-use Rattle.std.specs.Prelude.{◌≡◌, ◌≢◌, Bool, true, false, ◌&&◌, cond, List, [], ◌∷◌, ℕ, zero, suc, ◌+◌, ◌-◌, ◌/◌, ◌%◌, ◌<◌, ◌≤◌, leb, length}
-use Rattle.std.proofs.Math.Path.{refl, sym}
-use Rattle.std.proofs.Common.{ap, ◌∙◌, arith, add-one}
+use Rattle.std.specs.Prelude.{◌≡◌, ◌≢◌, Bool, true, false, ◌&&◌, cond, List, [], ◌∷◌, ℕ, zero, suc, ◌+◌, ◌-◌, ◌/◌, ◌%◌, ◌<◌, ◌≤◌, leb, length, Option, Some, None, refl, eqb, ltb, is_some}
+use Rattle.std.proofs.Common.{sym, ap, ◌∙◌, arith, add-one, eqb-true, eq-eqb, ne_eqb, lt-ltb, le-ltb, le-leb}
 use Rattle.std.proofs.Math.Bool.{or-false}
 use Rattle.std.proofs.Math.Option.{none, some}
 use Rattle.std.proofs.Math.Decide.{ℕ_discrete, dec_lt}
-use Rattle.std.proofs.Math.Dec.{eqb, ltb}
-use borrow.Author.Tests.{eqb-true, eq-eqb, ne_eqb, lt-ltb, le-ltb, le-leb, lt-leb}
+use borrow.Author.Tests.{lt-leb}
 use Rattle.laws.specs.Lists.{find}
 use Rattle.laws.specs.ListLaws.{clash}
 use Rattle.definition.specs.Threading.{Edge, leaving, entering, follow}
 use Rattle.definition.specs.Evidence.{opens}
-use Rattle.assembly.specs.Fields.{vertex_field, out_edge, incoming_count, edge_from, edge_to}
+use Rattle.assembly.specs.Fields.{vertex_field, slot_of, out_edge, incoming_count, edge_from, edge_to}
 use Rattle.assembly.specs.Table.{count, count-0, count-more, length-keep}
 use Rattle.assembly.specs.Store.{edge_at, edges_of, graph_of, last_of, code, code_lt, Good, good-distinct, follow-some, in-degree}
 
@@ -59,6 +57,14 @@ tally-one p (suc c) e l h u = go (ℕ_discrete e c) (λ k. tally-one p c e k h (
 pub slots_full : List ℕ → ℕ → ℕ → ℕ
 slots_full vs v c = tally_to (λ d. ltb 0 (vertex_field vs v d)) c
 
+slot-some : (x : Option ℕ) → is_some x ≡ true → 0 < slot_of x
+slot-some None h = clash (sym h)
+slot-some (Some i) h = omega arith
+
+slot-none : (x : Option ℕ) → is_some x ≡ false → slot_of x ≡ 0
+slot-none None h = refl
+slot-none (Some i) h = clash h
+
 -- after c slots
 pub record Counted (vs : List ℕ) (v c n : ℕ) : Type 0 where
   pub within : c ≤ 8
@@ -70,18 +76,20 @@ module _ (vs : List ℕ) (v : ℕ) where
   unfolding slots_full tally_to
   counted_start = record { within = omega arith; few = omega arith; is = refl }
 
-  pub counted-yes : (c n x n' : ℕ) → Counted vs v c n → c < 8 → x ≡ out_edge vs v c → 0 < x → n' ≡ n + 1 → Counted vs v (c + 1) n'
+  pub counted-yes : (c n n' : ℕ) (x : Option ℕ) (t : Bool) → Counted vs v c n → c < 8 → slot_of x ≡ out_edge vs v c → t ≡ is_some x → t ≡ true → n' ≡ n + 1 → Counted vs v (c + 1) n'
   unfolding slots_full tally_to
-  counted-yes c n x n' k l e h w =
+  counted-yes c n n' x t k l e h y w =
       let i = k.is in
       let f = k.few in
+      let z = slot-some x (sym h ∙ y) in
       record { within = omega arith; few = omega arith; is = rw (add-one c, lt-ltb 0 (out_edge vs v c) (omega arith)) (omega arith) }
 
-  pub counted-no : (c n x n' : ℕ) → Counted vs v c n → c < 8 → x ≡ out_edge vs v c → x ≤ 0 → n' ≡ n → Counted vs v (c + 1) n'
+  pub counted-no : (c n n' : ℕ) (x : Option ℕ) (t : Bool) → Counted vs v c n → c < 8 → slot_of x ≡ out_edge vs v c → t ≡ is_some x → t ≡ false → n' ≡ n → Counted vs v (c + 1) n'
   unfolding slots_full tally_to
-  counted-no c n x n' k l e h w =
+  counted-no c n n' x t k l e h y w =
       let i = k.is in
       let f = k.few in
+      let z = slot-none x (sym h ∙ y) in
       record { within = omega arith; few = omega arith; is = rw (add-one c, le-ltb 0 (out_edge vs v c) (omega arith)) (omega arith) }
 
 -- ---- counted edge by edge: the slots that name one of the first j edges
@@ -188,9 +196,10 @@ pub record Warrants (vs : List ℕ) (outs to : ℕ) (r : Bool) : Type 0 where
   pub is : {k : ℕ} {text : List ℕ} {n : ℕ} {es : List ℕ} {m : ℕ} → Good k text vs n es m → (v i : ℕ) → i < m → edge_from es i ≡ v → edge_to es i ≡ to
       → outs ≡ length (leaving (edges_of es m) v) → r ≡ opens (edges_of es m) v
 
-pub warrants-many : (vs : List ℕ) (outs to : ℕ) → 1 < outs → Warrants vs outs to true
+pub warrants-many : (vs : List ℕ) (outs to : ℕ) → 1 < outs → Warrants vs outs to (ltb 1 outs)
 unfolding opens
-warrants-many vs outs to h = record { is = λ {k} {text} {n} {es} {m} g v i l e f o. rw (lt-ltb 1 (length (leaving (edges_of es m) v)) (omega arith)) }
+warrants-many vs outs to h =
+    record { is = λ {k} {text} {n} {es} {m} g v i l e f o. rw (lt-ltb 1 outs h, lt-ltb 1 (length (leaving (edges_of es m) v)) (omega arith)) }
 
 few-is : (es : List Edge) (v : ℕ) (x : Edge) → leaving es v ≡ x ∷ [] → (ins : ℕ) → ins ≡ length (entering es x.ends.to) → ltb 1 ins ≡ opens es v
 unfolding opens

@@ -1,6 +1,5 @@
 -- A run, a read and all reads: what each call asks, and the loops that keep "what is left of the walks from here is the whole". Assumes nothing.
-use Rattle.std.specs.Prelude.{◌≡◌, Bool, true, false, List, [], ◌∷◌, ◌++◌, ℕ, suc, ◌+◌, ◌-◌, ◌^◌, ◌<◌, ◌≤◌, leb, length, get_or, take, drop}
-use Rattle.std.proofs.Math.Path.{refl}
+use Rattle.std.specs.Prelude.{◌≡◌, Bool, true, false, List, [], ◌∷◌, ◌++◌, ℕ, suc, ◌+◌, ◌-◌, ◌^◌, ◌<◌, ◌≤◌, leb, length, get_or, take, drop, Result, Ok, Err, refl}
 use Rattle.std.proofs.Common.{sym, ap, ◌∙◌, arith, length-append, length-drop, length-take-le, leb-false}
 use Rattle.std.proofs.Math.Seq.{drop-append-add, drop-length}
 use Rattle.laws.specs.Lists.{last_or}
@@ -14,15 +13,14 @@ use Rattle.read_threading.specs.Reads.{read_of, reads_of}
 use Rattle.usable_stretches.specs.Ahead.{from-nil, from_cons, NextEnd, next-end, later, run_inside, run-base}
 use Rattle.threading_tree.specs.Grows.{all-grows}
 use Rattle.junction_trees.specs.declared.Ground.{Ground}
-use Rattle.junction_trees.specs.declared.Evidence.{Evidence}
-use Rattle.junction_trees.specs.declared.Evidence.TheVariants.{Trees, Refused as Full}
+use Rattle.refusals.specs.declared.Refusal.{Refusal}
 use Rattle.junction_trees.specs.Roots.{graph-kept}
 use Rattle.junction_trees.specs.Steps.{Sound, sound-kept, State, state-more, Frame, frame_self, frame_on}
 use Rattle.junction_trees.specs.Stretches.{begun, ground_of, symbolic_ends, walk_of, Walking, Walks, stretch-short}
 
 -- ---- a run
 module _ {d : Ground} {text vs es x op : List ℕ} {a len count : ℕ} (q : Walks d text vs es x op a len count) where
-  pub run-skip : len ≤ d.k → Walking (walk_of d text vs es a len) d a (a + len) count vs vs x x op op (Trees count)
+  pub run-skip : len ≤ d.k → Walking (walk_of d text vs es a len) d a (a + len) count vs vs x x op op (Ok count)
   run-skip h =
       let z : length (take len (drop a text)) ≡ len = length-take-le len (drop a text) (rw (length-drop a text) (let y = q.inside in omega arith)) in
       record {
@@ -111,7 +109,7 @@ module _ {d : Ground} {reference bases quals vs₁ es x₁ op₁ : List ℕ} {st
   abbrev whole : ℕ → List Tree → List Tree
   whole sq ts = walks_of d (reference ++ bases) vs₁ es (read_of d.k least bases quals sq start e) ts
 
-  abbrev Gone : List ℕ → List ℕ → List ℕ → Evidence → Type 0
+  abbrev Gone : List ℕ → List ℕ → List ℕ → Result ℕ Refusal → Type 0
   Gone vs x op r = (sq : ℕ) → Walking (walks_of d (reference ++ bases) vs₁ es (read_of d.k least bases quals sq start e)) d (length reference + start) (length reference + e) count₁ vs₁ vs x₁ x op₁ op r
 
   pub read-start : (sq : ℕ) → ReadLeft d least reference bases quals es start e count₁ vs₁ x₁ op₁ vs₁ x₁ op₁ count₁ start sq
@@ -132,7 +130,7 @@ module _ {d : Ground} {reference bases quals vs₁ es x₁ op₁ : List ℕ} {st
       }
 
   module _ {vs x op : List ℕ} {c p : ℕ} (b : (sq : ℕ) → ReadLeft d least reference bases quals es start e count₁ vs₁ x₁ op₁ vs x op c p sq) where
-    pub read-end : e ≤ p → Gone vs x op (Trees c)
+    pub read-end : e ≤ p → Gone vs x op (Ok c)
     read-end h sq =
         record {
           is = λ ts st.
@@ -175,10 +173,10 @@ module _ {d : Ground} {reference bases quals vs₁ es x₁ op₁ : List ℕ} {st
           rw (graph-now, same-run)
           (sym (walk-ahead d.k G d.sink (symbolic_ends d) (usable least) sq start e bases quals y.in_b y.in-q p q y.sound.some (b sq).from l r ((b sq).walked ts)) ∙ (b sq).run ts)
 
-      module _ (vs' x' op' : List ℕ) (a : Evidence) (k : Walking (walk_of d (reference ++ bases) vs es (length reference + p) (q - p)) d (length reference + p) (length reference + p + (q - p)) c vs vs' x x' op op' a) where
-        pub read_next : (c' : ℕ) → a ≡ Trees c' → length x' ≡ length x → length op' ≡ length op → (sq : ℕ) → ReadLeft d least reference bases quals es start e count₁ vs₁ x₁ op₁ vs' x' op' c' (q + 1) sq
+      module _ (vs' x' op' : List ℕ) (a : Result ℕ Refusal) (k : Walking (walk_of d (reference ++ bases) vs es (length reference + p) (q - p)) d (length reference + p) (length reference + p + (q - p)) c vs vs' x x' op op' a) where
+        pub read_next : (c' : ℕ) → a ≡ Ok c' → length x' ≡ length x → length op' ≡ length op → (sq : ℕ) → ReadLeft d least reference bases quals es start e count₁ vs₁ x₁ op₁ vs' x' op' c' (q + 1) sq
         read_next c' f lx lo sq =
-            let k' : Walking (walk_of d (reference ++ bases) vs es (length reference + p) (q - p)) d (length reference + p) (length reference + p + (q - p)) c vs vs' x x' op op' (Trees c') = rw f at k in
+            let k' : Walking (walk_of d (reference ++ bases) vs es (length reference + p) (q - p)) d (length reference + p) (length reference + p + (q - p)) c vs vs' x x' op op' (Ok c') = rw f at k in
             let u = r.from in
             let w = r.to in
             let v = (b sq).from in
@@ -196,9 +194,9 @@ module _ {d : Ground} {reference bases quals vs₁ es x₁ op₁ : List ℕ} {st
               run = λ ts. turn sq ts;
             }
 
-        pub read-stop : (n : ℕ) → a ≡ Full n → Gone vs' x' op' a
+        pub read-stop : (n : Refusal) → a ≡ Err n → Gone vs' x' op' a
         read-stop n f sq =
-            let k' : Walking (walk_of d (reference ++ bases) vs es (length reference + p) (q - p)) d (length reference + p) (length reference + p + (q - p)) c vs vs' x x' op op' (Full n) = rw f at k in
+            let k' : Walking (walk_of d (reference ++ bases) vs es (length reference + p) (q - p)) d (length reference + p) (length reference + p + (q - p)) c vs vs' x x' op op' (Err n) = rw f at k in
             rw f
             (record {
               is = λ ts st. (let w = k'.is ((b sq).walked ts) (state-more (length reference + p) (b sq).low ((b sq).is ts st)) in (w.0, over ts w.1));
@@ -241,7 +239,7 @@ module _ {d : Ground} {reference ends bases quals vs₁ es x₁ op₁ : List ℕ
   abbrev all_of : List Tree → List Tree
   all_of ts = walks_of d (reference ++ bases) vs₁ es (reads_of d.k least ends bases quals) ts
 
-  abbrev Done : List ℕ → List ℕ → List ℕ → Evidence → Type 0
+  abbrev Done : List ℕ → List ℕ → List ℕ → Result ℕ Refusal → Type 0
   Done vs x op r = Walking (walks_of d (reference ++ bases) vs₁ es (reads_of d.k least ends bases quals)) d (length reference) (length (reference ++ bases)) count₁ vs₁ vs x₁ x op₁ op r
 
   pub reads-start : ReadsLeft d least reference ends bases quals es count₁ vs₁ x₁ op₁ vs₁ x₁ op₁ count₁ 0 0
@@ -260,7 +258,7 @@ module _ {d : Ground} {reference ends bases quals vs₁ es x₁ op₁ : List ℕ
       }
 
   module _ {vs x op : List ℕ} {c start j : ℕ} (b : ReadsLeft d least reference ends bases quals es count₁ vs₁ x₁ op₁ vs x op c start j) where
-    pub reads_end : length ends ≤ j → Done vs x op (Trees c)
+    pub reads_end : length ends ≤ j → Done vs x op (Ok c)
     reads_end h =
         let f : drop j ends ≡ [] = (let z : j ≡ length ends = (let u = b.within in omega arith) in rw z (drop-length ends)) in
         let s : start ≡ length bases = rw f at b.last in
@@ -306,11 +304,11 @@ module _ {d : Ground} {reference ends bases quals vs₁ es x₁ op₁ : List ℕ
           ∙ ap (λ (l : List Stretch). walks_of d (reference ++ bases) vs₁ es l (b.walked ts)) (sym (from_cons (usable least) d.k (j + 1) start e (drop (j + 1) ends) (drop start bases) (drop start quals)))
           ∙ (rw next.split at (b.run ts)))
 
-      module _ (vs' x' op' : List ℕ) (a : Evidence)
+      module _ (vs' x' op' : List ℕ) (a : Result ℕ Refusal)
           (k : (q : ℕ) → Walking (walks_of d (reference ++ bases) vs es (read_of d.k least bases quals q start e)) d (length reference + start) (length reference + e) c vs vs' x x' op op' a) where
-        pub reads-next : (c' : ℕ) → a ≡ Trees c' → length x' ≡ length x → length op' ≡ length op → ReadsLeft d least reference ends bases quals es count₁ vs₁ x₁ op₁ vs' x' op' c' e (j + 1)
+        pub reads-next : (c' : ℕ) → a ≡ Ok c' → length x' ≡ length x → length op' ≡ length op → ReadsLeft d least reference ends bases quals es count₁ vs₁ x₁ op₁ vs' x' op' c' e (j + 1)
         reads-next c' f lx lo =
-            let k' : Walking (walks_of d (reference ++ bases) vs es (read_of d.k least bases quals (j + 1) start e)) d (length reference + start) (length reference + e) c vs vs' x x' op op' (Trees c') = rw f at (k (j + 1)) in
+            let k' : Walking (walks_of d (reference ++ bases) vs es (read_of d.k least bases quals (j + 1) start e)) d (length reference + start) (length reference + e) c vs vs' x x' op op' (Ok c') = rw f at (k (j + 1)) in
             record {
               within = omega arith;
               rises = next.rises;
@@ -323,9 +321,9 @@ module _ {d : Ground} {reference ends bases quals vs₁ es x₁ op₁ : List ℕ
               run = λ ts. onward ts;
             }
 
-        pub reads-stop : (n : ℕ) → a ≡ Full n → Done vs' x' op' a
+        pub reads-stop : (n : Refusal) → a ≡ Err n → Done vs' x' op' a
         reads-stop n f =
-            let k' : Walking (walks_of d (reference ++ bases) vs es (read_of d.k least bases quals (j + 1) start e)) d (length reference + start) (length reference + e) c vs vs' x x' op op' (Full n) = rw f at (k (j + 1)) in
+            let k' : Walking (walks_of d (reference ++ bases) vs es (read_of d.k least bases quals (j + 1) start e)) d (length reference + start) (length reference + e) c vs vs' x x' op op' (Err n) = rw f at (k (j + 1)) in
             rw f
             (record {
               is = λ ts st. (let w = k'.is (b.walked ts) (b.is ts st) in (w.0, over ts w.1));

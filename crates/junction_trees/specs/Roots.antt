@@ -76,9 +76,6 @@ pub record Cleared (vs₀ : List ℕ) (n : ℕ) (vs : List ℕ) (v : ℕ) : Type
   pub within : v ≤ n
   pub none : (u : ℕ) → u < v → root_of vs u ≡ 0
 
-pub cleared-start : (vs : List ℕ) (n : ℕ) → Cleared vs n vs 0
-cleared-start vs n = record { kept = kept_self n vs; within = omega arith; none = λ u h. absurd (omega arith) }
-
 pub cleared-next : (vs₀ : List ℕ) (n : ℕ) (vs : List ℕ) (v : ℕ) → HasVertices vs₀ n → Cleared vs₀ n vs v → v < n → (vs' : List ℕ) → vs' ≡ put_tree_root vs v 0 → Cleared vs₀ n vs' (v + 1)
 cleared-next vs₀ n vs v r c h vs' e =
     rw e (record { kept = kept_on c.kept (kept_put n vs v 0 h); within = omega arith; none = λ u l. go u l (ℕ_discrete u v) })
@@ -86,9 +83,6 @@ cleared-next vs₀ n vs v r c h vs' e =
     go : (u : ℕ) → u < v + 1 → Dec (u ≡ v) → root_of (put_tree_root vs v 0) u ≡ 0
     go u l (yes z) = rw z (root-same vs v 0 (let y = c.kept.size in omega arith))
     go u l (no z) = root-other vs v 0 u z ∙ c.none u (omega arith)
-
-pub cleared-room : (vs₀ : List ℕ) (n : ℕ) (vs : List ℕ) (v : ℕ) → HasVertices vs₀ n → Cleared vs₀ n vs v → v < n → HasVertex vs v
-cleared-room vs₀ n vs v r c h = let z = c.kept.size in omega arith
 
 pub cleared-end : (vs₀ : List ℕ) (n : ℕ) (vs : List ℕ) (v : ℕ) → Cleared vs₀ n vs v → n ≤ v → Cleared vs₀ n vs n
 cleared-end vs₀ n vs v c h = record { kept = c.kept; within = omega arith; none = λ u l. c.none u (omega arith) }

@@ -1,29 +1,25 @@
 -- One base of a walk, and the walk's end: what the code asks, and that it is the definition's step. Assumes nothing.
-use Rattle.std.specs.Prelude.{◌≡◌, refl, Bool, true, false, List, [], ℕ, zero, suc, ◌+◌, ◌*◌, ◌^◌, ◌<◌, ◌≤◌, eqb, length}
+use Rattle.std.specs.Prelude.{◌≡◌, refl, Bool, true, false, List, [], ℕ, zero, suc, ◌+◌, ◌*◌, ◌^◌, ◌<◌, ◌≤◌, eqb, length, Option, Result, Ok, Err}
 use Rattle.std.proofs.Common.{sym, ap, ◌∙◌, mul-le-mul_right, suc-mul, arith, eq-eqb, ne_eqb}
 use Rattle.std.proofs.Math.Decide.{ℕ_discrete}
 use Rattle.definition.specs.Threading.{Ends, Graph, leaving}
 use Rattle.definition.specs.Evidence.{Walk, take_edge, pass, walk_bases}
 use Rattle.tables.specs.Widths.{open_numbers}
-use Rattle.assembly.specs.Fields.{HasVertex, tree_root, put_tree_root, HasEdges, HasEdge, edge_from, edge_to}
+use Rattle.assembly.specs.Fields.{HasVertex, tree_root, put_tree_root, HasEdges, edge_from, edge_to}
 use Rattle.assembly.specs.Store.{edge_at, edges_of, Good}
 use Rattle.threading_node.specs.Ends.{ends}
+use Rattle.threading_node.specs.Links.{slot_at, link_to, link_is, linked_at}
 use Rattle.threading_node.specs.Slots.{cols, told, Beyond}
 use Rattle.threading_node.specs.Good.{slot-live}
-use Rattle.threading_tree.specs.All.{grown_refusal, Walking as Asks, TookAll}
-use Rattle.threading_tree.specs.Join.{joined_refusal}
+use Rattle.threading_tree.specs.All.{Walking as Asks, TookAll}
 use Rattle.threading_tree.specs.Held.{HeldWalk, held-under, held-few, held-walking, held-takes, held-full}
 use Rattle.threading_tree.specs.Grows.{many, take-many, bound-step}
 use Rattle.threading_tree.specs.Pass.{open_where, take_unless, pass-is, Stepping, Steps, passing, where-many}
 use Rattle.threading_tree.specs.declared.ThreadingState.{ThreadingState}
-use Rattle.threading_tree.specs.declared.Grown.{Grown}
-use Rattle.threading_tree.specs.declared.Grown.TheVariants.{Nodes as Many, Refused as Stopped}
-use Rattle.threading_tree.specs.declared.Joined.{Joined}
-use Rattle.threading_tree.specs.declared.Joined.TheVariants.{Next as Holds, Refused as Turned}
+use Rattle.refusals.specs.declared.Refusal.{Refusal}
+use Rattle.refusals.specs.Numbers.{number}
 use Rattle.junction_trees.specs.declared.Ground.{Ground}
 use Rattle.junction_trees.specs.declared.Way.{Way}
-use Rattle.junction_trees.specs.declared.Walked.{Walked}
-use Rattle.junction_trees.specs.declared.Walked.TheVariants.{Next, Refused}
 use Rattle.junction_trees.specs.Degrees.{OutDegree, Warrants}
 use Rattle.junction_trees.specs.Roots.{root_of, Kept, kept_self, kept_on, kept_put, root-same, root-other, good-kept}
 
@@ -88,22 +84,18 @@ pub record Passing (d : Ground) (s : Way) (i : ℕ) (vs es x op : List ℕ) : Ty
   pub edge : i < d.edges
   pub from : edge_from es i ≡ s.here
 
-abbrev pub walked_refusal : Walked → ℕ
-walked_refusal (Next t) = 0
-walked_refusal (Refused r) = r
-
 abbrev pub pass_of : Ground → List ℕ → ℕ → Walk → Walk
 pass_of d es i w = pass (edges_of es d.edges) (edge_at es i).ends w
 
-abbrev pub PassedTo : Ground → ℕ → Walk → ℕ → List ℕ → List ℕ → List ℕ → List ℕ → Walked → Type 0
-PassedTo d i w p vs es x op (Next t) = State d (pass_of d es i w) (suc p) t.nodes t.groups vs x op
-PassedTo d i w p vs es x op (Refused r) = (r ≡ 9) × (d.most < many (pass_of d es i w))
+abbrev pub PassedTo : Ground → ℕ → Walk → ℕ → List ℕ → List ℕ → List ℕ → List ℕ → Result Way Refusal → Type 0
+PassedTo d i w p vs es x op (Ok t) = State d (pass_of d es i w) (suc p) t.nodes t.groups vs x op
+PassedTo d i w p vs es x op (Err r) = (number r ≡ 9) × (d.most < many (pass_of d es i w))
 
-abbrev pub Arrives : List ℕ → ℕ → Walked → Type 0
-Arrives es i (Next t) = t.here ≡ edge_to es i
-Arrives es i (Refused r) = Unit {0}
+abbrev pub Arrives : List ℕ → ℕ → Result Way Refusal → Type 0
+Arrives es i (Ok t) = t.here ≡ edge_to es i
+Arrives es i (Err r) = Unit {0}
 
-pub record Passed (d : Ground) (s : Way) (i : ℕ) (vs vs' es x x' op op' : List ℕ) (r : Walked) : Type 0 where
+pub record Passed (d : Ground) (s : Way) (i : ℕ) (vs vs' es x x' op op' : List ℕ) (r : Result Way Refusal) : Type 0 where
   pub is : (w : Walk) (p : ℕ) → State d w p s.nodes s.groups vs x op → PassedTo d i w p vs' es x' op' r
   pub arrives : Arrives es i r
   pub frame : Frame d vs vs' x x' op op'
@@ -120,9 +112,6 @@ module _ {d : Ground} {s : Way} {i : ℕ} {vs es x op : List ℕ} (q : Passing d
   pub pass-row : HasVertex vs s.here
   pass-row = let a = here_in in let b = q.sound.room-v in omega arith
 
-  pub pass-edge-in : HasEdge es i
-  pass-edge-in = let a = q.edge in let b = q.sound.room-e in omega arith
-
   pub pass-here-fits : s.here < 2 ^ 32
   pass-here-fits = let a = here_in in let b = q.sound.few in omega arith
 
@@ -130,18 +119,18 @@ module _ {d : Ground} {s : Way} {i : ℕ} {vs es x op : List ℕ} (q : Passing d
     to_in : to < d.vertices
     to_in = rw ht (q.sound.good.to_in i q.edge)
 
-    pub pass-to-row : HasVertex vs to
-    pass-to-row = let a = to_in in let b = q.sound.room-v in omega arith
-
     pub pass-to-fits : to < 2 ^ 32
     pass-to-fits = let a = to_in in let b = q.sound.few in omega arith
 
     ends-are : (edge_at es i).ends ≡ ends s.here to
     ends-are = rw (ht, q.from)
 
-    module _ (root : ℕ) (hr : root ≡ tree_root vs s.here) where
+    module _ (root : Option ℕ) (hr : root ≡ slot_at (tree_root vs s.here)) where
       abbrev told_of : ThreadingState
       told_of = record { nodes = s.nodes; groups = s.groups; root = root }
+
+      told-root : tree_root vs s.here ≡ link_to root
+      told-root = sym (ap link_to hr ∙ link_is (tree_root vs s.here))
 
       pub pass-stepping : Stepping d.most (ends s.here to) 2 told_of x op
       pass-stepping =
@@ -153,12 +142,13 @@ module _ {d : Ground} {s : Way} {i : ℕ} {vs es x op : List ℕ} (q : Passing d
             bound = q.steps * suc q.steps;
             roots = root_of vs;
             holds = q.state.held;
-            root = sym hr;
+            root = told-root;
+            linked = rw hr (linked_at (tree_root vs s.here));
             ends = (omega arith, omega arith);
             spare = bound-fits q.steps (length q.walk.opened) q.low q.state.few;
           }
 
-      module _ (outs : ℕ) (hd : OutDegree vs s.here outs) (o : Bool) (ho : Warrants vs outs to o) (x' op' : List ℕ) (r : Joined)
+      module _ (outs : ℕ) (hd : OutDegree vs s.here outs) (o : Bool) (ho : Warrants vs outs to o) (x' op' : List ℕ) (r : Result ThreadingState Refusal)
           (k : Steps (λ w. take_unless (eqb outs 1) (ends s.here to) (open_where o s.here w)) passing d.most s.here told_of x x' op op' r) where
         step_is : (w : Walk) → take_unless (eqb outs 1) (ends s.here to) (open_where o s.here w) ≡ pass_of d es i w
         step_is w =
@@ -173,12 +163,12 @@ module _ {d : Ground} {s : Way} {i : ℕ} {vs es x op : List ℕ} (q : Passing d
             rw (← step_is w) (omega arith)
 
         -- the walk has gone on, whatever is kept as the root
-        module _ (h : ThreadingState) (e : r ≡ Holds h) where
-          went : (w : Walk) (p : ℕ) → State d w p s.nodes s.groups vs x op → State d (pass_of d es i w) (suc p) h.nodes h.groups (put_tree_root vs s.here h.root) x' op'
+        module _ (h : ThreadingState) (e : r ≡ Ok h) where
+          went : (w : Walk) (p : ℕ) → State d w p s.nodes s.groups vs x op → State d (pass_of d es i w) (suc p) h.nodes h.groups (put_tree_root vs s.here (link_to h.root)) x' op'
           went w p st =
-              let k' : Steps (λ u. take_unless (eqb outs 1) (ends s.here to) (open_where o s.here u)) passing d.most s.here told_of x x' op op' (Holds h) = rw e at k in
-              let c = k'.is w (p * suc p) (root_of vs) st.held (sym hr) (root_of (put_tree_root vs s.here h.root)) (root-same vs s.here h.root pass-row)
-              (λ u z. root-other vs s.here h.root u z) in
+              let k' : Steps (λ u. take_unless (eqb outs 1) (ends s.here to) (open_where o s.here u)) passing d.most s.here told_of x x' op op' (Ok h) = rw e at k in
+              let c = (k'.is w (p * suc p) (root_of vs) st.held told-root).1 (root_of (put_tree_root vs s.here (link_to h.root))) (root-same vs s.here (link_to h.root) pass-row)
+              (λ u z. root-other vs s.here (link_to h.root) u z) in
               let f = st.few in
               let b = bound-step p (p * suc p) (length w.opened) (omega arith) f in
               record {
@@ -186,37 +176,35 @@ module _ {d : Ground} {s : Way} {i : ℕ} {vs es x op : List ℕ} (q : Passing d
                 few = (let z = pass-few w in omega arith);
               }
 
-          pub pass-root-fits : h.root < 2 ^ 32
+          pub pass-root-fits : link_to h.root < 2 ^ 32
           pass-root-fits =
               let g = (went q.walk q.steps q.state).held in
-              let y = root-same vs s.here h.root pass-row in
-              go (ℕ_discrete h.root 0) y g.room g.wide.few
-              (λ z. slot-live (cols x') (cols x') h.nodes 0 (ends 0 0) (root_of (put_tree_root vs s.here h.root) s.here) g.good (g.rooted s.here z))
+              let y = root-same vs s.here (link_to h.root) pass-row in
+              go (ℕ_discrete (link_to h.root) 0) y g.room g.wide.few
+              (λ z. slot-live (cols x') (cols x') h.nodes 0 (ends 0 0) (root_of (put_tree_root vs s.here (link_to h.root)) s.here) g.good (g.rooted s.here z))
             where
-              go : Dec (h.root ≡ 0) → root_of (put_tree_root vs s.here h.root) s.here ≡ h.root → h.nodes ≤ d.most → d.most < 2 ^ 32
-                  → ((root_of (put_tree_root vs s.here h.root) s.here ≡ 0 → ⊥) → root_of (put_tree_root vs s.here h.root) s.here ≤ h.nodes) → h.root < 2 ^ 32
+              go : Dec (link_to h.root ≡ 0) → root_of (put_tree_root vs s.here (link_to h.root)) s.here ≡ link_to h.root → h.nodes ≤ d.most → d.most < 2 ^ 32
+                  → ((root_of (put_tree_root vs s.here (link_to h.root)) s.here ≡ 0 → ⊥) → root_of (put_tree_root vs s.here (link_to h.root)) s.here ≤ h.nodes) → link_to h.root < 2 ^ 32
               go (yes z) y a b c = omega arith
               go (no z) y a b c = let l = c (λ v. z (sym y ∙ v)) in omega arith
 
-          pub pass-next : (vs' : List ℕ) → vs' ≡ put_tree_root vs s.here h.root → Passed d s i vs vs' es x x' op op' (Next (record { here = to; nodes = h.nodes; groups = h.groups }))
+          pub pass-next : (vs' : List ℕ) → vs' ≡ put_tree_root vs s.here (link_to h.root) → Passed d s i vs vs' es x x' op op' (Ok (record { here = to; nodes = h.nodes; groups = h.groups }))
           pass-next vs' f =
               rw f
               (record {
                 is = went;
                 arrives = ht;
-                frame = record { kept = kept_put d.vertices vs s.here h.root here_in; beyond = k.beyond; beyond-open = k.beyond-open };
+                frame = record { kept = kept_put d.vertices vs s.here (link_to h.root) here_in; beyond = k.beyond; beyond-open = k.beyond-open };
               })
 
-        pub pass-stop : (m : ℕ) → r ≡ Turned m → (j : ℕ) → j ≡ joined_refusal r → Passed d s i vs vs es x x' op op' (Refused j)
-        pass-stop m e j f =
-            let same : j ≡ m = f ∙ ap joined_refusal e in
-            let k' : Steps (λ u. take_unless (eqb outs 1) (ends s.here to) (open_where o s.here u)) passing d.most s.here told_of x x' op op' (Turned m) = rw e at k in
-            rw same
-            (record {
-              is = λ w p st. let o = k'.is w (p * suc p) (root_of vs) st.held (sym hr) in (o.0, rw (← step_is w) o.1);
+        pub pass-stop : (m : Refusal) → r ≡ Err m → Passed d s i vs vs es x x' op op' (Err m)
+        pass-stop m e =
+            let k' : Steps (λ u. take_unless (eqb outs 1) (ends s.here to) (open_where o s.here u)) passing d.most s.here told_of x x' op op' (Err m) = rw e at k in
+            record {
+              is = λ w p st. let o = k'.is w (p * suc p) (root_of vs) st.held told-root in (o.0, rw (← step_is w) o.1);
               arrives = tt;
               frame = record { kept = kept_self d.vertices vs; beyond = k.beyond; beyond-open = k.beyond-open };
-            })
+            }
 
 -- ---- the end of a walk
 unfoldable pub end_of : Ground → ℕ → Walk → Walk
@@ -243,17 +231,17 @@ pub record Ending (d : Ground) (s : Way) (x op : List ℕ) : Type 0 where
   pub few : d.vertices < 2 ^ 16
   pub sink : d.sink < d.vertices
 
-abbrev pub EndedTo : Ground → ℕ → Walk → ℕ → List ℕ → List ℕ → List ℕ → Walked → Type 0
-EndedTo d v w p vs x op (Next t) = State d (end_of d v w) (suc p) t.nodes t.groups vs x op
-EndedTo d v w p vs x op (Refused r) = (r ≡ 9) × (d.most < many (end_of d v w))
+abbrev pub EndedTo : Ground → ℕ → Walk → ℕ → List ℕ → List ℕ → List ℕ → Result Way Refusal → Type 0
+EndedTo d v w p vs x op (Ok t) = State d (end_of d v w) (suc p) t.nodes t.groups vs x op
+EndedTo d v w p vs x op (Err r) = (number r ≡ 9) × (d.most < many (end_of d v w))
 
-pub record Ended (d : Ground) (s : Way) (x x' op op' : List ℕ) (r : Walked) : Type 0 where
+pub record Ended (d : Ground) (s : Way) (x x' op op' : List ℕ) (r : Result Way Refusal) : Type 0 where
   pub is : (w : Walk) (p : ℕ) (vs : List ℕ) → State d w p s.nodes s.groups vs x op → EndedTo d s.here w p vs x' op' r
   pub beyond : Beyond (told d.most) x x'
   pub beyond-open : Beyond (open_numbers d.most) op op'
 
 module _ {d : Ground} {s : Way} {x op : List ℕ} (q : Ending d s x op) where
-  pub end_stays : (s.here ≡ d.sink → ⊥) → Ended d s x x op op (Next s)
+  pub end_stays : (s.here ≡ d.sink → ⊥) → Ended d s x x op op (Ok s)
   end_stays h = record { is = λ w p vs st. rw (end-no d s.here w h) (state-more (suc p) (omega arith) st); beyond = λ i j. refl; beyond-open = λ i j. refl }
 
   pub end-asks : Asks d.most s.nodes s.groups (ends d.sink d.vertices) x op
@@ -269,13 +257,13 @@ module _ {d : Ground} {s : Way} {x op : List ℕ} (q : Ending d s x op) where
   pub end-to-fits : d.vertices < 2 ^ 32
   end-to-fits = let f = q.few in omega arith
 
-  module _ (h : s.here ≡ d.sink) (x' op' : List ℕ) (r : Grown) (t : TookAll d.most s.nodes s.groups (ends d.sink d.vertices) x x' op op' r) where
+  module _ (h : s.here ≡ d.sink) (x' op' : List ℕ) (r : Result ℕ Refusal) (t : TookAll d.most s.nodes s.groups (ends d.sink d.vertices) x x' op op' r) where
     far : Beyond (open_numbers d.most) op op'
     far i j =
         let a = held-few q.walk d.most s.nodes s.groups (q.steps * suc q.steps) (root_of q.roots) x op q.state.held (ends d.sink d.vertices) in
         t.beyond-open i (omega arith)
 
-    pub end-next : (n : ℕ) → r ≡ Many n → length x' ≡ length x → length op' ≡ length op → Ended d s x x' op op' (Next (record { here = s.here; nodes = n; groups = s.groups }))
+    pub end-next : (n : ℕ) → r ≡ Ok n → length x' ≡ length x → length op' ≡ length op → Ended d s x x' op op' (Ok (record { here = s.here; nodes = n; groups = s.groups }))
     end-next n e lx lo = record { is = go; beyond = t.beyond; beyond-open = far }
       where
         go : (w : Walk) (p : ℕ) (vs : List ℕ) → State d w p s.nodes s.groups vs x op → State d (end_of d s.here w) (suc p) n s.groups vs x' op'
@@ -291,14 +279,12 @@ module _ {d : Ground} {s : Way} {x op : List ℕ} (q : Ending d s x op) where
               few = omega arith;
             })
 
-    pub end-stop : (m : ℕ) → r ≡ Stopped m → (j : ℕ) → j ≡ grown_refusal r → Ended d s x x' op op' (Refused j)
-    end-stop m e j f =
-        let same : j ≡ m = f ∙ ap grown_refusal e in
-        rw same
-        (record {
+    pub end-stop : (m : Refusal) → r ≡ Err m → Ended d s x x' op op' (Err m)
+    end-stop m e =
+        record {
           is = λ w p vs st.
               let o = held-full w d.most s.nodes s.groups (p * suc p) (root_of vs) x op st.held (ends d.sink d.vertices) x' op' m (rw e at t) in
               (o.0, rw (end-yes d s.here w h) o.1);
           beyond = t.beyond;
           beyond-open = far;
-        })
+        }

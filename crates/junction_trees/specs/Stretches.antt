@@ -1,12 +1,9 @@
 -- A whole stretch: the loop keeps "what is left of the walk from here is the whole walk", for every list of trees that the tables may hold at its start.
 -- Assumes nothing.
-use Rattle.std.specs.Prelude.{◌≡◌, refl, true, List, [], ◌∷◌, ◌++◌, ℕ, suc, ◌+◌, ◌-◌, ◌^◌, ◌<◌, ◌≤◌, length, get_or, drop}
-use Rattle.std.proofs.Math.Path.{sym}
-use Rattle.std.proofs.Common.{ap, ◌∙◌, arith, length-drop, length-append, drop_of_length-le, drop-cons, get_or-take, get_or-drop, length-take-le, lt-ltb, le-ltb}
+use Rattle.std.specs.Prelude.{◌≡◌, refl, true, List, [], ◌∷◌, ℕ, suc, ◌+◌, ◌-◌, ◌<◌, ◌≤◌, length, get_or, drop, Result, Ok, Err, take}
+use Rattle.std.proofs.Common.{sym, ap, ◌∙◌, arith, length-drop, drop_of_length-le, drop-cons, get_or-take, get_or-drop, length-take-le, lt-ltb, le-ltb, take-take}
 use Rattle.std.proofs.Math.Option.{none, some}
 use Rattle.std.proofs.Math.Decide.{dec_lt}
-use Rattle.std.proofs.Math.ListN.{take}
-use Rattle.std.proofs.Math.Seq.{take-take}
 use Rattle.definition.specs.Limits.{is_base}
 use Rattle.definition.specs.Stretch.{Stretch}
 use Rattle.definition.specs.Threading.{Ends, Edge, Graph, follow, number_of}
@@ -20,12 +17,10 @@ use Rattle.threading_tree.specs.Held.{held-again}
 use Rattle.threading_tree.specs.Grows.{many, walk-grows}
 use Rattle.junction_trees.specs.declared.Ground.{Ground}
 use Rattle.junction_trees.specs.declared.Way.{Way}
-use Rattle.junction_trees.specs.declared.Walked.{Walked}
-use Rattle.junction_trees.specs.declared.Walked.TheVariants.{Next, Refused}
-use Rattle.junction_trees.specs.declared.Evidence.{Evidence}
-use Rattle.junction_trees.specs.declared.Evidence.TheVariants.{Trees, Refused as Full}
+use Rattle.refusals.specs.declared.Refusal.{Refusal}
+use Rattle.refusals.specs.Numbers.{number}
 use Rattle.junction_trees.specs.Roots.{kept_self, graph-kept}
-use Rattle.junction_trees.specs.Steps.{walked_refusal, Sound, sound-kept, State, state-more, Frame, frame_self, frame_on, pass_of, Passing, Passed, end_of, end_is, Ending, Ended}
+use Rattle.junction_trees.specs.Steps.{Sound, sound-kept, State, state-more, Frame, frame_self, frame_on, pass_of, Passing, Passed, end_of, end_is, Ending, Ended}
 
 -- ---- trees to trees
 abbrev pub begun : List Tree → Walk
@@ -42,12 +37,12 @@ symbolic_ends d = ends d.sink d.vertices
 abbrev pub walk_of : Ground → List ℕ → List ℕ → List ℕ → ℕ → ℕ → List Tree → List Tree
 walk_of d text vs es a len ts = walk_stretch d.k (ground_of d text vs es) d.sink (symbolic_ends d) (stretch_at text a len 0 0) ts
 
-abbrev pub Answered : Ground → List Tree → ℕ → List ℕ → List ℕ → List ℕ → Evidence → Type 0
-Answered d ts p vs x op (Trees c) = State d (begun ts) p c 0 vs x op
-Answered d ts p vs x op (Full r) = (r ≡ 9) × (d.most < length (nodes ts))
+abbrev pub Answered : Ground → List Tree → ℕ → List ℕ → List ℕ → List ℕ → Result ℕ Refusal → Type 0
+Answered d ts p vs x op (Ok c) = State d (begun ts) p c 0 vs x op
+Answered d ts p vs x op (Err r) = (number r ≡ 9) × (d.most < length (nodes ts))
 
 -- F is what the call makes of the trees, whatever trees the tables hold before it: p steps before, at most p' after
-pub record Walking (F : List Tree → List Tree) (d : Ground) (p p' count : ℕ) (vs vs' x x' op op' : List ℕ) (r : Evidence) : Type 0 where
+pub record Walking (F : List Tree → List Tree) (d : Ground) (p p' count : ℕ) (vs vs' x x' op op' : List ℕ) (r : Result ℕ Refusal) : Type 0 where
   pub is : (ts : List Tree) → State d (begun ts) p count 0 vs x op → Answered d (F ts) p' vs' x' op' r
   pub frame : Frame d vs vs' x x' op op'
 
@@ -149,7 +144,7 @@ module _ {d : Ground} {text vs₁ es x₁ op₁ : List ℕ} {a len count : ℕ} 
     left-ending =
         record { walk = b.walked q.trees; steps = a + j; roots = vs; state = state-now; low = low; few = q.sound.few; sink = q.sound.sink }
 
-    module _ (l : len - d.k ≤ j) (x' op' : List ℕ) (r : Walked) (e : Ended d s x x' op op' r) where
+    module _ (l : len - d.k ≤ j) (x' op' : List ℕ) (r : Result Way Refusal) (e : Ended d s x x' op op' r) where
       at-end : (ts : List Tree) → end_of d s.here (b.walked ts) ≡ whole_walk d text es a len first count vs₁ x₁ op₁ ts
       at-end ts =
           let z : drop (d.k + j) (take len (drop a text)) ≡ [] = drop_of_length-le (take len (drop a text)) {i = d.k + j} (rw size (omega arith)) in
@@ -158,9 +153,9 @@ module _ {d : Ground} {text vs₁ es x₁ op₁ : List ℕ} {a len count : ℕ} 
       end_frame : Frame d vs₁ vs x₁ x' op₁ op'
       end_frame = frame_on b.frame (record { kept = kept_self d.vertices vs; beyond = e.beyond; beyond-open = e.beyond-open })
 
-      pub left_end : (t : Way) → r ≡ Next t → Walking (walk_of d text vs₁ es a len) d a (a + len) count vs₁ vs x₁ x' op₁ op' (Trees t.nodes)
+      pub left_end : (t : Way) → r ≡ Ok t → Walking (walk_of d text vs₁ es a len) d a (a + len) count vs₁ vs x₁ x' op₁ op' (Ok t.nodes)
       left_end t f =
-          let e' : Ended d s x x' op op' (Next t) = rw f at e in
+          let e' : Ended d s x x' op op' (Ok t) = rw f at e in
           let u = b.within in
           let k = q.sound.some in
           record {
@@ -170,26 +165,21 @@ module _ {d : Ground} {text vs₁ es x₁ op₁ : List ℕ} {a len count : ℕ} 
             frame = end_frame;
           }
 
-      pub left-end-stop : (m : ℕ) → r ≡ Refused m → (o : ℕ) → o ≡ walked_refusal r → Walking (walk_of d text vs₁ es a len) d a (a + len) count vs₁ vs x₁ x' op₁ op' (Full o)
-      left-end-stop m f o g =
-          let same : o ≡ m = g ∙ ap walked_refusal f in
-          let e' : Ended d s x x' op op' (Refused m) = rw f at e in
-          rw same
-          (record {
+      pub left-end-stop : (m : Refusal) → r ≡ Err m → Walking (walk_of d text vs₁ es a len) d a (a + len) count vs₁ vs x₁ x' op₁ op' (Err m)
+      left-end-stop m f =
+          let e' : Ended d s x x' op op' (Err m) = rw f at e in
+          record {
             is = λ ts st. let c = e'.is (b.walked ts) (a + j) vs (b.is ts st) in (c.0, rw (← whole_is ts, ← at-end ts) c.1);
             frame = end_frame;
-          })
+          }
 
     -- ---- a base more
     module _ (l : j < len - d.k) where
       pub left-place : a + d.k + j < length text
       left-place = let z = q.inside in omega arith
 
-      pub left-fits : a + d.k + j < 2 ^ 64
-      left-fits = let z = left-place in let y = q.sound.small in omega arith
-
-      pub left-asks : (r t : List ℕ) → text ≡ r ++ t → (a + d.k + j < length r + length t) × (HasVertex vs s.here)
-      left-asks r t e = (let z = left-place in let y : length text ≡ length r + length t = rw e (length-append r t) in omega arith, left-row)
+      pub left-asks : (a + d.k + j < length text) × (HasVertex vs s.here)
+      left-asks = (left-place, left-row)
 
       base-here : is_base (get_or text (a + d.k + j) 0) ≡ true
       base-here = let z : a + d.k + j ≡ a + (d.k + j) = omega arith in rw z (q.bases (d.k + j) (omega arith))
@@ -209,7 +199,7 @@ module _ {d : Ground} {text vs₁ es x₁ op₁ : List ℕ} {a len count : ℕ} 
 
       module _ (sl : ℕ) (hs : sl ≡ out_edge vs s.here (code (get_or text (a + d.k + j) 0))) where
         -- no edge fits: the walk stops
-        pub left-none : sl ≡ 0 → Walking (walk_of d text vs₁ es a len) d a (a + len) count vs₁ vs x₁ x op₁ op (Trees s.nodes)
+        pub left-none : sl ≡ 0 → Walking (walk_of d text vs₁ es a len) d a (a + len) count vs₁ vs x₁ x op₁ op (Ok s.nodes)
         left-none z =
             let f : follow (ground_of d text vs₁ es) s.here (get_or text (a + d.k + j) 0) ≡ none = rw (← graph-now) (follow-none sound-now.good s.here (get_or text (a + d.k + j) 0) (sym hs ∙ z)) in
             let u = b.within in
@@ -220,7 +210,11 @@ module _ {d : Ground} {text vs₁ es x₁ op₁ : List ℕ} {a len count : ℕ} 
               frame = b.frame;
             }
 
-        module _ (p : sl ≡ 0 → ⊥) where
+        -- edge i fits
+        module _ (i : ℕ) (hi : i + 1 ≡ sl) where
+          p : sl ≡ 0 → ⊥
+          p z = omega arith
+
           here_in : s.here < d.vertices
           here_in = go (dec_lt s.here d.vertices)
             where
@@ -231,55 +225,65 @@ module _ {d : Ground} {text vs₁ es x₁ op₁ : List ℕ} {a len count : ℕ} 
           pos : 0 < out_edge vs s.here (code (get_or text (a + d.k + j) 0))
           pos = omega arith
 
-          full : (sl ≤ d.edges) × (edge_from es (sl - 1) ≡ s.here)
-          full = let w = sound-now.good.full s.here (code (get_or text (a + d.k + j) 0)) here_in (code_lt (get_or text (a + d.k + j) 0)) pos in (rw hs w.0, rw hs w.1)
+          full : (sl ≤ d.edges) × (edge_from es i ≡ s.here)
+          full =
+              let w = sound-now.good.full s.here (code (get_or text (a + d.k + j) 0)) here_in (code_lt (get_or text (a + d.k + j) 0)) pos in
+              let z : out_edge vs s.here (code (get_or text (a + d.k + j) 0)) - 1 ≡ i = omega arith in
+              (rw hs w.0, rw z at w.1)
 
-          pub left-passing : Passing d s (sl - 1) vs es x op
+          pub left-passing : Passing d s i vs es x op
           left-passing =
               let y = full.0 in
               record { text = text; sound = sound-now; walk = b.walked q.trees; steps = a + j; state = state-now; low = low; edge = omega arith; from = full.1 }
 
-          found : follow (ground_of d text vs₁ es) s.here (get_or text (a + d.k + j) 0) ≡ some (edge_at es (sl - 1))
-          found = rw (← graph-now, hs) (follow-some sound-now.good s.here (get_or text (a + d.k + j) 0) here_in base-here pos)
+          found : follow (ground_of d text vs₁ es) s.here (get_or text (a + d.k + j) 0) ≡ some (edge_at es i)
+          found =
+              let z : out_edge vs s.here (code (get_or text (a + d.k + j) 0)) - 1 ≡ i = omega arith in
+              rw (← graph-now) (rw z at (follow-some sound-now.good s.here (get_or text (a + d.k + j) 0) here_in base-here pos))
 
           turn : (ts : List Tree)
-              → walk_bases (ground_of d text vs₁ es) d.sink (symbolic_ends d) (edge_to es (sl - 1)) (drop (d.k + (j + 1)) (take len (drop a text))) (pass_of d es (sl - 1) (b.walked ts))
+              → walk_bases (ground_of d text vs₁ es) d.sink (symbolic_ends d) (edge_to es i) (drop (d.k + (j + 1)) (take len (drop a text))) (pass_of d es i (b.walked ts))
               ≡ whole_walk d text es a len first count vs₁ x₁ op₁ ts
           unfolding graph_of
           turn ts =
-              sym (walk-some (ground_of d text vs₁ es) d.sink (symbolic_ends d) s.here (get_or text (a + d.k + j) 0) (drop (d.k + (j + 1)) (take len (drop a text))) (b.walked ts) (edge_at es (sl - 1)) found)
+              sym (walk-some (ground_of d text vs₁ es) d.sink (symbolic_ends d) s.here (get_or text (a + d.k + j) 0) (drop (d.k + (j + 1)) (take len (drop a text))) (b.walked ts) (edge_at es i) found)
               ∙ (rw ahead at (b.run ts))
 
-          module _ (vs' x' op' : List ℕ) (r : Walked) (e : Passed d s (sl - 1) vs vs' es x x' op op' r) where
-            pub left-next : (t : Way) → r ≡ Next t → length x' ≡ length x → length op' ≡ length op → Left d text es a len first count vs₁ x₁ op₁ vs' x' op' t (j + 1)
+          module _ (vs' x' op' : List ℕ) (r : Result Way Refusal) (e : Passed d s i vs vs' es x x' op op' r) where
+            pub left-next : (t : Way) → r ≡ Ok t → length x' ≡ length x → length op' ≡ length op → Left d text es a len first count vs₁ x₁ op₁ vs' x' op' t (j + 1)
             left-next t f lx lo =
-                let e' : Passed d s (sl - 1) vs vs' es x x' op op' (Next t) = rw f at e in
+                let e' : Passed d s i vs vs' es x x' op op' (Ok t) = rw f at e in
                 let y = full.0 in
                 let z : suc (a + j) ≡ a + (j + 1) = omega arith in
                 record {
                   within = omega arith;
-                  here = (let h = e'.arrives in let i = q.sound.good.to_in (sl - 1) (omega arith) in omega arith);
+                  here = (let h = e'.arrives in let u = q.sound.good.to_in i (omega arith) in omega arith);
                   frame = frame_on b.frame e'.frame;
                   size-x = lx ∙ b.size-x;
                   size-op = lo ∙ b.size-op;
-                  walked = λ ts. pass_of d es (sl - 1) (b.walked ts);
+                  walked = λ ts. pass_of d es i (b.walked ts);
                   is = λ ts st. rw (← z) (e'.is (b.walked ts) (a + j) (b.is ts st));
                   run = λ ts. rw e'.arrives (turn ts);
                 }
 
-            pub left-stop : (m : ℕ) → r ≡ Refused m → (o : ℕ) → o ≡ walked_refusal r → Walking (walk_of d text vs₁ es a len) d a (a + len) count vs₁ vs' x₁ x' op₁ op' (Full o)
-            left-stop m f o g =
-                let same : o ≡ m = g ∙ ap walked_refusal f in
-                let e' : Passed d s (sl - 1) vs vs' es x x' op op' (Refused m) = rw f at e in
-                rw same
-                (record {
+            pub left-stop : (m : Refusal) → r ≡ Err m → Walking (walk_of d text vs₁ es a len) d a (a + len) count vs₁ vs' x₁ x' op₁ op' (Err m)
+            left-stop m f =
+                let e' : Passed d s i vs vs' es x x' op op' (Err m) = rw f at e in
+                record {
                   is = λ ts st. let c = e'.is (b.walked ts) (a + j) (b.is ts st) in (c.0, over ts c.1);
                   frame = frame_on b.frame e'.frame;
-                })
+                }
               where
-                over : (ts : List Tree) → d.most < many (pass_of d es (sl - 1) (b.walked ts)) → d.most < length (nodes (walk_of d text vs₁ es a len ts))
+                over : (ts : List Tree) → d.most < many (pass_of d es i (b.walked ts)) → d.most < length (nodes (walk_of d text vs₁ es a len ts))
                 over ts h =
-                    let g = walk-grows (ground_of d text vs₁ es) d.sink (symbolic_ends d) (edge_to es (sl - 1)) (drop (d.k + (j + 1)) (take len (drop a text))) (pass_of d es (sl - 1) (b.walked ts)) in
-                    let z : many (walk_bases (ground_of d text vs₁ es) d.sink (symbolic_ends d) (edge_to es (sl - 1)) (drop (d.k + (j + 1)) (take len (drop a text))) (pass_of d es (sl - 1) (b.walked ts))) ≡ length (nodes (walk_of d text vs₁ es a len ts))
+                    let g = walk-grows (ground_of d text vs₁ es) d.sink (symbolic_ends d) (edge_to es i) (drop (d.k + (j + 1)) (take len (drop a text))) (pass_of d es i (b.walked ts)) in
+                    let z : many (walk_bases (ground_of d text vs₁ es) d.sink (symbolic_ends d) (edge_to es i) (drop (d.k + (j + 1)) (take len (drop a text))) (pass_of d es i (b.walked ts))) ≡ length (nodes (walk_of d text vs₁ es a len ts))
                     = ap many (turn ts) ∙ ap (λ (l : List Tree). length (nodes l)) (whole_is ts) in
                     omega arith
+
+-- no vertex has the stretch's first kmer: the walk stops where it begins
+pub left-missing : {d : Ground} {text vs es x op : List ℕ} {a len count : ℕ} → Walks d text vs es x op a len count → d.k < len
+    → d.vertices ≡ number_of (kmers_of d.k text vs d.vertices) (part d.k text a) → Walking (walk_of d text vs es a len) d a (a + len) count vs vs x x op op (Ok count)
+left-missing {d = d} {text = text} {vs = vs} {a = a} q long h =
+    left-none q long d.vertices h (left-start q long d.vertices h) (omega arith) 0
+    (sym (q.sound.good.zeros d.vertices (code (get_or text (a + d.k + 0) 0)) (omega arith) (let y = code_lt (get_or text (a + d.k + 0) 0) in omega arith))) refl

@@ -1,10 +1,8 @@
 -- The whole: what the built graph gives, the roots cleared and then all walks, and when the trees fit the maximum. Assumes nothing.
-use Rattle.std.specs.Prelude.{◌≡◌, true, List, [], ◌++◌, ℕ, suc, ◌*◌, ◌^◌, ◌<◌, ◌≤◌, leb, get_or}
-use Rattle.std.proofs.Common.{sym, ◌∙◌, arith, mul-le-mul_right, length-append}
-use Rattle.std.proofs.Math.Path.{ap}
+use Rattle.std.specs.Prelude.{◌≡◌, true, List, [], ◌++◌, ℕ, suc, ◌*◌, ◌^◌, ◌<◌, ◌≤◌, leb, get_or, Result, Ok, Err, length}
+use Rattle.std.proofs.Common.{sym, ◌∙◌, arith, mul-le-mul_right, length-append, ap, leb-true, le-leb}
 use Rattle.std.proofs.Math.Decide.{dec_lt}
-use Rattle.std.proofs.Math.ListN.{length}
-use borrow.Author.Tests.{leb-true, le-leb, lt-leb}
+use borrow.Author.Tests.{lt-leb}
 use Rattle.laws.specs.ListLaws.{and_right}
 use Rattle.laws.specs.Numbers.{within}
 use Rattle.definition.specs.Refusal.{first_broken, ok, refused}
@@ -13,7 +11,6 @@ use Rattle.definition.specs.Limits.{Sample, sample_rules}
 use Rattle.definition.specs.Stretch.{stretches}
 use Rattle.definition.specs.Threading.{Graph, threaded, symbolic_of, with_symbolic}
 use Rattle.definition.specs.Evidence.{evidence, nodes}
-use Rattle.assembly.specs.Fields.{HasVertices}
 use Rattle.tables.specs.Widths.{vertex_numbers, edge_numbers, open_numbers}
 use Rattle.assembly.specs.Store.{graph_of}
 use Rattle.assembly.specs.Kmers.{length-of}
@@ -23,8 +20,8 @@ use Rattle.read_threading.specs.Reads.{reads_of}
 use Rattle.threading_node.specs.Slots.{told, Beyond}
 use Rattle.threading_tree.specs.Held.{HeldWalk, held_start, held-under, held-nodes, held-room}
 use Rattle.junction_trees.specs.declared.Ground.{Ground}
-use Rattle.junction_trees.specs.declared.Evidence.{Evidence}
-use Rattle.junction_trees.specs.declared.Evidence.TheVariants.{Trees, Refused as Full}
+use Rattle.refusals.specs.declared.Refusal.{Refusal}
+use Rattle.refusals.specs.Numbers.{number}
 use Rattle.junction_trees.specs.Roots.{root_of, Kept, kept_on, Cleared, graph-kept, good-kept}
 use Rattle.junction_trees.specs.Steps.{Sound, sound-kept, State}
 use Rattle.junction_trees.specs.Stretches.{begun, ground_of, Answered, Walking}
@@ -56,11 +53,11 @@ pub record NotEvident (s : Sample) (most r : ℕ) : Type 0 where
   pub nine : r ≡ 9
   pub over : most < length (nodes (evidence s (threaded s)))
 
-abbrev pub EvidentOf : Sample → List ℕ → List ℕ → List ℕ → ℕ → Evidence → Type 0
-EvidentOf s vs x op most (Trees c) = Evident s vs x op most c
-EvidentOf s vs x op most (Full r) = NotEvident s most r
+abbrev pub EvidentOf : Sample → List ℕ → List ℕ → List ℕ → ℕ → Result ℕ Refusal → Type 0
+EvidentOf s vs x op most (Ok c) = Evident s vs x op most c
+EvidentOf s vs x op most (Err r) = NotEvident s most (number r)
 
-pub record Gathered (s : Sample) (vs vs' x x' op op' : List ℕ) (b : Built) (most : ℕ) (r : Evidence) : Type 0 where
+pub record Gathered (s : Sample) (vs vs' x x' op op' : List ℕ) (b : Built) (most : ℕ) (r : Result ℕ Refusal) : Type 0 where
   pub is : EvidentOf s vs' x' op' most r
   -- the graph's tables have changed in field 11 of the vertices' records alone
   pub kept : Kept b.vertices vs vs'
@@ -104,9 +101,6 @@ module _ {s : Sample} {vs es x op : List ℕ} {b : Built} {most : ℕ} (q : Gath
 
   small : length (s.reference ++ s.bases) ≤ 33792
   small = let z = length-append s.reference s.bases in let a = fits.high in let c = fits.many in omega arith
-
-  pub gather-room : HasVertices vs b.vertices
-  gather-room = let z = q.length-v in let y = q.built.vertices-fit in omega arith
 
   sound : Sound (ground_for s b most) (s.reference ++ s.bases) vs es
   sound =
@@ -165,7 +159,7 @@ module _ {s : Sample} {vs es x op : List ℕ} {b : Built} {most : ℕ} (q : Gath
     unfolding evidence stretches symbolic_of
     trees-are = rw (graph_is, q.built.sink-is, ← many-v)
 
-    pub gather-done : (vs' x' op' : List ℕ) (r : Evidence)
+    pub gather-done : (vs' x' op' : List ℕ) (r : Result ℕ Refusal)
         → Walking (walks_of (ground_for s b most) (s.reference ++ s.bases) vs₁ es (reads_of s.k s.quality s.ends s.bases s.qualities)) (ground_for s b most) (length s.reference) (length (s.reference ++ s.bases)) 0 vs₁ vs' x x' op op' r
         → Gathered s vs vs' x x' op op' b most r
     gather-done vs' x' op' r w =
@@ -174,8 +168,8 @@ module _ {s : Sample} {vs es x op : List ℕ} {b : Built} {most : ℕ} (q : Gath
         bounded : (p : ℕ) → p ≤ 33792 → p * suc p < 2 ^ 32
         bounded p h = let a : p * suc p ≤ 33792 * suc p = mul-le-mul_right (suc p) h in omega arith
 
-        go : (r : Evidence) → Answered (ground_for s b most) (evidence s (threaded s)) (length (s.reference ++ s.bases)) vs' x' op' r → EvidentOf s vs' x' op' most r
-        go (Trees n) st =
+        go : (r : Result ℕ Refusal) → Answered (ground_for s b most) (evidence s (threaded s)) (length (s.reference ++ s.bases)) vs' x' op' r → EvidentOf s vs' x' op' most r
+        go (Ok n) st =
             record {
               fits = held-room st.held;
               count = held-nodes st.held;
@@ -183,4 +177,4 @@ module _ {s : Sample} {vs es x op : List ℕ} {b : Built} {most : ℕ} (q : Gath
               small = bounded (length (s.reference ++ s.bases)) small;
               held = st.held;
             }
-        go (Full n) st = record { nine = st.0; over = st.1 }
+        go (Err n) st = record { nine = st.0; over = st.1 }

@@ -1,47 +1,46 @@
 // Evidence: each read stretch longer than k is walked again over the graph as it was before the symbolic edge, and the walk counts in the trees that it
-// has opened. The trees and the active trees of a walk are the tables of `threading_tree`; the slot of a vertex's root is field 11 of its record, which
+// has opened. The trees and the active trees of a walk are the tables of `threading_tree`; the link to a vertex's root is field 11 of its record, which
 // the graph does not use.
 #![tactic(auto)]
 
-ghost use Rattle.std.specs.Prelude.{◌≡◌, ◌++◌, ℕ, ◌+◌, ◌*◌, ◌^◌, ◌<◌, length, get_or};
-ghost use Rattle.laws.specs.Records.{field};
-ghost use Rattle.assembly.specs.Fields.{HasVertices, HasVertex, out_edge, tree_root, put_tree_root};
+ghost use Rattle.std.specs.Prelude.{◌≡◌, ℕ, ◌+◌, ◌^◌, ◌<◌, length, get_or};
+ghost use Rattle.samples.specs.Handed.{text_of, sample_of};
+ghost use Rattle.assembly.specs.Fields.{HasVertices, HasVertex, slot_of, out_edge, tree_root, put_tree_root};
 ghost use Rattle.assembly.specs.Store.{code};
-ghost use Rattle.read_threading.specs.Reads.{read_of, reads_of};
-ghost use Rattle.junction_tree_graph.specs.Built.{sample_of};
 ghost use Rattle.graph_kmers.specs.Index.{Finding};
+ghost use Rattle.read_threading.specs.Reads.{read_of, reads_of};
+ghost use Rattle.threading_node.specs.Links.{slot_at, link_to};
 ghost use Rattle.junction_trees.specs.Degrees.{OutDegree, Warrants};
 ghost use Rattle.junction_trees.specs.Roots.{Cleared};
-ghost use Rattle.junction_trees.specs.Steps.{walked_refusal, Passing, Passed, Ending, Ended};
+ghost use Rattle.junction_trees.specs.Steps.{Passing, Passed, Ending, Ended};
 ghost use Rattle.junction_trees.specs.Stretches.{Walks, Walking, walk_of};
 ghost use Rattle.junction_trees.specs.Reads.{ReadWalks, ReadsWalk, walks_of};
 ghost use Rattle.junction_trees.specs.Trees.{Gathers, Gathered};
 
-use assembly::{ROOT, edge_to, incoming_count, out_edge, wide};
-use graph_kmers::{byte_at, find_kmer};
+use assembly::{ROOT, edge_to, incoming_count, out_edge};
+use graph_kmers::find_kmer;
 use junction_tree_graph::Built;
-use kmer_threading::wide_byte;
+use refusals::Refusal;
+use samples::{Sample, Text};
 use tables::VERTEX;
-use threading_tree::{
-    Grown, Joined, ThreadingState, add_edge_to_junction_tree_nodes, grown_refusal, joined_refusal,
-    pass_edge,
-};
+use threading_node::{Edge, link_to, slot_at};
+use threading_tree::{ThreadingState, add_edge_to_junction_tree_nodes, pass_edge};
 use usable_stretches::run_end;
 
-// ---- the slot of a vertex's root, 0 where it has no tree
+// ---- the slot of a vertex's root, none where it has no tree
 
-pub fn root_slot(vertices: &[u32], v: usize) -> usize
+pub fn root_slot(vertices: &[u32], v: usize) -> Option<usize>
     requires { HasVertex vertices.now v }
-    ensures { result ≡ tree_root vertices.now v }
+    ensures { result ≡ slot_at (tree_root vertices.now v) }
 {
-    wide(vertices[v * VERTEX + ROOT])
+    slot_at(vertices[v * VERTEX + ROOT])
 }
 
-fn keep_root(vertices: &mut [u32], v: usize, slot: usize)
-    requires { (HasVertex vertices.old v) × (slot < 2 ^ 32) }
-    ensures { vertices.new ≡ put_tree_root vertices.old v slot }
+fn keep_root(vertices: &mut [u32], v: usize, slot: Option<usize>)
+    requires { (HasVertex vertices.old v) × (link_to slot < 2 ^ 32) }
+    ensures { vertices.new ≡ put_tree_root vertices.old v (link_to slot) }
 {
-    vertices[v * VERTEX + ROOT] = slot as u32;
+    vertices[v * VERTEX + ROOT] = link_to(slot);
 }
 
 // No vertex has a tree yet; building the graph leaves open what field 11 holds.
@@ -49,10 +48,8 @@ fn clear_roots(vertices: &mut [u32], n: usize)
     requires { HasVertices vertices.old n }
     ensures { Cleared vertices.old n vertices.new n }
 {
-    let mut v: usize = 0;
-    while v < n {
-        keep_root(vertices, v, 0);
-        v += 1;
+    for v in 0..n {
+        keep_root(vertices, v, None);
     }
 }
 
@@ -64,12 +61,10 @@ fn out_degree(vertices: &[u32], v: usize) -> usize
     ensures { OutDegree vertices.now v result }
 {
     let mut n: usize = 0;
-    let mut c: usize = 0;
-    while c < 8 {
-        if out_edge(vertices, v, c) > 0 {
+    for c in 0..8 {
+        if out_edge(vertices, v, c).is_some() {
             n += 1;
         }
-        c += 1;
     }
     n
 }
@@ -80,10 +75,7 @@ fn vertex_warrants_junction_tree(vertices: &[u32], outs: usize, to: usize) -> bo
     requires { HasVertex vertices.now to }
     ensures { Warrants vertices.now outs to result }
 {
-    if outs > 1 {
-        return true;
-    }
-    incoming_count(vertices, to) > 1
+    outs > 1 || incoming_count(vertices, to) > 1
 }
 
 // ---- one walk
@@ -106,35 +98,12 @@ pub struct Way {
     pub groups: usize,
 }
 
-#[derive(Clone, Copy)]
-pub enum Walked {
-    Next(Way),
-    Refused(u32),
-}
-
-// The number of a refusal, 0 for none.
-fn walked_refusal(r: Walked) -> u32
-    ensures { result ≡ walked_refusal r }
+// The out-edge of v whose target ends in the base at place q of the text.
+fn next_edge(text: Text, vertices: &[u32], v: usize, q: usize) -> Option<usize>
+    requires { (q < length (text_of text)) × (HasVertex vertices.now v) }
+    ensures { slot_of result ≡ out_edge vertices.now v (code (get_or (text_of text.entry) q 0)) }
 {
-    match r {
-        Walked::Next(_) => 0,
-        Walked::Refused(n) => n,
-    }
-}
-
-// The trees of all walks so far, as the number of their nodes.
-#[derive(Clone, Copy)]
-pub enum Evidence {
-    Trees(usize),
-    Refused(u32),
-}
-
-// The out-edge of v whose target ends in the base at place q of the text: its number plus 1, or 0.
-fn next_edge(reference: &[u8], bases: &[u8], vertices: &[u32], v: usize, q: usize) -> usize
-    requires { (q < length reference.now + length bases.now) × (HasVertex vertices.now v) }
-    ensures { result ≡ out_edge vertices.now v (code (get_or (reference.now ++ bases.now) q 0)) }
-{
-    let b = wide_byte(byte_at(reference, bases, q));
+    let b = usize::from(text.byte_at(q));
     out_edge(vertices, v, b / 2 % 8)
 }
 
@@ -147,7 +116,7 @@ fn extend_junction_threading_by_one(
     d: Ground,
     s: Way,
     i: usize,
-) -> Walked
+) -> Result<Way, Refusal>
     requires { Passing d s i vertices.old edges.now nodes.old active.old }
     ensures { Passed d s i vertices.old vertices.new edges.now nodes.old nodes.new active.old active.new result }
 {
@@ -160,21 +129,16 @@ fn extend_junction_threading_by_one(
         groups: s.groups,
         root: root_slot(vertices, v),
     };
-    let r = pass_edge(
-        nodes,
-        active,
-        held,
-        d.most,
-        v as u32,
-        to as u32,
-        warrants,
-        outs == 1,
-    );
-    let Joined::Next(h) = r else {
-        return Walked::Refused(joined_refusal(r));
+    let edge = Edge {
+        from: v as u32,
+        to: to as u32,
+    };
+    let r = pass_edge(nodes, active, held, d.most, edge, warrants, outs == 1);
+    let Ok(h) = r else {
+        return Err(r.unwrap_err());
     };
     keep_root(vertices, v, h.root);
-    Walked::Next(Way {
+    Ok(Way {
         here: to,
         nodes: h.nodes,
         groups: h.groups,
@@ -182,36 +146,33 @@ fn extend_junction_threading_by_one(
 }
 
 // A walk that ends at the sink takes the symbolic edge in its active trees.
-fn take_symbolic_edge(nodes: &mut [u32], active: &mut [u32], d: Ground, s: Way) -> Walked
+fn take_symbolic_edge(
+    nodes: &mut [u32],
+    active: &mut [u32],
+    d: Ground,
+    s: Way,
+) -> Result<Way, Refusal>
     requires { Ending d s nodes.old active.old }
     ensures { Ended d s nodes.old nodes.new active.old active.new result }
 {
     if s.here != d.sink {
-        return Walked::Next(s);
+        return Ok(s);
     }
-    let r = add_edge_to_junction_tree_nodes(
-        nodes,
-        active,
-        s.groups,
-        s.nodes,
-        d.most,
-        d.sink as u32,
-        d.vertices as u32,
-    );
-    let Grown::Nodes(n) = r else {
-        return Walked::Refused(grown_refusal(r));
+    let edge = Edge {
+        from: d.sink as u32,
+        to: d.vertices as u32,
     };
-    Walked::Next(Way {
-        here: s.here,
-        nodes: n,
-        groups: s.groups,
-    })
+    let r = add_edge_to_junction_tree_nodes(nodes, active, s.groups, s.nodes, d.most, edge);
+    let Ok(n) = r else {
+        return Err(r.unwrap_err());
+    };
+    Ok(Way { nodes: n, ..s })
 }
 
-// The stretch of `len` bytes at place a of the text, which is longer than k: from the vertex of its first kmer over the bases that follow.
+// The stretch of `len` bytes at place a of the text, which is longer than k: from the vertex of its first kmer over the bases that follow. The answer is the
+// number of nodes.
 fn walk_stretch(
-    reference: &[u8],
-    bases: &[u8],
+    text: Text,
     vertices: &mut [u32],
     edges: &[u32],
     index: &[u32],
@@ -221,44 +182,41 @@ fn walk_stretch(
     a: usize,
     len: usize,
     count: usize,
-) -> Evidence
-    requires { Walks d (reference.now ++ bases.now) vertices.old edges.now nodes.old active.old a len count × (d.k < len) × Finding d.k (reference.now ++ bases.now) vertices.old index.now d.vertices }
-    ensures { Walking (walk_of d (reference.now ++ bases.now) vertices.old edges.now a len) d a (a + len) count vertices.old vertices.new nodes.old nodes.new active.old active.new result }
+) -> Result<usize, Refusal>
+    requires { Walks d (text_of text) vertices.old edges.now nodes.old active.old a len count × (d.k < len) × Finding d.k (text_of text) vertices.old index.now d.vertices }
+    ensures { Walking (walk_of d (text_of text.entry) vertices.old edges.now a len) d a (a + len) count vertices.old vertices.new nodes.old nodes.new active.old active.new result }
 {
-    let last = len - d.k;
-    let first = find_kmer(reference, bases, vertices, index, d.vertices, d.k, a);
+    // The definition stops here too, where there is no vertex or no edge; a stretch that was threaded never does (its theorem Visits.walk-visits).
+    let Some(first) = find_kmer(text, vertices, index, d.vertices, d.k, a) else {
+        return Ok(count);
+    };
     let mut s = Way {
         here: first,
         nodes: count,
         groups: 0,
     };
-    let mut j: usize = 0;
-    while j < last {
-        let slot = next_edge(reference, bases, vertices, s.here, a + d.k + j);
-        // The definition stops here too; a stretch that was threaded never does (its theorem Visits.walk-visits).
-        if slot == 0 {
-            return Evidence::Trees(s.nodes);
-        }
-        let r = extend_junction_threading_by_one(vertices, edges, nodes, active, d, s, slot - 1);
-        let Walked::Next(t) = r else {
-            return Evidence::Refused(walked_refusal(r));
+    for j in 0..len - d.k {
+        let Some(i) = next_edge(text, vertices, s.here, a + d.k + j) else {
+            return Ok(s.nodes);
+        };
+        let r = extend_junction_threading_by_one(vertices, edges, nodes, active, d, s, i);
+        let Ok(t) = r else {
+            return Err(r.unwrap_err());
         };
         s = t;
-        j += 1;
     }
     let r = take_symbolic_edge(nodes, active, d, s);
-    let Walked::Next(t) = r else {
-        return Evidence::Refused(walked_refusal(r));
+    let Ok(t) = r else {
+        return Err(r.unwrap_err());
     };
-    Evidence::Trees(t.nodes)
+    Ok(t.nodes)
 }
 
 // ---- all walks
 
 // A usable run of `len` bytes at place a of the text: only stretches longer than k are walked.
 fn walk_run(
-    reference: &[u8],
-    bases: &[u8],
+    text: Text,
     vertices: &mut [u32],
     edges: &[u32],
     index: &[u32],
@@ -268,45 +226,43 @@ fn walk_run(
     a: usize,
     len: usize,
     count: usize,
-) -> Evidence
-    requires { Walks d (reference.now ++ bases.now) vertices.old edges.now nodes.old active.old a len count × Finding d.k (reference.now ++ bases.now) vertices.old index.now d.vertices }
-    ensures { Walking (walk_of d (reference.now ++ bases.now) vertices.old edges.now a len) d a (a + len) count vertices.old vertices.new nodes.old nodes.new active.old active.new result }
+) -> Result<usize, Refusal>
+    requires { Walks d (text_of text) vertices.old edges.now nodes.old active.old a len count × Finding d.k (text_of text) vertices.old index.now d.vertices }
+    ensures { Walking (walk_of d (text_of text.entry) vertices.old edges.now a len) d a (a + len) count vertices.old vertices.new nodes.old nodes.new active.old active.new result }
 {
     if len <= d.k {
-        return Evidence::Trees(count);
+        return Ok(count);
     }
     walk_stretch(
-        reference, bases, vertices, edges, index, nodes, active, d, a, len, count,
+        text, vertices, edges, index, nodes, active, d, a, len, count,
     )
 }
 
 // The read that lies from `start` to `end` of the bases: one usable run after the other.
 fn walk_read(
-    reference: &[u8],
-    bases: &[u8],
-    qualities: &[u8],
+    sample: Sample,
     vertices: &mut [u32],
     edges: &[u32],
     index: &[u32],
     nodes: &mut [u32],
     active: &mut [u32],
-    quality: u8,
     d: Ground,
     start: usize,
     end: usize,
     count: usize,
-) -> Evidence
-    requires { ReadWalks d reference.now bases.now qualities.now vertices.old edges.now nodes.old active.old start end count × Finding d.k (reference.now ++ bases.now) vertices.old index.now d.vertices }
-    ensures { (q : ℕ) → Walking (walks_of d (reference.now ++ bases.now) vertices.old edges.now (read_of d.k quality bases.now qualities.now q start end)) d (length reference.now + start) (length reference.now + end) count vertices.old vertices.new nodes.old nodes.new active.old active.new result }
+) -> Result<usize, Refusal>
+    requires { ReadWalks d sample.text.reference.now sample.text.bases.now sample.qualities.now vertices.old edges.now nodes.old active.old start end count × Finding d.k (text_of sample.text) vertices.old index.now d.vertices }
+    ensures { (q : ℕ) → Walking (walks_of d (text_of sample.entry.text) vertices.old edges.now (read_of d.k sample.entry.quality sample.entry.text.bases.now sample.entry.qualities.now q start end)) d (length sample.entry.text.reference.now + start) (length sample.entry.text.reference.now + end) count vertices.old vertices.new nodes.old nodes.new active.old active.new result }
 {
-    let n = reference.len();
+    let text = sample.text;
+    let n = text.reference.len();
     let mut c = count;
     let mut p = start;
+    // Each turn is a run, not a byte.
     while p < end {
-        let q = run_end(bases, qualities, quality, p, end);
+        let q = run_end(sample, p, end);
         let r = walk_run(
-            reference,
-            bases,
+            text,
             vertices,
             edges,
             index,
@@ -317,60 +273,49 @@ fn walk_read(
             q - p,
             c,
         );
-        let Evidence::Trees(more) = r else {
+        let Ok(more) = r else {
             return r;
         };
         c = more;
         p = q + 1;
     }
-    Evidence::Trees(c)
+    Ok(c)
 }
 
 // All reads in order; read j ends at ends[j].
 fn generate_junction_trees(
-    reference: &[u8],
-    ends: &[u32],
-    bases: &[u8],
-    qualities: &[u8],
+    sample: Sample,
     vertices: &mut [u32],
     edges: &[u32],
     index: &[u32],
     nodes: &mut [u32],
     active: &mut [u32],
-    quality: u8,
     d: Ground,
     count: usize,
-) -> Evidence
-    requires { ReadsWalk d reference.now ends.now bases.now qualities.now vertices.old edges.now nodes.old active.old count × Finding d.k (reference.now ++ bases.now) vertices.old index.now d.vertices }
-    ensures { Walking (walks_of d (reference.now ++ bases.now) vertices.old edges.now (reads_of d.k quality ends.now bases.now qualities.now)) d (length reference.now) (length (reference.now ++ bases.now)) count vertices.old vertices.new nodes.old nodes.new active.old active.new result }
+) -> Result<usize, Refusal>
+    requires { ReadsWalk d sample.text.reference.now sample.ends.now sample.text.bases.now sample.qualities.now vertices.old edges.now nodes.old active.old count × Finding d.k (text_of sample.text) vertices.old index.now d.vertices }
+    ensures { Walking (walks_of d (text_of sample.entry.text) vertices.old edges.now (reads_of d.k sample.entry.quality sample.entry.ends.now sample.entry.text.bases.now sample.entry.qualities.now)) d (length sample.entry.text.reference.now) (length (text_of sample.entry.text)) count vertices.old vertices.new nodes.old nodes.new active.old active.new result }
 {
     let mut c = count;
     let mut start: usize = 0;
-    let mut j: usize = 0;
-    while j < ends.len() {
-        let end = wide(ends[j]);
+    for e in sample.ends {
+        let end = *e as usize;
         let r = walk_read(
-            reference, bases, qualities, vertices, edges, index, nodes, active, quality, d, start,
-            end, c,
+            sample, vertices, edges, index, nodes, active, d, start, end, c,
         );
-        let Evidence::Trees(more) = r else {
+        let Ok(more) = r else {
             return r;
         };
         c = more;
         start = end;
-        j += 1;
     }
-    Evidence::Trees(c)
+    Ok(c)
 }
 
-// The junction trees of a sample whose graph is built, in a table that is zero so far; or 9, just where they have more than `most` nodes.
+// The junction trees of a sample whose graph is built, in a table that is zero so far, as the number of their nodes; `TreeNodes` is refused just where they
+// have more than `most`.
 pub fn build_trees(
-    k: usize,
-    quality: u8,
-    reference: &[u8],
-    ends: &[u32],
-    bases: &[u8],
-    qualities: &[u8],
+    sample: Sample,
     vertices: &mut [u32],
     edges: &[u32],
     index: &[u32],
@@ -378,19 +323,17 @@ pub fn build_trees(
     active: &mut [u32],
     built: Built,
     most: usize,
-) -> Evidence
-    requires { Gathers (sample_of k quality reference.now ends.now bases.now qualities.now) vertices.old edges.now nodes.old active.old built most × Finding k (reference.now ++ bases.now) vertices.old index.now built.vertices }
-    ensures { Gathered (sample_of k quality reference.now ends.now bases.now qualities.now) vertices.old vertices.new nodes.old nodes.new active.old active.new built most result }
+) -> Result<usize, Refusal>
+    requires { Gathers (sample_of sample) vertices.old edges.now nodes.old active.old built most × Finding sample.k (text_of sample.text) vertices.old index.now built.vertices }
+    ensures { Gathered (sample_of sample.entry) vertices.old vertices.new nodes.old nodes.new active.old active.new built most result }
 {
     let d = Ground {
-        k: k,
+        k: sample.k as usize,
         vertices: built.vertices,
         edges: built.edges,
         sink: built.sink,
-        most: most,
+        most,
     };
     clear_roots(vertices, d.vertices);
-    generate_junction_trees(
-        reference, ends, bases, qualities, vertices, edges, index, nodes, active, quality, d, 0,
-    )
+    generate_junction_trees(sample, vertices, edges, index, nodes, active, d, 0)
 }

@@ -6,7 +6,8 @@ use Rattle.std.proofs.Math.Bool.{true, false, and-false}
 use Rattle.std.proofs.Math.ListN.{drop, get_or}
 use Rattle.std.specs.Float.Ieee.{nan, le, eq, ne, of_bits, of_fields}
 use Rattle.std.specs.Float.{inf, fin, binary64}
-use borrow.Author.Tests.{le-leb, lt-leb, not-true, not-false}
+use Rattle.std.proofs.Common.{le-leb}
+use Rattle.std.proofs.lemmas.Bool.{lt-leb, not-true, not-false}
 use Rattle.laws.specs.ListLaws.{clash}
 use Rattle.definition.specs.Limits.{is_finite, climbing, column_fits, float_zero, sixteen}
 

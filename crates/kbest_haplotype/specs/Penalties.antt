@@ -1,22 +1,21 @@
 -- The answer of `log_penalty` as the definition has it, and a law for each of its returns.
 use Rattle.std.specs.Prelude.{◌≡◌, ℕ, zero, suc, max, ◌<◌, ◌≤◌, List, length, get_or, Float}
+use Rattle.std.specs.Prelude as Prelude
+use Rattle.std.specs.Prelude.{Ok, Err}
 use Rattle.std.proofs.Common.{ap, arith, lt-ltb, le-ltb}
 use Rattle.std.proofs.Math.Option.{Option, none, some}
 use Rattle.std.specs.Float.{nan, binary64}
 use Rattle.std.specs.Float.Ieee.{sub, of_bits}
 use Rattle.definition.specs.Refusal.{Result, ok, refused}
 use Rattle.definition.specs.Score.{at_place, column_penalty}
-use Rattle.kbest_haplotype.specs.declared.Penalty.{Penalty}
+use Rattle.refusals.specs.declared.Refusal.{Refusal}
+use Rattle.refusals.specs.Numbers.{number}
 use Rattle.kbest_haplotype.specs.Columns.{bits-zero}
 
 -- the score or the number that an answer of `log_penalty` holds
-abbrev pub penalty_of : Penalty → Result Float
-penalty_of (Penalty.Of score) = ok score
-penalty_of (Penalty.Refused n) = refused n
-
-abbrev pub penalty_refusal : Penalty → ℕ
-penalty_refusal (Penalty.Of score) = 0
-penalty_refusal (Penalty.Refused n) = n
+abbrev pub penalty_of : Prelude.Result Float Refusal → Result Float
+penalty_of (Ok score) = ok score
+penalty_of (Err e) = refused (number e)
 
 -- the definition's penalty: "a count or total has no place in the column" is 10
 abbrev pub priced : Option Float → Result Float

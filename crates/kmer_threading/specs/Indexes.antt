@@ -1,17 +1,16 @@
 -- The index through the threading: it has the kmers of the vertices made so far, and room for as many as may come. Assumes nothing.
-use Rattle.std.specs.Prelude.{◌≡◌, List, ℕ, ◌+◌, ◌-◌, ◌^◌, ◌<◌, ◌≤◌, length, get_or}
+use Rattle.std.specs.Prelude.{◌≡◌, Result, Ok, Err, List, ℕ, ◌+◌, ◌-◌, ◌^◌, ◌<◌, ◌≤◌, length, get_or}
 use Rattle.std.proofs.Common.{sym, ◌∙◌, arith}
 use Rattle.laws.specs.Rows.{rows_none}
 use Rattle.definition.specs.Threading.{number_of}
 use Rattle.tables.specs.Widths.{kmer_numbers}
 use Rattle.kmer_threading.specs.declared.Most.{Most}
 use Rattle.kmer_threading.specs.declared.At.{At}
-use Rattle.kmer_threading.specs.declared.Step.{Step}
-use Rattle.kmer_threading.specs.declared.Step.TheVariants.{Next, Refused}
+use Rattle.refusals.specs.declared.Refusal.{Refusal}
 use Rattle.assembly.specs.Store.{kmers_of, code, code_lt}
 use Rattle.assembly.specs.Moves.{added_v, kmers-added}
 use Rattle.assembly.specs.Kmers.{part, born, kmers-born, length-of}
-use Rattle.graph_kmers.specs.Index.{size_of, Indexed, Finds, Finding, bucket_of, bucket-lt, entered, length-entered, entered_at, index-empty}
+use Rattle.graph_kmers.specs.Index.{size_of, Indexed, Finding, bucket_of, bucket-lt, entered, length-entered, entered_at, index-empty}
 use Rattle.kmer_threading.specs.Steps.{Gets}
 
 pub record Indexes (k : ℕ) (text vs idx : List ℕ) (most : Most) (n : ℕ) : Type 0 where
@@ -19,36 +18,26 @@ pub record Indexes (k : ℕ) (text vs idx : List ℕ) (most : Most) (n : ℕ) : 
   pub indexed : Indexed k (kmers_of k text vs n) idx
 
 -- so it is where a step goes on; where one is refused the index is not used again
-abbrev pub Keeps : ℕ → List ℕ → List ℕ → List ℕ → Most → Step → Type 0
-Keeps k text vs idx most (Next s) = Indexes k text vs idx most s.vertices
-Keeps k text vs idx most (Refused n) = Unit {0}
+abbrev pub Keeps : ℕ → List ℕ → List ℕ → List ℕ → Most → Result At Refusal → Type 0
+Keeps k text vs idx most (Ok s) = Indexes k text vs idx most s.vertices
+Keeps k text vs idx most (Err e) = Unit {0}
 
 -- an index as it is lent: two numbers a vertex, all zero
 pub record Fresh (n : ℕ) (idx : List ℕ) : Type 0 where
   pub size : length idx ≡ kmer_numbers n
   pub zero : (i : ℕ) → get_or idx i 0 ≡ 0
 
-module _ (k : ℕ) (text vs idx : List ℕ) (most : Most) (r : Step) where
-  pub keeps-next : (t : At) → Keeps k text vs idx most r → r ≡ Next t → Indexes k text vs idx most t.vertices
+module _ (k : ℕ) (text vs idx : List ℕ) (most : Most) (r : Result At Refusal) where
+  pub keeps-next : (t : At) → Keeps k text vs idx most r → r ≡ Ok t → Indexes k text vs idx most t.vertices
   keeps-next t h e = rw e at h
 
-  pub keeps-stop : (n : ℕ) → r ≡ Refused n → Keeps k text vs idx most r
+  pub keeps-stop : (n : Refusal) → r ≡ Err n → Keeps k text vs idx most r
   keeps-stop n e = rw e tt
 
 -- ---- the vertex of a kmer
 module _ {k : ℕ} {text vs idx : List ℕ} {most : Most} {s : At} {q : ℕ} (x : Gets k text vs most s q) (y : Indexes k text vs idx most s.vertices) where
   pub index-some : 0 < size_of idx
   index-some = let z = y.room in omega arith
-
-  pub index-finds : Finds k text vs idx s.vertices q
-  index-finds =
-      record {
-        inside = x.inside;
-        rows = (let r = x.room-v in let v = x.vertices in omega arith);
-        fits = x.fits;
-        buckets = index-some;
-        indexed = y.indexed;
-      }
 
   module _ (h : ℕ) (hh : h ≡ bucket_of k (size_of idx) (part k text q)) (l : s.vertices < most.vertices) where
     pub enter-asks : (s.vertices < size_of idx) × (h < size_of idx) × (s.vertices + 1 < 2 ^ 32)
@@ -66,7 +55,7 @@ module _ {k : ℕ} {text vs idx : List ℕ} {most : Most} {s : At} {q : ℕ} (x 
         })
 
 -- an edge more changes no kmer
-pub index-edge : (k : ℕ) (text vs idx : List ℕ) (most : Most) (r : Step) (t : At) → Keeps k text vs idx most r → r ≡ Next t → (vs' : List ℕ) (from b to m : ℕ) → vs' ≡ added_v vs from (code b) to m
+pub index-edge : (k : ℕ) (text vs idx : List ℕ) (most : Most) (r : Result At Refusal) (t : At) → Keeps k text vs idx most r → r ≡ Ok t → (vs' : List ℕ) (from b to m : ℕ) → vs' ≡ added_v vs from (code b) to m
     → Indexes k text vs' idx most t.vertices
 index-edge k text vs idx most r t h e vs' from b to m d =
     let y = keeps-next k text vs idx most r t h e in
@@ -81,5 +70,5 @@ index-start k text vs idx most f =
 pub fresh-one : (v : ℕ) (idx : List ℕ) → 1 ≤ v → Fresh v idx → Fresh (v - 1 + 1) idx
 fresh-one v idx h f = let z : v - 1 + 1 ≡ v = omega arith in rw z f
 
-pub index-finding : (k : ℕ) (text vs idx : List ℕ) (most : Most) (r : Step) (t : At) → Keeps k text vs idx most r → r ≡ Next t → Finding k text vs idx t.vertices
+pub index-finding : (k : ℕ) (text vs idx : List ℕ) (most : Most) (r : Result At Refusal) (t : At) → Keeps k text vs idx most r → r ≡ Ok t → Finding k text vs idx t.vertices
 index-finding k text vs idx most r t h e = let y = keeps-next k text vs idx most r t h e in record { buckets = (let z = y.room in omega arith); indexed = y.indexed }

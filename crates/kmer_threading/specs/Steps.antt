@@ -1,5 +1,5 @@
 -- One step of threading, and the contracts' words. Assumes nothing.
-use Rattle.std.specs.Prelude.{◌≡◌, ◌≢◌, ◌⊎◌, Bool, true, not, List, ℕ, ◌+◌, ◌-◌, ◌^◌, ◌<◌, ◌≤◌, eqb, length, get_or}
+use Rattle.std.specs.Prelude.{◌≡◌, ◌≢◌, ◌⊎◌, Bool, true, false, None, Some, Result, Ok, Err, List, ℕ, ◌+◌, ◌-◌, ◌^◌, ◌<◌, ◌≤◌, eqb, length, get_or}
 use Rattle.std.proofs.Math.Path.{refl}
 use Rattle.std.proofs.Common.{sym, ap, ◌∙◌, arith}
 use Rattle.std.proofs.Math.Logic.{inl, inr}
@@ -10,17 +10,14 @@ use Rattle.definition.specs.Limits.{is_base}
 use Rattle.definition.specs.Threading.{Ends, Origin, Edge, Threading, one_step, number_of, with_kmer, follow, step_to, step}
 use Rattle.kmer_threading.specs.declared.Most.{Most}
 use Rattle.kmer_threading.specs.declared.At.{At}
-use Rattle.kmer_threading.specs.declared.Step.{Step}
-use Rattle.kmer_threading.specs.declared.Step.TheVariants.{Next, Refused}
-use Rattle.assembly.specs.Fields.{HasVertices, HasVertex, out_edge, kmer_place, incoming_count, HasEdges, HasEdge, edge_from, edge_to, edge_support}
+use Rattle.refusals.specs.declared.Refusal.{Refusal}
+use Rattle.refusals.specs.Numbers.{number}
+use Rattle.assembly.specs.Fields.{HasVertices, HasVertex, slot_of, out_edge, kmer_place, incoming_count, HasEdges, HasEdge, edge_from, edge_to, edge_support}
 use Rattle.assembly.specs.Table.{table, length-table, table-absent, count-le}
 use Rattle.assembly.specs.Puts.{length-put}
 use Rattle.assembly.specs.Store.{edge_at, edges_of, kmers_of, graph_of, last_of, code, code_lt, Good, good-distinct, follow-none, follow-some}
 use Rattle.assembly.specs.Moves.{gained, gained-put, gained-good, gained-row, gained-2, length-gained, added_e, added_v, new_edge, added-put, added-supports, length-added_v, length-added_e, added-good, kmers-added}
-use Rattle.assembly.specs.Kmers.{part, last-part, last-of, number-kmer, with-old, with-new, born, born-good, length-born, with-length, born-last-new, born-row, number-le}
-
-abbrev pub origin_of : ℕ → ℕ → Origin
-origin_of s p = record { sequence = s; place = p }
+use Rattle.assembly.specs.Kmers.{part, last-part, last-of, number-kmer, with-old, with-new, born, born-good, length-born, with-length, born-last-new, born-row}
 
 unfoldable pub threading_of : ℕ → List ℕ → List ℕ → List ℕ → At → Threading
 threading_of k text vs es s = record { graph = graph_of k text vs s.vertices es s.edges; here = s.here }
@@ -48,9 +45,9 @@ pub record Over (most : Most) (n : ℕ) (t : Threading) : Type 0 where
   pub over : (most.vertices < length t.graph.kmers) ⊎ (most.edges < length t.graph.edges)
 
 -- c bounds the counts made so far
-abbrev pub Stepped : ℕ → List ℕ → List ℕ → List ℕ → Most → ℕ → Step → Threading → Type 0
-Stepped k text vs es most c (Next s) t = Came k text vs es most s c t
-Stepped k text vs es most c (Refused n) t = Over most n t
+abbrev pub Stepped : ℕ → List ℕ → List ℕ → List ℕ → Most → ℕ → Result At Refusal → Threading → Type 0
+Stepped k text vs es most c (Ok s) t = Came k text vs es most s c t
+Stepped k text vs es most c (Err e) t = Over most (number e) t
 
 -- ---- the vertex of a kmer
 pub record Gets (k : ℕ) (text vs : List ℕ) (most : Most) (s : At) (q : ℕ) : Type 0 where
@@ -80,14 +77,14 @@ pub record NoVertex (k : ℕ) (text vs : List ℕ) (most : Most) (s : At) (q n :
   pub eight : n ≡ 8
   pub over : most.vertices < length (with_kmer (kmers_of k text vs s.vertices) (part k text q))
 
-abbrev pub Got : ℕ → List ℕ → List ℕ → List ℕ → Most → At → ℕ → Step → Type 0
-Got k text vs vs' most s q (Next t) = GotAt k text vs vs' most s q t
-Got k text vs vs' most s q (Refused n) = NoVertex k text vs most s q n
+abbrev pub Got : ℕ → List ℕ → List ℕ → List ℕ → Most → At → ℕ → Result At Refusal → Type 0
+Got k text vs vs' most s q (Ok t) = GotAt k text vs vs' most s q t
+Got k text vs vs' most s q (Err e) = NoVertex k text vs most s q (number e)
 
 module _ {k : ℕ} {text vs : List ℕ} {most : Most} {s : At} {q : ℕ} (x : Gets k text vs most s q)
     (w : ℕ) (hw : w ≡ number_of (kmers_of k text vs s.vertices) (part k text q)) where
-  pub got-old : (w ≡ s.vertices → ⊥) → GotAt k text vs vs most s q (record { vertices = s.vertices; edges = s.edges; here = w; steps = s.steps })
-  got-old n =
+  pub got-old : w < s.vertices → GotAt k text vs vs most s q (record { vertices = s.vertices; edges = s.edges; here = w; steps = s.steps })
+  got-old low =
       record {
         kmers = sym (with-old k text vs s.vertices q w hw low);
         number = hw;
@@ -101,9 +98,6 @@ module _ {k : ℕ} {text vs : List ℕ} {most : Most} {s : At} {q : ℕ} (x : Ge
         rows = λ v c h l. refl;
         good = λ es m b g. g;
       }
-    where
-      low : w < s.vertices
-      low = let z : w ≤ s.vertices = rw hw (number-le k text vs s.vertices q) in omega arith
 
   pub no-vertex : w ≡ s.vertices → most.vertices ≤ s.vertices → NoVertex k text vs most s q 8
   no-vertex e h = record { eight = refl; over = rw (with-length k text vs s.vertices q w hw e) (omega arith) }
@@ -140,13 +134,13 @@ step-none : (ref : Bool) (o : Origin) (x : List ℕ) (t : Threading) → follow 
 unfolding step
 step-none ref o x t h = rw (h, step)
 
-module _ {k : ℕ} {text vs es : List ℕ} {most : Most} {s : At} (f : Fine k text vs es most s) (q b a : ℕ) (o : Origin)
+module _ {k : ℕ} {text vs es : List ℕ} {most : Most} {s : At} (f : Fine k text vs es most s) (q b : ℕ) (a : Bool) (o : Origin)
     (hk : 0 < k) (hq : q + k ≤ length text) (hb : b ≡ get_or text (q + k - 1) 0) where
   last-b : last_or 0 (part k text q) ≡ b
   last-b = last-part k text q hk hq ∙ sym hb
 
   abbrev to-be : Threading
-  to-be = step (not (eqb a 0)) o (part k text q) (threading_of k text vs es s)
+  to-be = step a o (part k text q) (threading_of k text vs es s)
 
   -- ---- there is an out-edge to follow
   module _ (ib : is_base b ≡ true) (sl : ℕ) (hs : sl ≡ out_edge vs s.here (code b)) (pos : 0 < sl) where
@@ -162,10 +156,6 @@ module _ {k : ℕ} {text vs es : List ℕ} {most : Most} {s : At} (f : Fine k te
     slot-room : HasEdge es (sl - 1)
     slot-room = let h = slot-in in let e = f.edges in let r = f.room-e in omega arith
 
-    -- what the code needs there
-    pub slot-gain : s.steps + 1 < 2 ^ 32 → (HasEdge es (sl - 1)) × (edge_support es (sl - 1) + 1 < 2 ^ 32)
-    slot-gain h = (slot-room, (let z = f.supports (sl - 1) slot-in in omega arith))
-
     ends-are : (edge_at es (sl - 1)).ends ≡ record { from = s.here; to = edge_to es (sl - 1) }
     ends-are = rw slot-from
 
@@ -176,7 +166,7 @@ module _ {k : ℕ} {text vs es : List ℕ} {most : Most} {s : At} (f : Fine k te
           counted = omega arith;
           is =
               rw (gained-put es (sl - 1) a slot-room f.good slot-in o, ends-are)
-              (sym (step-some (not (eqb a 0)) o (part k text q) (threading_of k text vs es s) (edge_at es (sl - 1)) found));
+              (sym (step-some a o (part k text q) (threading_of k text vs es s) (edge_at es (sl - 1)) found));
           fine =
               record {
                 good = gained-good (sl - 1) a slot-room f.good;
@@ -204,9 +194,9 @@ module _ {k : ℕ} {text vs es : List ℕ} {most : Most} {s : At} (f : Fine k te
     w = number_of (kmers_of k text vs s.vertices) (part k text q)
 
     -- what is to be: the kmers with this one, and the edge counted
-    is-to-be : to-be ≡ step_to (not (eqb a 0)) o (threading_of k text vs es s) (with_kmer (kmers_of k text vs s.vertices) (part k text q)) w
+    is-to-be : to-be ≡ step_to a o (threading_of k text vs es s) (with_kmer (kmers_of k text vs s.vertices) (part k text q)) w
     unfolding threading_of graph_of
-    is-to-be = step-none (not (eqb a 0)) o (part k text q) (threading_of k text vs es s) not_found
+    is-to-be = step-none a o (part k text q) (threading_of k text vs es s) not_found
 
     -- a vertex that is there and has the number ends in b
     old-last : w < s.vertices → last_of k text vs s.vertices w ≡ b
@@ -227,7 +217,7 @@ module _ {k : ℕ} {text vs es : List ℕ} {most : Most} {s : At} (f : Fine k te
         record {
           eight = refl;
           over = inr (rw is-to-be
-              (let z = length-put (one_step (not (eqb a 0)) o (record { from = s.here; to = w })) (table (edge_at es) s.edges) (table-absent (edge_at es) s.edges (record { from = s.here; to = w }) not_there) in
+              (let z = length-put (one_step a o (record { from = s.here; to = w })) (table (edge_at es) s.edges) (table-absent (edge_at es) s.edges (record { from = s.here; to = w }) not_there) in
               let y = length-table (edge_at es) s.edges (good-distinct f.good) in omega arith));
         }
 
@@ -252,33 +242,33 @@ module _ {k : ℕ} {text vs es : List ℕ} {most : Most} {s : At} (f : Fine k te
       good-t : Good k text vs' t.vertices es s.edges
       good-t = got.good es s.edges (rw last-b ib) f.good
 
-      pub came-edge : (sq pl : ℕ) → o ≡ origin_of sq pl
-          → Came k text (added_v vs' s.here (code b) t.here s.edges) (added_e es s.edges (new_edge a sq pl s.here t.here) a) most
+      pub came-edge :
+          Came k text (added_v vs' s.here (code b) t.here s.edges) (added_e es s.edges (new_edge a o s.here t.here)) most
           (record { vertices = t.vertices; edges = s.edges + 1; here = t.here; steps = s.steps + 1 }) (s.steps + 1) to-be
       unfolding threading_of graph_of step_to one_step
-      came-edge sq pl e =
+      came-edge =
           record {
             counted = omega arith;
             is =
                 rw (
-                  added-put es s.edges (new_edge a sq pl s.here t.here) a room-m refl,
+                  added-put es s.edges (new_edge a o s.here t.here) room-m,
                   kmers-added k text vs' s.here (code b) t.here s.edges t.vertices (code_lt b),
                   got.kmers,
                   got.number,
                 )
-                (sym (is-to-be ∙ rw e));
+                (sym is-to-be);
             fine =
                 record {
                   good =
-                      added-good good-t (new_edge a sq pl s.here t.here) a (code b) here_in got.here (ap code (sym (got.last ∙ last-b))) still room-t room-m;
+                      added-good good-t (new_edge a o s.here t.here) (code b) here_in got.here (ap code (sym (got.last ∙ last-b))) still room-t room-m;
                   here = got.here;
                   vertices = got.vertices;
                   edges = omega arith;
                   room-v = rw (length-added_v vs' s.here (code b) t.here s.edges (code_lt b), got.length-v) f.room-v;
-                  room-e = rw (length-added_e es s.edges (new_edge a sq pl s.here t.here) a) f.room-e;
+                  room-e = rw (length-added_e es s.edges (new_edge a o s.here t.here)) f.room-e;
                   few-v = f.few-v;
                   few-e = f.few-e;
-                  supports = added-supports es s.edges (new_edge a sq pl s.here t.here) a s.steps room-m (omega arith) f.supports;
+                  supports = added-supports es s.edges (new_edge a o s.here t.here) s.steps room-m (omega arith) f.supports;
                 };
           }
 
@@ -315,37 +305,39 @@ module _ {k : ℕ} {text vs es : List ℕ} {most : Most} {s : At} {q : ℕ} (x :
   ib : is_base b ≡ true
   ib = rw hb x.base
 
-  abbrev will : ℕ → Origin → Threading
-  will a o = step (not (eqb a 0)) o (part k text q) (threading_of k text vs es s)
+  abbrev will : Bool → Origin → Threading
+  will a o = step a o (part k text q) (threading_of k text vs es s)
 
-  pub ext-gets : Gets k text vs most s q
-  ext-gets = let f = x.fine in record { vertices = f.vertices; room-v = f.room-v; few-v = f.few-v; fits = f.good.fits; inside = x.inside; small = x.small }
+  abbrev none_of : Origin
+  none_of = record { sequence = 0; place = 0 }
 
-  pub ext-gain : (sl : ℕ) → sl ≡ out_edge vs s.here (code b) → 0 < sl → (HasEdge es (sl - 1)) × (edge_support es (sl - 1) + 1 < 2 ^ 32)
-  ext-gain sl hs p = slot-gain x.fine q b 0 (origin_of 0 0) x.some x.inside hb ib sl hs p x.steps
+  -- there is an out-edge to follow, of number i
+  module _ (i : ℕ) (hs : slot_of (Some i) ≡ out_edge vs s.here (code b)) where
+    at-i : out_edge vs s.here (code b) - 1 ≡ i
+    at-i = omega arith
 
-  pub ext-known : (a : ℕ) (o : Origin) (sl : ℕ) → sl ≡ out_edge vs s.here (code b) → 0 < sl → (to : ℕ) → to ≡ edge_to es (sl - 1) → (es' : List ℕ) → es' ≡ gained es (sl - 1) a
-      → Came k text vs es' most (record { vertices = s.vertices; edges = s.edges; here = to; steps = s.steps + 1 }) (s.steps + 1) (will a o)
-  ext-known a o sl hs p to h es' e = rw (e, h) (came-known x.fine q b a o x.some x.inside hb ib sl hs p)
+    pub ext-known : (a : Bool) (o : Origin) (to : ℕ) → to ≡ edge_to es i → (es' : List ℕ) → es' ≡ gained es i a
+        → Came k text vs es' most (record { vertices = s.vertices; edges = s.edges; here = to; steps = s.steps + 1 }) (s.steps + 1) (will a o)
+    ext-known a o to h es' e = rw (e, h) (rw at-i at (came-known x.fine q b a o x.some x.inside hb ib (out_edge vs s.here (code b)) refl (omega arith)))
 
-  module _ (sl : ℕ) (hs : sl ≡ out_edge vs s.here (code b)) (no : sl ≤ 0) where
+  module _ (no : slot_of None ≡ out_edge vs s.here (code b)) where
     hz : out_edge vs s.here (code b) ≡ 0
-    hz = omega arith
+    hz = sym no
 
-    pub ext-full : (a : ℕ) (o : Origin) → most.edges ≤ s.edges → Over most 8 (will a o)
+    pub ext-full : (a : Bool) (o : Origin) → most.edges ≤ s.edges → Over most 8 (will a o)
     ext-full a o h = over-edges x.fine q b a o x.some x.inside hb ib hz h
 
-    pub ext-stop : (a : ℕ) (o : Origin) (vs' es' : List ℕ) (c n : ℕ) (r : Step) → Got k text vs vs' most s q r → r ≡ Refused n → Stepped k text vs' es' most c r (will a o)
-    ext-stop a o vs' es' c n r g e = let y : NoVertex k text vs most s q n = rw e at g in rw e (over-vertices x.fine q b a o x.some x.inside hb ib hz n y)
+    pub ext-stop : (a : Bool) (o : Origin) (vs' es' : List ℕ) (c : ℕ) (e : Refusal) (r : Result At Refusal) → Got k text vs vs' most s q r → r ≡ Err e → Stepped k text vs' es' most c r (will a o)
+    ext-stop a o vs' es' c n r g e = let y : NoVertex k text vs most s q (number n) = rw e at g in rw e (over-vertices x.fine q b a o x.some x.inside hb ib hz (number n) y)
 
-    module _ (h : s.edges < most.edges) (vs' : List ℕ) (t : At) (r : Step) (g : Got k text vs vs' most s q r) (e : r ≡ Next t) where
+    module _ (h : s.edges < most.edges) (vs' : List ℕ) (t : At) (r : Result At Refusal) (g : Got k text vs vs' most s q r) (e : r ≡ Ok t) where
       got : GotAt k text vs vs' most s q t
       got = rw e at g
 
       pub ext-adds : (HasVertex vs' s.here) × (HasVertex vs' t.here) × (HasEdge es s.edges) × (code b < 8) × (s.here < 8192) × (t.here < 8192) × (s.edges < 8192)
           × (incoming_count vs' t.here + 1 < 2 ^ 32)
-      ext-adds = adds x.fine q b 0 (origin_of 0 0) x.some x.inside hb ib hz h got
+      ext-adds = adds x.fine q b false none_of x.some x.inside hb ib hz h got
 
-      pub ext-new : (a sq pl : ℕ) (us es' : List ℕ) → us ≡ added_v vs' s.here (code b) t.here s.edges → es' ≡ added_e es s.edges (new_edge a sq pl s.here t.here) a
-          → Came k text us es' most (record { vertices = t.vertices; edges = s.edges + 1; here = t.here; steps = s.steps + 1 }) (s.steps + 1) (will a (origin_of sq pl))
-      ext-new a sq pl us es' p d = rw (p, d) (came-edge x.fine q b a (origin_of sq pl) x.some x.inside hb ib hz h got sq pl refl)
+      pub ext-new : (a : Bool) (o : Origin) (us es' : List ℕ) → us ≡ added_v vs' s.here (code b) t.here s.edges → es' ≡ added_e es s.edges (new_edge a o s.here t.here)
+          → Came k text us es' most (record { vertices = t.vertices; edges = s.edges + 1; here = t.here; steps = s.steps + 1 }) (s.steps + 1) (will a o)
+      ext-new a o us es' p d = rw (p, d) (came-edge x.fine q b a o x.some x.inside hb ib hz h got)

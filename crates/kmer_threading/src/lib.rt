@@ -1,15 +1,18 @@
 // Threading, one kmer at a time: the vertex of a kmer, and the step to it from the vertex reached.
 #![tactic(auto)]
 
-ghost use Rattle.std.specs.Prelude.{◌≡◌, not, ◌++◌, ◌+◌, eqb};
+ghost use Rattle.std.specs.Prelude.{◌+◌};
 ghost use Rattle.definition.specs.Threading.{step};
+ghost use Rattle.samples.specs.Handed.{text_of};
+ghost use Rattle.assembly.specs.Moves.{origin_of};
 ghost use Rattle.assembly.specs.Kmers.{part};
-ghost use Rattle.kmer_threading.specs.Steps.{Gets, Got, Extends, Stepped, threading_of, origin_of};
+ghost use Rattle.kmer_threading.specs.Steps.{Gets, Got, Extends, Stepped, threading_of};
 ghost use Rattle.kmer_threading.specs.Indexes.{Indexes, Keeps};
 
-use assembly::{add_edge, create_vertex, edge_to, inc_edge, out_edge};
-use graph_kmers::{byte_at, enter_kmer, find_in_bucket, kmer_bucket};
-use refusals::GRAPH_SIZE;
+use assembly::{Origin, add_edge, create_vertex, edge_to, inc_edge, out_edge};
+use graph_kmers::{enter_kmer, find_in_bucket, kmer_bucket};
+use refusals::Refusal;
+use samples::Text;
 
 // The most vertices and edges: of the caller's maxima the symbolic vertex and edge count, of those that threading keeps to they do not.
 #[derive(Clone, Copy)]
@@ -27,60 +30,39 @@ pub struct At {
     pub steps: usize,
 }
 
-#[derive(Clone, Copy)]
-pub enum Step {
-    Next(At),
-    Refused(u32),
-}
-
-pub fn wide_byte(x: u8) -> usize
-    ensures { result ≡ x }
-{
-    x as usize
-}
-
 // The vertex of the kmer at place q of the text, made where the kmer has none.
 pub fn get_or_create_kmer_vertex(
-    reference: &[u8],
-    bases: &[u8],
+    text: Text,
     vertices: &mut [u32],
     index: &mut [u32],
     k: usize,
     most: Most,
     s: At,
     q: usize,
-) -> Step
-    requires { Gets k (reference.now ++ bases.now) vertices.old most s q × Indexes k (reference.now ++ bases.now) vertices.old index.old most s.vertices }
-    ensures { Got k (reference.now ++ bases.now) vertices.old vertices.new most s q result × Keeps k (reference.now ++ bases.now) vertices.new index.new most result }
+) -> Result<At, Refusal>
+    requires { Gets k (text_of text) vertices.old most s q × Indexes k (text_of text) vertices.old index.old most s.vertices }
+    ensures { Got k (text_of text.entry) vertices.old vertices.new most s q result × Keeps k (text_of text.entry) vertices.new index.new most result }
 {
     let n = s.vertices;
-    let h = kmer_bucket(reference, bases, k, q, index.len() / 2);
-    let w = find_in_bucket(reference, bases, vertices, index, n, k, q, h);
-    if w != n {
-        return Step::Next(At {
-            vertices: n,
-            edges: s.edges,
-            here: w,
-            steps: s.steps,
-        });
+    let h = kmer_bucket(text, k, q, index.len() / 2);
+    if let Some(here) = find_in_bucket(text, vertices, index, n, k, q, h) {
+        return Ok(At { here, ..s });
     }
     if n >= most.vertices {
-        return Step::Refused(GRAPH_SIZE);
+        return Err(Refusal::GraphSize);
     }
     create_vertex(vertices, n, q);
     enter_kmer(index, n, h);
-    Step::Next(At {
+    Ok(At {
         vertices: n + 1,
-        edges: s.edges,
-        here: w,
-        steps: s.steps,
+        here: n,
+        ..s
     })
 }
 
-// One step: from the vertex reached to the kmer at place q of the text, whose left neighbour has the origin (sequence, place).
+// One step: from the vertex reached to the kmer at place q of the text, whose left neighbour has the origin.
 pub fn extend_chain_by_one(
-    reference: &[u8],
-    bases: &[u8],
+    text: Text,
     vertices: &mut [u32],
     edges: &mut [u32],
     index: &mut [u32],
@@ -88,42 +70,35 @@ pub fn extend_chain_by_one(
     most: Most,
     s: At,
     q: usize,
-    mark: u32,
-    sequence: u32,
-    place: u32,
-) -> Step
-    requires { Extends k (reference.now ++ bases.now) vertices.old edges.old most s q × Indexes k (reference.now ++ bases.now) vertices.old index.old most s.vertices }
-    ensures { Stepped k (reference.now ++ bases.now) vertices.new edges.new most (s.steps + 1) result (step (not (eqb mark 0)) (origin_of sequence place) (part k (reference.now ++ bases.now) q) (threading_of k (reference.now ++ bases.now) vertices.old edges.old s)) × Keeps k (reference.now ++ bases.now) vertices.new index.new most result }
+    is_ref: bool,
+    origin: Origin,
+) -> Result<At, Refusal>
+    requires { Extends k (text_of text) vertices.old edges.old most s q × Indexes k (text_of text) vertices.old index.old most s.vertices }
+    ensures { Stepped k (text_of text.entry) vertices.new edges.new most (s.steps + 1) result (step is_ref (origin_of origin) (part k (text_of text.entry) q) (threading_of k (text_of text.entry) vertices.old edges.old s)) × Keeps k (text_of text.entry) vertices.new index.new most result }
 {
-    let here = s.here;
-    let m = s.edges;
-    let b = wide_byte(byte_at(reference, bases, q + k - 1));
+    let b = usize::from(text.byte_at(q + k - 1));
     let c = b / 2 % 8;
-    let slot = out_edge(vertices, here, c);
-    if slot > 0 {
-        let i = slot - 1;
-        let to = edge_to(edges, i);
-        inc_edge(edges, i, mark);
-        return Step::Next(At {
-            vertices: s.vertices,
-            edges: m,
-            here: to,
+    if let Some(i) = out_edge(vertices, s.here, c) {
+        let here = edge_to(edges, i);
+        inc_edge(edges, i, is_ref);
+        return Ok(At {
+            here,
             steps: s.steps + 1,
+            ..s
         });
     }
+    let m = s.edges;
     if m >= most.edges {
-        return Step::Refused(GRAPH_SIZE);
+        return Err(Refusal::GraphSize);
     }
-    let r = get_or_create_kmer_vertex(reference, bases, vertices, index, k, most, s, q);
-    let Step::Next(t) = r else {
+    let r = get_or_create_kmer_vertex(text, vertices, index, k, most, s, q);
+    let Ok(t) = r else {
         return r;
     };
-    let w = t.here;
-    add_edge(vertices, edges, here, c, w, m, mark, sequence, place);
-    Step::Next(At {
-        vertices: t.vertices,
+    add_edge(vertices, edges, s.here, c, t.here, m, is_ref, origin);
+    Ok(At {
         edges: m + 1,
-        here: w,
         steps: s.steps + 1,
+        ..t
     })
 }

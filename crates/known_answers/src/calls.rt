@@ -1,10 +1,11 @@
 // The calls, each made as told and compared with the answer told.
 ghost use Rattle.std.specs.Prelude.{◌≤◌};
 
-use crate::numbers::{behind, field, least, wide};
-use agreement::agree::{LENT, left, same_bytes, written};
+use crate::numbers::{behind, field};
+use agreement::agree::{Element, LENT, left, same, written};
 use graph_call::GraphAnswer;
 use limits::{GraphMaxima, SearchMaxima, workspace_kept};
+use samples::{Sample, Text};
 use slice_lengths::{LengthsTold, Workspace};
 use tables::{EDGE_ROW, NODE_ROW};
 
@@ -37,44 +38,22 @@ pub fn lengths_agree(call: &[u32]) -> bool {
         graph_maxima(call, 3),
         search_maxima(call, 6),
     );
-    if told.refusal != field(call, 9) {
-        return false;
-    }
-    if told.edges != wide(field(call, 10)) * EDGE_ROW {
-        return false;
-    }
-    if told.nodes != wide(field(call, 11)) * NODE_ROW {
-        return false;
-    }
-    if told.paths != wide(field(call, 12)) {
-        return false;
-    }
-    if told.bases != wide(field(call, 13)) {
-        return false;
-    }
-    told.origins == wide(field(call, 14))
+    told.refusal == field(call, 9)
+        && told.edges == field(call, 10) as usize * EDGE_ROW
+        && told.nodes == field(call, 11) as usize * NODE_ROW
+        && told.paths == field(call, 12) as usize
+        && told.bases == field(call, 13) as usize
+        && told.origins == field(call, 14) as usize
 }
 
 // ---- origin: sequence, place; refusal, bytes
 
-pub fn origin_agrees<'a>(
-    call: &[u32],
-    k: u32,
-    reference: &'a [u8],
-    ends: &[u32],
-    bases: &'a [u8],
-) -> bool {
+pub fn origin_agrees(call: &[u32], k: u32, text: Text, ends: &[u32]) -> bool {
     let sequence = field(call, 1);
     let place = field(call, 2);
-    let part = origins::origin_part(k, reference, ends, bases, sequence, place);
-    if part.refusal != field(call, 3) {
-        return false;
-    }
-    let bytes = origins::origin_bytes(k, reference, ends, bases, sequence, place);
-    if part.length != bytes.len() {
-        return false;
-    }
-    same_bytes(bytes, behind(call, 4))
+    let part = origins::origin_part(k, text, ends, sequence, place);
+    let bytes = origins::origin_bytes(k, text, ends, sequence, place);
+    part.refusal == field(call, 3) && part.length == bytes.len() && same(bytes, behind(call, 4))
 }
 
 // ---- graph: maxima, which slice is short; refusal, numbers of edges and nodes, their rows
@@ -83,11 +62,8 @@ pub fn origin_agrees<'a>(
 pub fn lent(told: usize, room: usize, short: bool) -> usize
     ensures { result ≤ room }
 {
-    let n = least(told, room);
-    if short && n > 0 {
-        return n - 1;
-    }
-    n
+    let n = told.min(room);
+    if short { n.saturating_sub(1) } else { n }
 }
 
 // The lengths told for a call for edges and trees, which has no search.
@@ -100,12 +76,9 @@ fn told_for(k: u32, maxima: GraphMaxima) -> LengthsTold {
     slice_lengths::lengths(k, 0, maxima, search)
 }
 
-// What the workspace holds where it was told: what it held before, or zero.
-pub fn value_left(refusal: u32) -> u32 {
-    if workspace_kept(refusal) {
-        return LENT;
-    }
-    0
+// What tells the elements of the workspace where they were told: what they were lent as, or zero.
+pub fn value_left<T: Element>(refusal: u32) -> u64 {
+    if workspace_kept(refusal) { T::LENT } else { 0 }
 }
 
 // Each slice of the workspace.
@@ -118,50 +91,30 @@ fn workspace_left(
     w_nodes: &[u32],
     w_open: &[u32],
 ) -> bool {
-    let value = value_left(refusal);
-    if !left(w_vertices, told.vertices, value) {
-        return false;
-    }
-    if !left(w_edges, told.edges, value) {
-        return false;
-    }
-    if !left(w_index, told.index, value) {
-        return false;
-    }
-    if !left(w_nodes, told.nodes, value) {
-        return false;
-    }
-    left(w_open, told.open, value)
+    let value = value_left::<u32>(refusal);
+    left(w_vertices, told.vertices, value)
+        && left(w_edges, told.edges, value)
+        && left(w_index, told.index, value)
+        && left(w_nodes, told.nodes, value)
+        && left(w_open, told.open, value)
 }
 
 fn graph_answered(call: &[u32], answer: GraphAnswer) -> bool {
-    if answer.refusal != field(call, 5) {
-        return false;
-    }
-    if answer.edges != field(call, 6) {
-        return false;
-    }
-    answer.nodes == field(call, 7)
+    answer.refusal == field(call, 5)
+        && answer.edges == field(call, 6)
+        && answer.nodes == field(call, 7)
 }
 
 // The rows of the edges, of six numbers each, and behind them those of the nodes.
 fn rows_written(call: &[u32], edges: &[u32], nodes: &[u32]) -> bool {
     let rows = behind(call, 8);
-    let n = least(wide(field(call, 6)) * EDGE_ROW, rows.len());
-    if !written(edges, &rows[0..n]) {
-        return false;
-    }
-    written(nodes, &rows[n..])
+    let n = (field(call, 6) as usize * EDGE_ROW).min(rows.len());
+    written(edges, &rows[..n]) && written(nodes, &rows[n..])
 }
 
 // The call itself, in as much of each slice as is told, and one element fewer of the one that is to be short.
 fn make_graph(
-    k: u32,
-    quality: u8,
-    reference: &[u8],
-    ends: &[u32],
-    bases: &[u8],
-    qualities: &[u8],
+    sample: Sample,
     maxima: GraphMaxima,
     told: LengthsTold,
     short: u32,
@@ -176,18 +129,13 @@ fn make_graph(
     let a = lent(told.edges, edges.len(), short == 1);
     let b = lent(told.nodes, nodes.len(), short == 2);
     let w = told.workspace;
-    let c = least(w.vertices, w_vertices.len());
-    let d = least(w.edges, w_edges.len());
-    let e = least(w.index, w_index.len());
-    let f = least(w.nodes, w_nodes.len());
-    let g = least(w.open, w_open.len());
+    let c = w.vertices.min(w_vertices.len());
+    let d = w.edges.min(w_edges.len());
+    let e = w.index.min(w_index.len());
+    let f = w.nodes.min(w_nodes.len());
+    let g = w.open.min(w_open.len());
     graph_call::graph(
-        k,
-        quality,
-        reference,
-        ends,
-        bases,
-        qualities,
+        sample,
         maxima,
         &mut edges[..a],
         &mut nodes[..b],
@@ -200,18 +148,9 @@ fn make_graph(
 }
 
 // Each call is made in slices of its own, as long as the limits allow, so that nothing of an earlier one can help it.
-pub fn graph_agrees(
-    call: &[u32],
-    k: u32,
-    quality: u8,
-    reference: &[u8],
-    ends: &[u32],
-    bases: &[u8],
-    qualities: &[u8],
-) -> bool {
+pub fn graph_agrees(call: &[u32], sample: Sample) -> bool {
     let maxima = graph_maxima(call, 1);
-    let told = told_for(k, maxima);
-    let workspace = told.workspace;
+    let told = told_for(sample.k, maxima);
     let mut edges = [LENT; 49152];
     let mut nodes = [LENT; 65536];
     let mut w_vertices = [LENT; 49152];
@@ -220,12 +159,7 @@ pub fn graph_agrees(
     let mut w_nodes = [LENT; 81925];
     let mut w_open = [LENT; 32768];
     let answer = make_graph(
-        k,
-        quality,
-        reference,
-        ends,
-        bases,
-        qualities,
+        sample,
         maxima,
         told,
         field(call, 4),
@@ -237,19 +171,15 @@ pub fn graph_agrees(
         &mut w_nodes,
         &mut w_open,
     );
-    if !graph_answered(call, answer) {
-        return false;
-    }
-    if !rows_written(call, &edges, &nodes) {
-        return false;
-    }
-    workspace_left(
-        answer.refusal,
-        workspace,
-        &w_vertices,
-        &w_edges,
-        &w_index,
-        &w_nodes,
-        &w_open,
-    )
+    graph_answered(call, answer)
+        && rows_written(call, &edges, &nodes)
+        && workspace_left(
+            answer.refusal,
+            told.workspace,
+            &w_vertices,
+            &w_edges,
+            &w_index,
+            &w_nodes,
+            &w_open,
+        )
 }

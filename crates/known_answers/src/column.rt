@@ -1,8 +1,8 @@
 // Columns, told as bytes, eight an entry, in runs.
 ghost use Rattle.std.specs.Prelude.{◌≤◌, length};
 
-use crate::numbers::{least, unpack};
-use paths_text::column::{Column, read_column};
+use crate::numbers::unpack;
+use paths_text::column::read_column;
 
 // Writes the entries to the front, and tells how many there are; what is malformed has none.
 pub fn read_entries(runs: &[u32], column: &mut [f64]) -> usize
@@ -11,9 +11,6 @@ pub fn read_entries(runs: &[u32], column: &mut [f64]) -> usize
 {
     let mut bytes = [0u8; 4096];
     let n = unpack(runs, &mut bytes);
-    let read = read_column(&bytes[0..n], column);
-    match read {
-        Column::Entries(count) => least(count, column.len()),
-        Column::Malformed => 0,
-    }
+    let count = read_column(&bytes[..n], column).unwrap_or(0);
+    count.min(column.len())
 }

@@ -2,24 +2,18 @@
 ghost use Rattle.std.specs.Prelude.{◌≡◌, true, ℕ, ◌+◌, ◌<◌, ◌≤◌, length, get_or};
 ghost use Rattle.known_answers.specs.Places.{Within};
 
-use crate::numbers::{Part, field, list_at, wide};
-use agreement::agree::{all_are, bytes_untouched, bytes_written, untouched};
-use agreement::scores::{joined, score_at, score_is, scores_untouched};
+use crate::numbers::{Part, field, list_at};
+use agreement::agree::{all_are, untouched, written};
+use agreement::scores::{joined, score_at, score_is};
 
 // ---- scores, closing numbers, edges
 
 // The columns have no flag, and every flag of the list is 0.
 fn numbers_agree(row: &[u32], score: f64, closing: u32, edges: u32) -> bool {
-    if !score_is(score, joined(field(row, 0), field(row, 1))) {
-        return false;
-    }
-    if closing != field(row, 2) {
-        return false;
-    }
-    if edges != field(row, 3) {
-        return false;
-    }
-    field(row, 4) == 0
+    score_is(score, joined(field(row, 0), field(row, 1)))
+        && closing == field(row, 2)
+        && edges == field(row, 3)
+        && field(row, 4) == 0
 }
 
 // The numbers of all rows, which are as many as are listed; behind them nothing touched.
@@ -32,32 +26,21 @@ pub fn columns_agree(
 ) -> bool {
     let mut row: usize = 0;
     let mut at: usize = 0;
+    // Each turn steps over a list as long as its first number says, so no `for` counts them.
     while at < rows.len() {
         let part = list_at(rows, at);
-        let start = part.start;
-        let end = part.end;
-        let score = score_at(scores, row);
         if !numbers_agree(
-            &rows[start..end],
-            score,
+            &rows[part.start..part.end],
+            score_at(scores, row),
             field(closings, row),
             field(edges, row),
         ) {
             return false;
         }
         row += 1;
-        at = end;
+        at = part.end;
     }
-    if row != listed {
-        return false;
-    }
-    if !scores_untouched(scores, row) {
-        return false;
-    }
-    if !untouched(closings, row) {
-        return false;
-    }
-    untouched(edges, row)
+    row == listed && untouched(scores, row) && untouched(closings, row) && untouched(edges, row)
 }
 
 // ---- bases
@@ -71,30 +54,27 @@ fn bases_told(row: &[u32]) -> Part
 
 fn row_bases_agree(row: &[u32], bases: &[u8]) -> bool {
     let part = bases_told(row);
-    let start = part.start;
-    let end = part.end;
-    bytes_written(bases, &row[start..end])
+    written(bases, &row[part.start..part.end])
 }
 
 // The bases of all rows, each with as much room as the stride; behind them nothing touched.
 pub fn bases_agree(rows: &[u32], stride: usize, bases: &[u8]) -> bool {
     let mut from: usize = 0;
     let mut at: usize = 0;
+    // Likewise: a list a turn.
     while at < rows.len() {
         let part = list_at(rows, at);
-        let start = part.start;
-        let end = part.end;
         if stride > bases.len() - from {
             return false;
         }
         let next = from + stride;
-        if !row_bases_agree(&rows[start..end], &bases[from..next]) {
+        if !row_bases_agree(&rows[part.start..part.end], &bases[from..next]) {
             return false;
         }
         from = next;
-        at = end;
+        at = part.end;
     }
-    bytes_untouched(bases, from)
+    untouched(bases, from)
 }
 
 // ---- origins
@@ -103,12 +83,10 @@ pub fn bases_agree(rows: &[u32], stride: usize, bases: &[u8]) -> bool {
 fn rises(places: &[u32], first: u32) -> bool
     ensures { result ≡ true → (i : ℕ) → i < length places.now → get_or places.now i 0 ≡ first + i }
 {
-    let mut place: usize = 0;
-    while place < places.len() {
-        if wide(places[place]) != wide(first) + place {
+    for (i, place) in places.iter().enumerate() {
+        if *place as usize != first as usize + i {
             return false;
         }
-        place += 1;
     }
     true
 }
@@ -117,48 +95,36 @@ fn rises(places: &[u32], first: u32) -> bool
 fn run_agrees(sequences: &[u32], places: &[u32], sequence: u32, place: u32, count: usize) -> bool
     ensures { result ≡ true → (count ≤ length sequences.now) × (count ≤ length places.now) }
 {
-    if count > sequences.len() {
-        return false;
-    }
-    if count > places.len() {
-        return false;
-    }
-    if !all_are(&sequences[0..count], sequence) {
-        return false;
-    }
-    rises(&places[0..count], place)
+    count <= sequences.len()
+        && count <= places.len()
+        && all_are(&sequences[..count], u64::from(sequence))
+        && rises(&places[..count], place)
 }
 
 // The origins of a row, told in runs; behind them nothing touched.
 fn runs_agree(runs: &[u32], edges: usize, sequences: &[u32], places: &[u32]) -> bool {
     let mut from: usize = 0;
-    let mut run: usize = 0;
-    while run < runs.len() {
-        let count = wide(field(runs, run + 2));
-        let sequence = field(runs, run);
-        let place = field(runs, run + 1);
-        if !run_agrees(&sequences[from..], &places[from..], sequence, place, count) {
+    for run in runs.chunks(3) {
+        let count = field(run, 2) as usize;
+        if !run_agrees(
+            &sequences[from..],
+            &places[from..],
+            field(run, 0),
+            field(run, 1),
+            count,
+        ) {
             return false;
         }
         from += count;
-        run += 3;
     }
-    if from != edges {
-        return false;
-    }
-    if !untouched(sequences, from) {
-        return false;
-    }
-    untouched(places, from)
+    from == edges && untouched(sequences, from) && untouched(places, from)
 }
 
 fn row_origins_agree(row: &[u32], sequences: &[u32], places: &[u32]) -> bool {
-    let edges = wide(field(row, 3));
-    let part = bases_told(row);
-    let part = list_at(row, part.end);
-    let start = part.start;
-    let end = part.end;
-    runs_agree(&row[start..end], edges, sequences, places)
+    let edges = field(row, 3) as usize;
+    let bases = bases_told(row);
+    let part = list_at(row, bases.end);
+    runs_agree(&row[part.start..part.end], edges, sequences, places)
 }
 
 // The origins of all rows, each with as much room as the stride; behind them nothing touched.
@@ -168,26 +134,22 @@ pub fn origins_agree(rows: &[u32], stride: usize, sequences: &[u32], places: &[u
     }
     let mut from: usize = 0;
     let mut at: usize = 0;
+    // Likewise: a list a turn.
     while at < rows.len() {
         let part = list_at(rows, at);
-        let start = part.start;
-        let end = part.end;
         if stride > sequences.len() - from {
             return false;
         }
         let next = from + stride;
         if !row_origins_agree(
-            &rows[start..end],
+            &rows[part.start..part.end],
             &sequences[from..next],
             &places[from..next],
         ) {
             return false;
         }
         from = next;
-        at = end;
+        at = part.end;
     }
-    if !untouched(sequences, from) {
-        return false;
-    }
-    untouched(places, from)
+    untouched(sequences, from) && untouched(places, from)
 }

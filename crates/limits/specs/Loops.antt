@@ -1,10 +1,14 @@
 -- The loops over the reference and over the read ends: what is left to read decides as the whole does.
-use Rattle.std.specs.Prelude.{◌≡◌, refl, ℕ, suc, ◌+◌, ◌-◌, ◌<◌, ◌≤◌, Bool, false, not, ◌&&◌, List, [], ◌∷◌, leb, length, drop, get_or}
+use Rattle.std.specs.Prelude.{◌≡◌, refl, ℕ, suc, ◌+◌, ◌-◌, ◌<◌, ◌≤◌, Bool, false, ◌&&◌, List, [], ◌∷◌, leb, length, drop, get_or}
 use Rattle.std.proofs.Common.{sym, ◌∙◌, add-one, arith, drop_of_length-le, drop-cons, le-leb}
 use Rattle.std.proofs.Math.Path.{ap}
 use Rattle.std.proofs.Math.Bool.{true}
-use Rattle.std.proofs.lemmas.Bool.{not-true, not-false, lt-leb}
-use Rattle.laws.specs.Lists.{all, last_or}
+use Rattle.std.proofs.lemmas.Bool.{lt-leb}
+use Rattle.laws.specs.Lists.{last_or}
+use Rattle.std.specs.List.{list_all}
+use Rattle.std.specs.Prelude.{slice_get}
+use Rattle.std.specs.Option.{unwrap_or}
+use Rattle.std.proofs.lemmas.Option.{unwrap_or-slice_get}
 use Rattle.definition.specs.Limits.{is_base, reference_bases, rising}
 
 -- the element at place i, then the rest
@@ -13,28 +17,11 @@ next xs i h = drop-cons xs i 0 h ∙ ap (λ (m : ℕ). get_or xs i 0 ∷ drop m 
 
 -- ---- the reference's bytes
 
-pub Bases : List ℕ → ℕ → Type 0
-Bases xs i = all is_base (drop i xs) ≡ reference_bases xs
-
-pub bases-start : (xs : List ℕ) → Bases xs 0
-unfolding Bases reference_bases
-bases-start xs = refl
-
-pub bases-end : (xs : List ℕ) (i : ℕ) → Bases xs i → length xs ≤ i → true ≡ reference_bases xs
-unfolding Bases
-bases-end xs i left h = ap (all is_base) (sym (drop_of_length-le xs h)) ∙ left
-
--- r is what the code's test answered of the byte at place i
-module _ (xs : List ℕ) (i : ℕ) (left : Bases xs i) (inside : i < length xs) (r : Bool) (e : r ≡ is_base (get_or xs i 0)) where
-  pub bases-stop : not r ≡ true → false ≡ reference_bases xs
-  unfolding Bases
-  bases-stop h =
-      ap (λ (t : Bool). t && all is_base (drop (i + 1) xs)) (sym (not-true r h) ∙ e) ∙ ap (all is_base) (sym (next xs i inside)) ∙ left
-
-  pub bases-next : not r ≡ false → Bases xs (i + 1)
-  unfolding Bases
-  bases-next h =
-      ap (λ (t : Bool). t && all is_base (drop (i + 1) xs)) (sym (not-false r h) ∙ e) ∙ ap (all is_base) (sym (next xs i inside)) ∙ left
+-- std's test of each element is the definition's
+pub every : (xs : List ℕ) → list_all is_base xs ≡ reference_bases xs
+unfolding reference_bases
+every [] = refl
+every (x ∷ xs) = ap (λ (t : Bool). is_base x && t) (every xs)
 
 -- ---- the read ends
 
@@ -64,12 +51,12 @@ module _ (xs : List ℕ) (last i : ℕ) (left : Rising xs last i) (inside : i < 
 
 -- ---- the last end
 
-pub last_none : (xs : List ℕ) → length xs < 1 → 0 ≡ last_or 0 xs
-last_none [] h = refl
-last_none (x ∷ xs) h = absurd (omega arith)
-
-pub last_some : (d : ℕ) (xs : List ℕ) → 1 ≤ length xs → get_or xs (length xs - 1) 0 ≡ last_or d xs
+last_some : (d : ℕ) (xs : List ℕ) → 1 ≤ length xs → get_or xs (length xs - 1) 0 ≡ last_or d xs
 last_some d [] h = absurd (omega arith)
 last_some d (x ∷ []) h = refl
 last_some d (x ∷ y ∷ ys) h =
     let e : length (x ∷ y ∷ ys) - 1 ≡ suc (length (y ∷ ys) - 1) = omega arith in rw e (last_some x (y ∷ ys) (omega arith))
+
+pub last-is : (xs : List ℕ) → unwrap_or (slice_get xs (length xs - 1)) 0 ≡ last_or 0 xs
+last-is [] = refl
+last-is (x ∷ xs) = unwrap_or-slice_get (x ∷ xs) (length (x ∷ xs) - 1) 0 ∙ last_some 0 (x ∷ xs) (omega arith)

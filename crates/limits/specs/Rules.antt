@@ -40,14 +40,14 @@ first-broken (r ∷ rs) ys n e h = go r.holds refl (λ k. first-broken rs ys n k
     go true f ih = rw (f, first_broken) (ih (rw (f, first_broken) at e))
     go false f ih = rw (f, first_broken) (rw (f, first_broken) at e)
 
-pub first-hold : (xs ys : List Rule) (n : ℕ) → Numbered xs → n ≡ first_broken xs → n ≤ 0 → first_broken ys ≡ first_broken (xs ++ ys)
+pub first-hold : (xs ys : List Rule) → Numbered xs → 0 ≡ first_broken xs → first_broken ys ≡ first_broken (xs ++ ys)
 unfolding first_broken
-first-hold [] ys n d e h = refl
-first-hold (r ∷ rs) ys n d e h = go r.holds refl (λ k. first-hold rs ys n d.1 k h)
+first-hold [] ys d e = refl
+first-hold (r ∷ rs) ys d e = go r.holds refl (λ k. first-hold rs ys d.1 k)
   where
-    go : (b : Bool) → r.holds ≡ b → (n ≡ first_broken rs → first_broken ys ≡ first_broken (rs ++ ys)) → first_broken ys ≡ first_broken (r ∷ (rs ++ ys))
+    go : (b : Bool) → r.holds ≡ b → (0 ≡ first_broken rs → first_broken ys ≡ first_broken (rs ++ ys)) → first_broken ys ≡ first_broken (r ∷ (rs ++ ys))
     go true f ih = rw (f, first_broken) (ih (rw (f, first_broken) at e))
-    go false f ih = let z : n ≡ r.number = rw (f, first_broken) at e in let y : 0 < r.number = d.0 in absurd (omega arith)
+    go false f ih = let z : 0 ≡ r.number = rw (f, first_broken) at e in let y : 0 < r.number = d.0 in absurd (omega arith)
 
 -- ---- a last rule m, tested once the rules before it hold
 
@@ -58,22 +58,25 @@ module _ (xs : List Rule) (numbered : Numbered xs) (m : ℕ) where
     before_last = go (first_broken xs) refl
       where
         go : (k : ℕ) → first_broken xs ≡ k → n ≡ first_broken xs
-        go zero e = h ∙ sym (first-hold xs (rule m true ∷ []) zero numbered (sym e) (omega arith)) ∙ sym (holds m true [] refl) ∙ sym all_hold ∙ sym e
+        go zero e = h ∙ sym (first-hold xs (rule m true ∷ []) numbered (sym e)) ∙ sym (holds m true [] refl) ∙ sym all_hold ∙ sym e
         go (suc k) e = h ∙ sym (first-broken xs (rule m true ∷ []) (suc k) (sym e) (omega arith)) ∙ sym e
 
     pub last-untested : 0 < n → (b : Bool) → n ≡ first_broken (xs ++ (rule m b ∷ []))
     last-untested l b = first-broken xs (rule m b ∷ []) n before_last l
 
     module _ (l : n ≤ 0) (b : Bool) where
+      before_held : 0 ≡ first_broken xs
+      before_held = let z : n ≡ 0 = omega arith in sym z ∙ before_last
+
       pub last-broken : b ≡ false → m ≡ first_broken (xs ++ (rule m b ∷ []))
-      last-broken e = broken m b [] e ∙ first-hold xs (rule m b ∷ []) n numbered before_last l
+      last-broken e = broken m b [] e ∙ first-hold xs (rule m b ∷ []) numbered before_held
 
       pub last-holds : b ≡ true → 0 ≡ first_broken (xs ++ (rule m b ∷ []))
-      last-holds e = all_hold ∙ holds m b [] e ∙ first-hold xs (rule m b ∷ []) n numbered before_last l
+      last-holds e = all_hold ∙ holds m b [] e ∙ first-hold xs (rule m b ∷ []) numbered before_held
 
--- n is what the check of k answered
-pub k-holds : (k : ℕ) (ys : List Rule) (n : ℕ) → n ≡ first_broken (k_rules k) → n ≤ 0 → first_broken ys ≡ first_broken (rule 1 (k_fits k) ∷ ys)
-k-holds k ys n e h = first-hold (k_rules k) ys n (omega arith, tt) e h
+-- the check of k refused nothing
+pub k-holds : (k : ℕ) (ys : List Rule) → 0 ≡ first_broken (k_rules k) → first_broken ys ≡ first_broken (rule 1 (k_fits k) ∷ ys)
+k-holds k ys e = first-hold (k_rules k) ys (omega arith, tt) e
 
 -- every rule holds
 abbrev pub Holds : List Rule → Type 0

@@ -1,51 +1,19 @@
 // The call for the list, over number slices alone: checks, build, trees, search, the list in columns, and clearing.
 #![tactic(auto)]
 
-ghost use Rattle.std.specs.Prelude.{◌≡◌, ◌≤◌, length, replicate};
-ghost use Rattle.list_interface.specs.Handed.{input_for};
-ghost use Rattle.definition.specs.Calls.{written_at};
+ghost use Rattle.list_interface.specs.Handed.{handed};
 ghost use Rattle.list_work.specs.Outcome.{outputs_of, tables_of};
-ghost use Rattle.list_call.specs.Outcome.{float_zero};
 ghost use Rattle.list_call.specs.Within.{Within, Done, Called};
 
 use graph_rows::clear;
-use list_interface::{ListAnswer, Settings, refused};
+use list_interface::{Input, ListAnswer, refused};
 use list_lent::{Lent, check};
 use list_work::work;
 use slice_lengths::workspace_told;
 
-// The first n scores become 0.
-pub fn clear_scores(scores: &mut [f64], n: usize)
-    requires { n ≤ length scores.old }
-    ensures { scores.new ≡ written_at 0 (replicate n float_zero) scores.old }
-{
-    let mut i: usize = 0;
-    while i < n {
-        scores[i] = 0.0;
-        i += 1;
-    }
-}
-
-// The first n slots become 0.
-fn clear_slots(slots: &mut [u16], n: usize)
-    requires { n ≤ length slots.old }
-    ensures { slots.new ≡ written_at 0 (replicate n 0) slots.old }
-{
-    let mut i: usize = 0;
-    while i < n {
-        slots[i] = 0;
-        i += 1;
-    }
-}
-
 // The work over just the part of each workspace slice that is told, which is zero afterwards.
 fn list_within(
-    a: Settings,
-    reference: &[u8],
-    ends: &[u32],
-    bases: &[u8],
-    qualities: &[u8],
-    column: &[f64],
+    input: Input,
     row_scores: &mut [f64],
     row_closings: &mut [u32],
     row_edges: &mut [u32],
@@ -66,20 +34,17 @@ fn list_within(
     w_marks: &mut [u32],
     w_walks: &mut [u32],
 ) -> ListAnswer
-    requires { let input = input_for a reference.now ends.now bases.now qualities.now column.now in
-        let outputs = outputs_of row_scores.old row_closings.old row_edges.old out_bases.old sequences.old places.old in
+    requires { let outputs = outputs_of row_scores.old row_closings.old row_edges.old out_bases.old sequences.old places.old in
         let tables = tables_of w_vertices.old w_edges.old w_index.old w_nodes.old w_targets.old w_paths.old w_scores.old w_active.old w_queue.old w_closed.old w_order.old w_marks.old w_walks.old in
-        Within input outputs tables }
-    ensures { let input = input_for a reference.now ends.now bases.now qualities.now column.now in
-        let outputs = outputs_of row_scores.old row_closings.old row_edges.old out_bases.old sequences.old places.old in
+        Within (handed input) outputs tables }
+    ensures { let outputs = outputs_of row_scores.old row_closings.old row_edges.old out_bases.old sequences.old places.old in
         let written = outputs_of row_scores.new row_closings.new row_edges.new out_bases.new sequences.new places.new in
         let tables = tables_of w_vertices.old w_edges.old w_index.old w_nodes.old w_targets.old w_paths.old w_scores.old w_active.old w_queue.old w_closed.old w_order.old w_marks.old w_walks.old in
         let left = tables_of w_vertices.new w_edges.new w_index.new w_nodes.new w_targets.new w_paths.new w_scores.new w_active.new w_queue.new w_closed.new w_order.new w_marks.new w_walks.new in
-        Done input result outputs written tables left }
+        Done (handed input.entry) result outputs written tables left }
 {
-    let g = a.graph;
-    let s = a.search;
-    let told = workspace_told(a.asked, g, s);
+    let a = input.settings;
+    let told = workspace_told(a.asked, a.graph, a.search);
     let vertices = told.vertices;
     let edges = told.edges;
     let index = told.index;
@@ -94,12 +59,7 @@ fn list_within(
     let marks = told.marks;
     let walks = told.walks;
     let r = work(
-        a,
-        reference,
-        ends,
-        bases,
-        qualities,
-        column,
+        input,
         row_scores,
         row_closings,
         row_edges,
@@ -120,31 +80,26 @@ fn list_within(
         &mut w_marks[..marks],
         &mut w_walks[..walks],
     );
-    clear(w_vertices, vertices);
-    clear(w_edges, edges);
-    clear(w_index, index);
-    clear(w_nodes, nodes);
-    clear(w_targets, targets);
-    clear(w_paths, paths);
-    clear_scores(w_scores, scores);
-    clear_slots(w_active, active);
-    clear(w_queue, queue);
-    clear(w_closed, closed);
-    clear(w_order, order);
-    clear(w_marks, marks);
-    clear(w_walks, walks);
+    clear(w_vertices, vertices, 0);
+    clear(w_edges, edges, 0);
+    clear(w_index, index, 0);
+    clear(w_nodes, nodes, 0);
+    clear(w_targets, targets, 0);
+    clear(w_paths, paths, 0);
+    clear(w_scores, scores, 0.0);
+    clear(w_active, active, 0);
+    clear(w_queue, queue, 0);
+    clear(w_closed, closed, 0);
+    clear(w_order, order, 0);
+    clear(w_marks, marks, 0);
+    clear(w_walks, walks, 0);
     r
 }
 
 // The call for the list, with its rows in columns: refused with nothing touched, or the work; `rows` is the length of the slice of rows.
 pub fn list_columns(
-    a: Settings,
+    input: Input,
     rows: usize,
-    reference: &[u8],
-    ends: &[u32],
-    bases: &[u8],
-    qualities: &[u8],
-    column: &[f64],
     row_scores: &mut [f64],
     row_closings: &mut [u32],
     row_edges: &mut [u32],
@@ -165,15 +120,14 @@ pub fn list_columns(
     w_marks: &mut [u32],
     w_walks: &mut [u32],
 ) -> ListAnswer
-    ensures { let input = input_for a reference.now ends.now bases.now qualities.now column.now in
-        let outputs = outputs_of row_scores.old row_closings.old row_edges.old out_bases.old sequences.old places.old in
+    ensures { let outputs = outputs_of row_scores.old row_closings.old row_edges.old out_bases.old sequences.old places.old in
         let written = outputs_of row_scores.new row_closings.new row_edges.new out_bases.new sequences.new places.new in
         let tables = tables_of w_vertices.old w_edges.old w_index.old w_nodes.old w_targets.old w_paths.old w_scores.old w_active.old w_queue.old w_closed.old w_order.old w_marks.old w_walks.old in
         let left = tables_of w_vertices.new w_edges.new w_index.new w_nodes.new w_targets.new w_paths.new w_scores.new w_active.new w_queue.new w_closed.new w_order.new w_marks.new w_walks.new in
-        Called input rows result outputs written tables left }
+        Called (handed input.entry) rows result outputs written tables left }
 {
     let l = Lent {
-        rows: rows,
+        rows,
         bases: out_bases.len(),
         sequences: sequences.len(),
         places: places.len(),
@@ -194,35 +148,29 @@ pub fn list_columns(
         row_closings: row_closings.len(),
         row_edges: row_edges.len(),
     };
-    let refusal = check(a, reference, ends, bases, qualities, column, l);
-    if refusal > 0 {
-        return refused(refusal);
+    match check(input, l) {
+        Ok(()) => list_within(
+            input,
+            row_scores,
+            row_closings,
+            row_edges,
+            out_bases,
+            sequences,
+            places,
+            w_vertices,
+            w_edges,
+            w_index,
+            w_nodes,
+            w_targets,
+            w_paths,
+            w_scores,
+            w_active,
+            w_queue,
+            w_closed,
+            w_order,
+            w_marks,
+            w_walks,
+        ),
+        Err(refusal) => refused(refusal),
     }
-    list_within(
-        a,
-        reference,
-        ends,
-        bases,
-        qualities,
-        column,
-        row_scores,
-        row_closings,
-        row_edges,
-        out_bases,
-        sequences,
-        places,
-        w_vertices,
-        w_edges,
-        w_index,
-        w_nodes,
-        w_targets,
-        w_paths,
-        w_scores,
-        w_active,
-        w_queue,
-        w_closed,
-        w_order,
-        w_marks,
-        w_walks,
-    )
 }

@@ -2,9 +2,12 @@
 #![tactic(auto)]
 
 ghost use Rattle.std.specs.Prelude.{◌≡◌};
+ghost use Rattle.refusals.specs.Numbers.{number};
 ghost use Rattle.list_interface.specs.Answers.{refused_answer, found_answer, Told32};
 
 use limits::{GraphMaxima, SearchMaxima};
+use refusals::Refusal;
+use samples::Text;
 use search_state::Progress;
 
 // What a run is asked for: k, the minimum quality, the number of paths, the threshold, recovery, and the maxima.
@@ -25,9 +28,20 @@ pub struct Settings {
     pub search: SearchMaxima,
 }
 
+// What the call for the list is handed: the settings and, lent to be read, the text, where each read ends in the bases, a quality for each base, and the
+// logarithm column. (The slices that are written stay parameters one by one, as the exported call lends them.)
+#[derive(Clone, Copy)]
+pub struct Input<'a> {
+    pub settings: Settings,
+    pub text: Text<'a>,
+    pub ends: &'a [u32],
+    pub qualities: &'a [u8],
+    pub column: &'a [f64],
+}
+
 // The answer of the call for the list: a refusal, or how many paths are listed, the pushes made, and the waiting mark.
 #[repr(C)]
-#[derive(Clone, Copy)]
+#[derive(Clone, Copy, Default)]
 pub struct ListAnswer {
     pub refusal: u32,
     pub paths: u32,
@@ -37,14 +51,12 @@ pub struct ListAnswer {
 }
 
 // A refused answer holds 0 in every other field.
-pub fn refused(number: u32) -> ListAnswer
-    ensures { result ≡ refused_answer number }
+pub fn refused(refusal: Refusal) -> ListAnswer
+    ensures { result ≡ refused_answer (number refusal) }
 {
     ListAnswer {
-        refusal: number,
-        paths: 0,
-        pushes: 0,
-        mark: 0,
+        refusal: u32::from(refusal),
+        ..ListAnswer::default()
     }
 }
 

@@ -6,7 +6,7 @@ use Rattle.std.proofs.Math.Bool.{false}
 use Rattle.std.proofs.Math.Option.{some}
 use Rattle.std.proofs.Math.Dec.{eqb}
 use Rattle.std.proofs.lemmas.List.{length-map}
-use borrow.Author.Tests.{ne_eqb, eq-eqb}
+use Rattle.std.proofs.Common.{ne_eqb, eq-eqb}
 use Rattle.laws.specs.Records.{field-other}
 use Rattle.definition.specs.Refusal.{Result, ok, first_broken}
 use Rattle.definition.specs.Limits.{Input, bases_stride, sample_rules}
@@ -26,12 +26,15 @@ use Rattle.slice_lengths.specs.Bounds.{InLimits, settings-most}
 use Rattle.assembly.specs.Symbolic.{linked, length-linked}
 use Rattle.junction_tree_graph.specs.Built.{BuiltAt, fits-of}
 use Rattle.fork_offers.specs.Actives.{Least}
-use Rattle.search_state.specs.declared.Setting.{Setting}
+use Rattle.search_state.specs.Settings.{Setting, setting_of}
 use Rattle.search_state.specs.declared.Progress.{Progress}
 use Rattle.search_state.specs.Ground.{Ground}
 use Rattle.search_ground.specs.Ground.{built_for, setting_for, Lies, ground-tables, ground-of}
-use Rattle.junction_kbest.specs.declared.Search.{Search}
-use Rattle.junction_kbest.specs.declared.Search.TheVariants.{Paths, Refused}
+use Rattle.std.specs.Prelude as Prelude
+use Rattle.std.specs.Prelude.{Bool, Ok, Err}
+use Rattle.refusals.specs.declared.Refusal.{Refusal}
+use Rattle.refusals.specs.Numbers.{number}
+use Rattle.search_state.specs.declared.Setting as code
 use Rattle.junction_kbest.specs.Turn.{Stopped, fails, fills}
 use Rattle.junction_kbest.specs.Find.{searched, Finds, Ended, Found}
 use Rattle.path_list.specs.Told.{Shows}
@@ -40,16 +43,10 @@ use Rattle.path_list.specs.Ended.{ended-listable, ended-shows}
 use Rattle.graph_work.specs.declared.Raise.{Raise}
 use Rattle.graph_work.specs.Raise.{RaisedAt, raised-built}
 use Rattle.list_interface.specs.declared.ListAnswer.{ListAnswer}
-use Rattle.list_interface.specs.declared.Settings.{Settings}
 use Rattle.list_interface.specs.Answers.{refused_answer, found_answer, Told32}
 use Rattle.list_work.specs.Outcome.{Outputs, outputs_of, Tables, written_list, Listed, found, listed-refused, listed-done, listed-none}
-use Rattle.list_interface.specs.Handed.{input_for}
 use Rattle.list_work.specs.Works.{Outs, active-some}
-use Rattle.search_setup.specs.Chains.{Chains, Chained, Small}
-
-abbrev pub search_refusal : Search → ℕ
-search_refusal (Paths p) = 0
-search_refusal (Refused n) = n
+use Rattle.search_setup.specs.Chains.{Chains, Chained, Small, Reads}
 
 -- ---- what is asked: a raised graph in tables that end behind the symbolic edge, and a path asked
 
@@ -71,15 +68,17 @@ pub record Searches (i : Input) (o : Outputs) (w : Tables) (b : Raise) : Type 0 
   pub marks : length w.marks ≡ pivotal_marks i.graph_maxima
   pub walks : length w.walks ≡ path_walks i.asked i.graph_maxima i.search_maxima
 
--- the sample's ends and qualities, which the search does not look at
-pub record Seeks (a : Settings) (reference bases : List ℕ) (column : List Float) (o : Outputs) (w : Tables) (b : Raise) : Type 0 where
-  pub ends : List ℕ
-  pub qualities : List ℕ
-  pub is : Searches (input_for a reference ends bases qualities column) o w b
+-- ---- the slices that a setting reads
 
-pub record Sought (a : Settings) (reference bases : List ℕ) (column : List Float) (w : Tables) (b : Raise) (r : ListAnswer) (old new : Outputs) : Type 0 where
-  pub is : (ends qualities : List ℕ) → Searches (input_for a reference ends bases qualities column) old w b
-      → Listed (input_for a reference ends bases qualities column) (found (input_for a reference ends bases qualities column)) r old new
+module _ {g : code.Setting} {vs es x index targets : List ℕ} {column : List Float} (r : Reads g vs es x index targets column) where
+  pub finds-read : {t : List ℕ} {sc : List Float} {ac queue closed order marks walks : List ℕ} → Finds (setting_of g) vs es x index targets column t sc ac queue closed order marks walks
+      → Finds (setting_of g) g.graph.vertices.now g.graph.edges.now g.trees.nodes.now g.chains.index.now g.chains.targets.now g.column.now t sc ac queue closed order marks walks
+  finds-read f = rw (r.vertices, r.edges, r.nodes, r.index, r.targets, r.column) f
+
+  pub found-read : {recovery : Bool} {a : Prelude.Result Progress Refusal} {t : List ℕ} {sc : List Float} {ac queue closed order marks : List ℕ}
+      → Found (setting_of g) g.graph.vertices.now g.graph.edges.now g.trees.nodes.now g.chains.index.now g.chains.targets.now g.column.now recovery a t sc ac queue closed order marks
+      → Found (setting_of g) vs es x index targets column recovery a t sc ac queue closed order marks
+  found-read f = rw (r.vertices, r.edges, r.nodes, r.index, r.targets, r.column) at f
 
 -- ---- numbers
 
@@ -204,19 +203,19 @@ module _ {i : Input} {o : Outputs} {w : Tables} {b : Raise} (q : Searches i o w 
           rows = v.1;
         }
 
-    module _ {r : Search} {t' : List ℕ} {sc' : List Float} {ac' queue' closed' order' marks' : List ℕ}
+    module _ {r : Prelude.Result Progress Refusal} {t' : List ℕ} {sc' : List Float} {ac' queue' closed' order' marks' : List ℕ}
         (F : Found g vs₁ w.edges w.nodes index₁ targets₁ i.column i.recovery r t' sc' ac' queue' closed' order' marks') where
       searched-is : search (column_scoring i.column) (search_input i (built_for i.sample)) i.asked i.search_maxima.pushes i.recovery ≡ searched i.column f g i.recovery
       searched-is = sym (ap (λ (h : Setting). searched i.column f h i.recovery) ge)
 
-      pub search-stop : {n : ℕ} → r ≡ Refused n → {m : ℕ} → m ≡ search_refusal r → {a : ListAnswer} → a ≡ refused_answer m → Listed i (found i) a o o
-      search-stop {n} d e {a} h =
-          let s : Stopped (searched i.column f g i.recovery) n = rw d at (F.is f on_ground) in
-          listed-refused i (found i) n a o
-          (found-is i q.some (raised-built q.raised) _ searched-is ∙ none-stopped i (searched i.column f g i.recovery) n s)
-          (h ∙ ap refused_answer (e ∙ ap search_refusal d))
+      pub search-stop : {e : Refusal} → r ≡ Err e → {a : ListAnswer} → a ≡ refused_answer (number e) → Listed i (found i) a o o
+      search-stop {e} d {a} h =
+          let s : Stopped (searched i.column f g i.recovery) (number e) = rw d at (F.is f on_ground) in
+          listed-refused i (found i) (number e) a o
+          (found-is i q.some (raised-built q.raised) _ searched-is ∙ none-stopped i (searched i.column f g i.recovery) (number e) s)
+          h
 
-      module _ {p : Progress} (d : r ≡ Paths p) where
+      module _ {p : Progress} (d : r ≡ Ok p) where
         there : Ended f g w.edges w.nodes index₁ targets₁ i.column i.recovery t' sc' ac' queue' closed' order' marks' p
         there = rw d at (F.is f on_ground)
 

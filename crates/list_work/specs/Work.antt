@@ -1,7 +1,8 @@
 -- The whole work: the graph and its trees, then the search over the parts of the tables that they fill. Assumes nothing.
-use Rattle.std.specs.Prelude.{◌≡◌, ◌≢◌, List, ℕ, ◌+◌, ◌<◌, ◌≤◌, max, length, take}
+use Rattle.std.specs.Prelude as Prelude
+use Rattle.std.specs.Prelude.{◌≡◌, ◌≢◌, List, ℕ, ◌+◌, ◌<◌, ◌≤◌, max, length, take, Ok, Err}
 use Rattle.std.proofs.Math.Path.{ap}
-use Rattle.std.proofs.Common.{◌∙◌, arith, length-take-le}
+use Rattle.std.proofs.Common.{refl, ◌∙◌, arith, length-take-le}
 use Rattle.definition.specs.Refusal.{Result, refused}
 use Rattle.definition.specs.Limits.{Input}
 use Rattle.definition.specs.Score.{column_scoring}
@@ -13,9 +14,9 @@ use Rattle.slice_lengths.specs.Workspaces.{open_trees}
 use Rattle.slice_lengths.specs.Bounds.{settings-most}
 use Rattle.search_ground.specs.Exact.{built-exact}
 use Rattle.graph_work.specs.declared.Raise.{Raise}
-use Rattle.graph_work.specs.declared.Raised.{Raised}
-use Rattle.graph_work.specs.declared.Raised.TheVariants.{Graph, Refused}
-use Rattle.graph_work.specs.Raise.{raise_refusal, Raises, RaisedAt, RaisedOf, raised-built}
+use Rattle.refusals.specs.declared.Refusal.{Refusal}
+use Rattle.refusals.specs.Numbers.{number}
+use Rattle.graph_work.specs.Raise.{Raises, RaisedAt, RaisedOf, raised-built}
 use Rattle.list_interface.specs.declared.ListAnswer.{ListAnswer}
 use Rattle.list_interface.specs.Answers.{refused_answer}
 use Rattle.list_work.specs.Outcome.{Outputs, Tables, tables_of, Listed, found, listed-refused}
@@ -24,6 +25,10 @@ use Rattle.list_work.specs.Search.{Searches, none-asked}
 
 max-first : (a b n : ℕ) → n ≡ max a b → a ≤ n
 max-first a b n e = omega arith
+
+-- an answer that tells nothing is the one of no refusal
+none-told : (a : ListAnswer) → (a.refusal ≡ 0) × ((a.paths ≡ 0) × ((a.pushes ≡ 0) × (a.mark ≡ 0))) → a ≡ refused_answer 0
+none-told a (r, (p, (q, m))) = rw (r, p, q, m) refl
 
 -- the parts of the tables that the search is handed; ne, ni and nt are the lengths of those tables
 pub record Parts (i : Input) (ne ni nt : ℕ) (b : Raise) : Type 0 where
@@ -45,19 +50,19 @@ module _ {i : Input} {o : Outputs} {w : Tables} (q : Works i o w) where
         opened = max-first (open_trees i.graph_maxima) _ (length w.walks) q.walks;
       }
 
-  module _ (vs es x op : List ℕ) (r : Raised) (h : RaisedOf i.sample i.graph_maxima vs es x op r) where
-    pub work-refused : (n : ℕ) → r ≡ Refused n → (m : ℕ) → m ≡ raise_refusal r → (a : ListAnswer) → a ≡ refused_answer m → Listed i (found i) a o o
+  module _ (vs es x op : List ℕ) (r : Prelude.Result Raise Refusal) (h : RaisedOf i.sample i.graph_maxima vs es x op r) where
+    pub work-refused : (e : Refusal) → r ≡ Err e → (a : ListAnswer) → a ≡ refused_answer (number e) → Listed i (found i) a o o
     unfolding after_build
-    work-refused n d m e a f =
-        let z : built i.sample i.graph_maxima ≡ refused n = rw d at h in
-        listed-refused i (found i) n a o (ap (λ (u : Result Built). after_build (column_scoring i.column) i u) z) (f ∙ ap refused_answer (e ∙ ap raise_refusal d))
+    work-refused e d a f =
+        let z : built i.sample i.graph_maxima ≡ refused (number e) = rw d at h in
+        listed-refused i (found i) (number e) a o (ap (λ (u : Result Built). after_build (column_scoring i.column) i u) z) f
 
-    module _ (b : Raise) (d : r ≡ Graph b) where
+    module _ (b : Raise) (d : r ≡ Ok b) where
       raised : RaisedAt i.sample i.graph_maxima vs es x op b
       raised = rw d at h
 
-      pub work_none : i.asked ≡ 0 → (a : ListAnswer) → a ≡ refused_answer 0 → Listed i (found i) a o o
-      work_none e a f = none-asked i e (raised-built raised) a o f
+      pub work_none : i.asked ≡ 0 → (a : ListAnswer) → (a.refusal ≡ 0) × ((a.paths ≡ 0) × ((a.pushes ≡ 0) × (a.mark ≡ 0))) → Listed i (found i) a o o
+      work_none e a f = none-asked i e (raised-built raised) a o (none-told a f)
 
       pub work-parts : {ne ni : ℕ} → ne ≡ length w.edges → ni ≡ length w.index → Parts i ne ni (length w.targets) b
       work-parts le li =

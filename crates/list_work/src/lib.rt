@@ -1,39 +1,28 @@
 // The work of the call for the list: the graph, its trees, the search and the list in columns, over tables of just the lengths told.
 #![tactic(auto)]
 
-ghost use Rattle.std.specs.Prelude.{◌≡◌};
+ghost use Rattle.list_interface.specs.Handed.{handed};
 ghost use Rattle.list_work.specs.Outcome.{found, Listed, outputs_of, tables_of};
-ghost use Rattle.list_interface.specs.Handed.{input_for};
 ghost use Rattle.list_work.specs.Works.{Works};
-ghost use Rattle.list_work.specs.Search.{search_refusal, Seeks, Sought};
+ghost use Rattle.list_work.specs.Search.{Searches};
 
-use graph_work::{Raise, Raised, raise_graph, raise_refusal};
-use junction_kbest::{Search, find_junction_best_haplotypes};
-use limits::{GraphMaxima, SearchMaxima};
-use list_interface::{ListAnswer, Settings, found_answer, refused};
+use graph_work::{Raise, raise_graph};
+use junction_kbest::find_junction_best_haplotypes;
+use list_interface::{Input, ListAnswer, found_answer, refused};
 use path_list::write_list;
+use path_store::chains::Chains;
+use path_store::records::Paths;
+use samples::Sample;
 use search_setup::{lay_chains, search_setting};
 use tables::EDGE;
-
-fn search_refusal(r: Search) -> u32
-    ensures { result ≡ search_refusal r }
-{
-    match r {
-        Search::Paths(_) => 0,
-        Search::Refused(n) => n,
-    }
-}
 
 // ---- the search and the list
 
 // The search over a raised graph, whose edge table ends behind the symbolic edge, and the list of the paths found; or a refusal, and no output is
 // touched.
 fn search_list(
-    a: Settings,
+    input: Input,
     b: Raise,
-    reference: &[u8],
-    bases: &[u8],
-    column: &[f64],
     row_scores: &mut [f64],
     row_closings: &mut [u32],
     row_edges: &mut [u32],
@@ -56,37 +45,33 @@ fn search_list(
 ) -> ListAnswer
     requires { let outputs = outputs_of row_scores.old row_closings.old row_edges.old out_bases.old sequences.old places.old in
         let tables = tables_of vertices.old edges.now index.old nodes.now targets.old paths.old scores.old active.old queue.old closed.old order.old marks.old walks.old in
-        Seeks a reference.now bases.now column.now outputs tables b }
+        Searches (handed input) outputs tables b }
     ensures { let outputs = outputs_of row_scores.old row_closings.old row_edges.old out_bases.old sequences.old places.old in
         let written = outputs_of row_scores.new row_closings.new row_edges.new out_bases.new sequences.new places.new in
-        let tables = tables_of vertices.old edges.now index.old nodes.now targets.old paths.old scores.old active.old queue.old closed.old order.old marks.old walks.old in
-        Sought a reference.now bases.now column.now tables b result outputs written }
+        Listed (handed input.entry) (found (handed input.entry)) result outputs written }
 {
-    let size = a.k as usize;
-    let most: SearchMaxima = a.search;
-    let stride = most.path_edges as usize;
-    let g = search_setting(a, b);
+    let a = input.settings;
     lay_chains(b, vertices, edges, index, targets);
+    let g = search_setting(a, b, vertices, edges, nodes, index, targets, input.column);
     let r = find_junction_best_haplotypes(
-        vertices, edges, nodes, index, targets, column, paths, scores, active, queue, closed,
-        order, marks, walks, g, a.recovery,
+        paths, scores, active, queue, closed, order, marks, walks, g, a.recovery,
     );
-    let Search::Paths(p) = r else {
-        return refused(search_refusal(r));
+    let Ok(p) = r else {
+        return refused(r.unwrap_err());
     };
     write_list(
-        reference,
-        bases,
+        input.text,
         vertices,
         edges,
-        index,
-        targets,
-        paths,
-        scores,
+        Chains { index, targets },
+        Paths {
+            records: paths,
+            scores,
+        },
         closed,
         p.closed,
-        size,
-        stride,
+        a.k as usize,
+        a.search.path_edges as usize,
         walks,
         active,
         row_scores,
@@ -104,12 +89,7 @@ fn search_list(
 // The graph, its trees, the search and the list, over tables of just the lengths told, whatever they hold, with the walks' slice for the trees that are
 // open; the output is written once nothing can be refused any more.
 pub fn work(
-    a: Settings,
-    reference: &[u8],
-    ends: &[u32],
-    bases: &[u8],
-    qualities: &[u8],
-    column: &[f64],
+    input: Input,
     row_scores: &mut [f64],
     row_closings: &mut [u32],
     row_edges: &mut [u32],
@@ -130,40 +110,36 @@ pub fn work(
     w_marks: &mut [u32],
     w_walks: &mut [u32],
 ) -> ListAnswer
-    requires { let input = input_for a reference.now ends.now bases.now qualities.now column.now in
-        let outputs = outputs_of row_scores.old row_closings.old row_edges.old out_bases.old sequences.old places.old in
+    requires { let outputs = outputs_of row_scores.old row_closings.old row_edges.old out_bases.old sequences.old places.old in
         let tables = tables_of w_vertices.old w_edges.old w_index.old w_nodes.old w_targets.old w_paths.old w_scores.old w_active.old w_queue.old w_closed.old w_order.old w_marks.old w_walks.old in
-        Works input outputs tables }
-    ensures { let input = input_for a reference.now ends.now bases.now qualities.now column.now in
-        let outputs = outputs_of row_scores.old row_closings.old row_edges.old out_bases.old sequences.old places.old in
+        Works (handed input) outputs tables }
+    ensures { let outputs = outputs_of row_scores.old row_closings.old row_edges.old out_bases.old sequences.old places.old in
         let written = outputs_of row_scores.new row_closings.new row_edges.new out_bases.new sequences.new places.new in
-        Listed input (found input) result outputs written }
+        Listed (handed input.entry) (found (handed input.entry)) result outputs written }
 {
-    let maxima: GraphMaxima = a.graph;
-    let size = maxima.vertices as usize;
+    let a = input.settings;
+    let sample = Sample {
+        k: a.k,
+        quality: a.quality,
+        text: input.text,
+        ends: input.ends,
+        qualities: input.qualities,
+    };
     let r = raise_graph(
-        a.k, a.quality, reference, ends, bases, qualities, maxima, w_vertices, w_edges, w_index,
-        w_nodes, w_walks,
+        sample, a.graph, w_vertices, w_edges, w_index, w_nodes, w_walks,
     );
-    let Raised::Graph(b) = r else {
-        return refused(raise_refusal(r));
+    let Ok(b) = r else {
+        return refused(r.unwrap_err());
     };
     if a.asked == 0 {
-        return ListAnswer {
-            refusal: 0,
-            paths: 0,
-            pushes: 0,
-            mark: 0,
-        };
+        return ListAnswer::default();
     }
+    let size = a.graph.vertices as usize;
     let all = b.edges + 1;
     let rows = all * EDGE;
     search_list(
-        a,
+        input,
         b,
-        reference,
-        bases,
-        column,
         row_scores,
         row_closings,
         row_edges,

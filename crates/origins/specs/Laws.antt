@@ -16,10 +16,7 @@ use Rattle.definition.specs.Threading.{Origin}
 use Rattle.definition.specs.Origins.{sequence_in, bytes_in}
 use Rattle.definition.specs.Calls.{OriginOutcome, origin_of, after_origin_checks, origin_call}
 use Rattle.origins.specs.Reads.{start_of, read_get, no_read, part_at, accepted-by, bounded}
-use Rattle.origins.specs.Parts.{origin, fitted, is_read, start_in, lent, found_at, bytes_of, Inside, Tells, Located, slice_of, lent_by, answered, Names}
-use Rattle.origins.specs.declared.Part.{Part}
-use Rattle.origins.specs.declared.Found.{Found}
-use Rattle.origins.specs.declared.Found.TheVariants.{At, Refused}
+use Rattle.origins.specs.Parts.{Part, Found, At, Refused, origin, fitted, is_read, start_in, lent, found_at, bytes_of, Inside, Tells, Located, slice_of, lent_by, answered, Names}
 use Rattle.origins.specs.declared.OriginAnswer.{OriginAnswer}
 
 -- ---- read_start

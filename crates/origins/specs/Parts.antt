@@ -1,14 +1,42 @@
 -- The part of a lent slice that an origin names, and what the calls say of it.
-use Rattle.std.specs.Prelude.{◌≡◌, ℕ, zero, suc, ◌+◌, ◌≤◌, Bool, true, false, List, [], leb, length, take, drop}
+use Rattle.std.specs.Prelude.{◌≡◌, ℕ, zero, suc, ◌+◌, ◌≤◌, Bool, true, false, List, [], leb, length, take, drop, Result, Ok, Err}
+use Rattle.std.specs.Result.{IsErrAnd}
+use Rattle.std.proofs.lemmas.Result.{err_from_is_err_and}
 use Rattle.definition.specs.Threading.{Origin}
 use Rattle.definition.specs.Calls.{OriginOutcome, origin_call}
 use Rattle.origins.specs.Reads.{start_of}
-use Rattle.origins.specs.declared.Found.{Found}
-use Rattle.origins.specs.declared.Found.TheVariants.{At, Refused}
+use Rattle.origins.specs.declared.Part as code
+use Rattle.origins.specs.declared.Part.TheVariants.{Reference, Reads}
+use Rattle.refusals.specs.declared.Refusal.{Refusal}
+use Rattle.refusals.specs.Numbers.{number}
 use Rattle.origins.specs.declared.OriginAnswer.{OriginAnswer}
 
 abbrev pub origin : ℕ → ℕ → Origin
 origin s p = record { sequence = s; place = p }
+
+-- a part of k + 1 bytes: of the read bases or else of the reference, and where it starts
+pub record Part : Type 0 where
+  pub in_reads : Bool
+  pub start : ℕ
+
+-- a part, or the number of a refusal
+pub data Found : Type 0 where
+  At : Part → Found
+  Refused : ℕ → Found
+
+-- the code's answers
+abbrev pub found_in : Bool → Result ℕ Refusal → Found
+found_in in_reads (Ok start) = At (record { in_reads = in_reads; start = start })
+found_in in_reads (Err e) = Refused (number e)
+
+abbrev pub found_of : Result code.Part Refusal → Found
+found_of (Ok (Reference start)) = At (record { in_reads = false; start = start })
+found_of (Ok (Reads start)) = At (record { in_reads = true; start = start })
+found_of (Err e) = Refused (number e)
+
+-- what a `?` returns where it passes a refusal up
+pub found-passed : (r : Result code.Part Refusal) (e : Refusal) → IsErrAnd r (λ d. d ≡ e) → found_of r ≡ Refused (number e)
+found-passed r e h = let p = err_from_is_err_and r h in rw (p.1, p.2)
 
 -- the part at a place of a sequence of `size` bytes that starts at `start`, or 13 where k + 1 bytes do not fit it
 unfoldable pub fitted : ℕ → Bool → ℕ → ℕ → ℕ → Found

@@ -1,24 +1,20 @@
 // The call for the bytes at an origin, and the call beside it that tells the refusal's number.
 #![tactic(auto)]
 
-ghost use Rattle.std.specs.Prelude.{◌≡◌, ◌≤◌, length};
+ghost use Rattle.std.specs.Prelude.{◌≡◌, ◌≤◌, Bool, length};
 ghost use Rattle.definition.specs.Calls.{origin_call};
 ghost use Rattle.origins.specs.Reads.{start_of};
-ghost use Rattle.origins.specs.Parts.{origin, fitted, Located, Names};
+ghost use Rattle.origins.specs.Parts.{origin, found_in, found_of, fitted, Located, Names};
 
-use refusals::ORIGIN;
+use limits::check_origin;
+use refusals::{Refusal, refusal_of};
+use samples::Text;
 
-// A part of k + 1 bytes: of the read bases or else of the reference, and where it starts.
-#[derive(Clone, Copy)]
-pub struct Part {
-    pub in_reads: bool,
-    pub start: usize,
-}
-
-#[derive(Clone, Copy)]
-pub enum Found {
-    At(Part),
-    Refused(u32),
+// Where a part of k + 1 bytes starts: in the reference or in the read bases.
+#[derive(Clone, Copy, Debug, PartialEq, Eq)]
+pub enum Part {
+    Reference(usize),
+    Reads(usize),
 }
 
 // Where a read, counted from 0, starts in the read bases: where the one before it ends.
@@ -32,87 +28,61 @@ fn read_start(ends: &[u32], read: usize) -> usize
     ends[read - 1] as usize
 }
 
-// The part at a place of a sequence of `length` bytes that starts at `start`, or 13 where k + 1 bytes do not fit it.
-fn fit(k: u32, in_reads: bool, start: usize, length: usize, place: u32) -> Found
+// Where the part at a place of a sequence of `length` bytes that starts at `start` begins, or 13 where k + 1 bytes do not fit it.
+fn fit(k: u32, start: usize, length: usize, place: u32) -> Result<usize, Refusal>
     requires { (k ≤ 128) × (start ≤ 32768) }
-    ensures { result ≡ fitted k in_reads start length place }
+    ensures { (in_reads : Bool) → found_in in_reads result ≡ fitted k in_reads start length place }
 {
     let from = place as usize;
     if from + k as usize + 1 <= length {
-        return Found::At(Part {
-            in_reads: in_reads,
-            start: start + from,
-        });
+        return Ok(start + from);
     }
-    Found::Refused(ORIGIN)
+    Err(Refusal::Origin)
 }
 
 // The part that an origin names, or its refusal.
 pub fn find_origin(
     k: u32,
-    reference: &[u8],
+    text: Text,
     ends: &[u32],
-    bases: &[u8],
     sequence: u32,
     place: u32,
-) -> Found
-    ensures { Located k reference.now ends.now bases.now (origin sequence place) result }
+) -> Result<Part, Refusal>
+    ensures { Located k text.entry.reference.now ends.now text.entry.bases.now (origin sequence place) (found_of result) }
 {
-    let refusal = limits::check_origin(k, reference, ends, bases);
-    if refusal > 0 {
-        return Found::Refused(refusal);
-    }
+    check_origin(k, text, ends)?;
     if sequence < 1 {
-        return fit(k, false, 0, reference.len(), place);
+        let start = fit(k, 0, text.reference.len(), place)?;
+        return Ok(Part::Reference(start));
     }
     let read = sequence as usize - 1;
     if read >= ends.len() {
-        return Found::Refused(ORIGIN);
+        return Err(Refusal::Origin);
     }
     let start = read_start(ends, read);
     let length = ends[read] as usize - start;
-    fit(k, true, start, length, place)
+    let at = fit(k, start, length, place)?;
+    Ok(Part::Reads(at))
 }
 
 // The k + 1 bytes at an origin, a part of the reference or of the read bases; on refusal that part is empty.
-pub fn origin_bytes<'a>(
-    k: u32,
-    reference: &'a [u8],
-    ends: &[u32],
-    bases: &'a [u8],
-    sequence: u32,
-    place: u32,
-) -> &'a [u8]
-    ensures { result.now ≡ (origin_call k reference.now ends.now bases.now (origin sequence place)).bytes }
+pub fn origin_bytes<'a>(k: u32, text: Text<'a>, ends: &[u32], sequence: u32, place: u32) -> &'a [u8]
+    ensures { result.now ≡ (origin_call k text.entry.reference.now ends.now text.entry.bases.now (origin sequence place)).bytes }
 {
-    let found = find_origin(k, reference, ends, bases, sequence, place);
-    let Found::At(part) = found else {
-        return &reference[0..0];
-    };
-    let start = part.start;
-    let end = start + k as usize + 1;
-    if part.in_reads {
-        return &bases[start..end];
+    let length = k as usize + 1;
+    match find_origin(k, text, ends, sequence, place) {
+        Ok(Part::Reads(start)) => &text.bases[start..start + length],
+        Ok(Part::Reference(start)) => &text.reference[start..start + length],
+        Err(_) => &text.reference[0..0],
     }
-    &reference[start..end]
 }
 
 // The number of an origin's refusal, 0 where its bytes can be handed back.
-pub fn origin_refusal(
-    k: u32,
-    reference: &[u8],
-    ends: &[u32],
-    bases: &[u8],
-    sequence: u32,
-    place: u32,
-) -> u32
-    ensures { result ≡ (origin_call k reference.now ends.now bases.now (origin sequence place)).refusal }
+pub fn origin_refusal(k: u32, text: Text, ends: &[u32], sequence: u32, place: u32) -> u32
+    ensures { result ≡ (origin_call k text.entry.reference.now ends.now text.entry.bases.now (origin sequence place)).refusal }
 {
-    let found = find_origin(k, reference, ends, bases, sequence, place);
-    let Found::Refused(number) = found else {
-        return 0;
-    };
-    number
+    let found = find_origin(k, text, ends, sequence, place);
+    refusal_of(&found)
 }
 
 // An origin's part for callers that take no slice back: start and length, in the read bases (1) or in the reference (0).
@@ -126,33 +96,26 @@ pub struct OriginAnswer {
 }
 
 // As `origin_bytes` and `origin_refusal` together; 0 in every other field when refused.
-pub fn origin_part(
-    k: u32,
-    reference: &[u8],
-    ends: &[u32],
-    bases: &[u8],
-    sequence: u32,
-    place: u32,
-) -> OriginAnswer
-    ensures { Names k reference.now ends.now bases.now (origin sequence place)
-        (origin_call k reference.now ends.now bases.now (origin sequence place)) result }
+pub fn origin_part(k: u32, text: Text, ends: &[u32], sequence: u32, place: u32) -> OriginAnswer
+    ensures { Names k text.entry.reference.now ends.now text.entry.bases.now (origin sequence place)
+        (origin_call k text.entry.reference.now ends.now text.entry.bases.now (origin sequence place)) result }
 {
-    let found = find_origin(k, reference, ends, bases, sequence, place);
-    match found {
-        Found::At(part) => {
-            let mut in_reads: u32 = 0;
-            if part.in_reads {
-                in_reads = 1;
-            }
-            OriginAnswer {
-                refusal: 0,
-                in_reads: in_reads,
-                start: part.start,
-                length: k as usize + 1,
-            }
-        }
-        Found::Refused(number) => OriginAnswer {
-            refusal: number,
+    let length = k as usize + 1;
+    match find_origin(k, text, ends, sequence, place) {
+        Ok(Part::Reads(start)) => OriginAnswer {
+            refusal: 0,
+            in_reads: 1,
+            start,
+            length,
+        },
+        Ok(Part::Reference(start)) => OriginAnswer {
+            refusal: 0,
+            in_reads: 0,
+            start,
+            length,
+        },
+        Err(refusal) => OriginAnswer {
+            refusal: u32::from(refusal),
             in_reads: 0,
             start: 0,
             length: 0,

@@ -1,3 +1,4 @@
 pub mod Outs
 pub mod Sorted
 pub mod Linked
+pub mod Walked

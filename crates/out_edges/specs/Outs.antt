@@ -1,5 +1,5 @@
 -- Out-edges in rising target: the definition's list is in order, so the least that passes comes first and the rest follows. Assumes nothing.
-use Rattle.std.specs.Prelude.{◌≡◌, refl, ◌≢◌, ◌⊎◌, Bool, true, false, ◌&&◌, List, [], ◌∷◌, eqb, leb}
+use Rattle.std.specs.Prelude.{◌≡◌, refl, ◌≢◌, ◌⊎◌, Bool, true, false, ◌&&◌, List, [], ◌∷◌, Option, Some, None, IfSome, IsSomeAnd, eqb, leb}
 use Rattle.std.proofs.Common.{sym, ap, ◌∙◌, inl, inr, arith, eqb-true, eq-eqb, le-leb, leb-true}
 use Prim.Native.Nat.{ℕ, zero, suc, ◌+◌, ◌-◌, ◌<◌, ◌≤◌, Ordering}
 use Rattle.std.proofs.Math.Decide.{ℕ_discrete}
@@ -168,65 +168,65 @@ from-off v t d h = go (from_on v t d) refl
 not-true-false : (b : Bool) → b ≡ true → b ≡ false → ⊥
 not-true-false b h k = let z : true ≡ false = sym h ∙ k in let y : ◌≡◌ {A = ℕ} 0 1 = cc in omega arith
 
--- what the code finds: r is 0 where v has no out-edge to a target from t on, else one more than the number of that with the least target
-pub record Nexts (es : List ℕ) (m v t r : ℕ) : Type 0 where
-  pub there : 0 < r → (r ≤ m) × (edge_from es (r - 1) ≡ v) × (t ≤ edge_to es (r - 1))
-  pub least : (j : ℕ) → j < m → edge_from es j ≡ v → t ≤ edge_to es j → (0 < r) × (edge_to es (r - 1) ≤ edge_to es j)
+-- what the code finds: no number where v has no out-edge to a target from t on, else the number of that with the least target
+pub record Nexts (es : List ℕ) (m v t : ℕ) (r : Option ℕ) : Type 0 where
+  pub there : IfSome r (λ i. (i < m) × (edge_from es i ≡ v) × (t ≤ edge_to es i))
+  pub least : (j : ℕ) → j < m → edge_from es j ≡ v → t ≤ edge_to es j → IsSomeAnd r (λ i. edge_to es i ≤ edge_to es j)
 
-pub nexts-none : (es : List ℕ) (m v t r : ℕ) → Nexts es m v t r → r ≡ 0 → out_from (edges_of es m) v t ≡ []
+pub nexts-none : (es : List ℕ) (m v t : ℕ) → Nexts es m v t None → out_from (edges_of es m) v t ≡ []
 unfolding out_from leaving edges_of
-nexts-none es m v t r x z =
+nexts-none es m v t x =
     keep-keep (λ e. eqb e.ends.from v) (λ e. leb t e.ends.to) (table (edge_at es) m)
     ∙ keep-none (from_on v t) (table (edge_at es) m)
-    (each-table (λ d. from_on v t d ≡ false) (edge_at es) m (λ j h. from-off v t (edge_at es j).ends (λ e l. (let w = (x.least j h e l).0 in omega arith))))
+    (each-table (λ d. from_on v t d ≡ false) (edge_at es) m (λ j h. from-off v t (edge_at es j).ends (λ e l. x.least j h e l)))
 
-pub nexts-some : (es : List ℕ) (m v t r : ℕ) → Distinct (edge_at es) m → Nexts es m v t r → 0 < r
-    → out_from (edges_of es m) v t ≡ edge_at es (r - 1) ∷ out_from (edges_of es m) v (edge_to es (r - 1) + 1)
+pub nexts-some : (es : List ℕ) (m v t i : ℕ) → Distinct (edge_at es) m → Nexts es m v t (Some i)
+    → out_from (edges_of es m) v t ≡ edge_at es i ∷ out_from (edges_of es m) v (edge_to es i + 1)
 unfolding out_from leaving edges_of
-nexts-some es m v t r ds x z =
+nexts-some es m v t i ds x =
     keep-keep (λ e. eqb e.ends.from v) (λ e. leb t e.ends.to) (table (edge_at es) m)
-    ∙ keep-least (from_on v t) (from_on v (edge_to es (r - 1) + 1)) (edge_at es (r - 1))
-    (from-on-is v t (edge_at es (r - 1)).ends w.1 w.2) (from-off v (edge_to es (r - 1) + 1) (edge_at es (r - 1)).ends (λ e l. omega arith)) after less
-    (table (edge_at es) m) (rising-table (edge_at es) m) (has-table (edge_at es) m (r - 1) ds (let y = w.0 in omega arith))
-    (each-table (λ d. from_on v t d ≡ true → compare_ends (edge_at es (r - 1)).ends d ≡ Ordering.gt → ⊥) (edge_at es) m (λ j h. small j h))
-    ∙ ap (λ (l : List Edge). edge_at es (r - 1) ∷ l) (sym (keep-keep (λ e. eqb e.ends.from v) (λ e. leb (edge_to es (r - 1) + 1) e.ends.to) (table (edge_at es) m)))
+    ∙ keep-least (from_on v t) (from_on v (edge_to es i + 1)) (edge_at es i)
+    (from-on-is v t (edge_at es i).ends w.1 w.2) (from-off v (edge_to es i + 1) (edge_at es i).ends (λ e l. omega arith)) after less
+    (table (edge_at es) m) (rising-table (edge_at es) m) (has-table (edge_at es) m i ds w.0)
+    (each-table (λ d. from_on v t d ≡ true → compare_ends (edge_at es i).ends d ≡ Ordering.gt → ⊥) (edge_at es) m (λ j h. small j h))
+    ∙ ap (λ (l : List Edge). edge_at es i ∷ l) (sym (keep-keep (λ e. eqb e.ends.from v) (λ e. leb (edge_to es i + 1) e.ends.to) (table (edge_at es) m)))
   where
-    w : (r ≤ m) × (edge_from es (r - 1) ≡ v) × (t ≤ edge_to es (r - 1))
-    w = x.there z
+    w : (i < m) × (edge_from es i ≡ v) × (t ≤ edge_to es i)
+    w = x.there
 
-    cases : (d : Ends) → Below (edge_at es (r - 1)).ends d → from_on v (edge_to es (r - 1) + 1) d ≡ from_on v t d
-    cases d (inl h) = from-off v (edge_to es (r - 1) + 1) d (λ e l. (let y = w.1 in omega arith)) ∙ sym (from-off v t d (λ e l. (let y = w.1 in omega arith)))
+    cases : (d : Ends) → Below (edge_at es i).ends d → from_on v (edge_to es i + 1) d ≡ from_on v t d
+    cases d (inl h) = from-off v (edge_to es i + 1) d (λ e l. (let y = w.1 in omega arith)) ∙ sym (from-off v t d (λ e l. (let y = w.1 in omega arith)))
     cases d (inr h) =
         let e : d.from ≡ v = sym h.0 ∙ w.1 in
         let l = h.1 in
         let y = w.2 in
-        from-on-is v (edge_to es (r - 1) + 1) d e (omega arith) ∙ sym (from-on-is v t d e (omega arith))
+        from-on-is v (edge_to es i + 1) d e (omega arith) ∙ sym (from-on-is v t d e (omega arith))
 
-    after : (d : Ends) → compare_ends (edge_at es (r - 1)).ends d ≡ Ordering.lt → from_on v (edge_to es (r - 1) + 1) d ≡ from_on v t d
-    after d c = cases d (is_below (edge_at es (r - 1)).ends d c)
+    after : (d : Ends) → compare_ends (edge_at es i).ends d ≡ Ordering.lt → from_on v (edge_to es i + 1) d ≡ from_on v t d
+    after d c = cases d (is_below (edge_at es i).ends d c)
 
-    less : (d : Ends) → from_on v t d ≡ false → from_on v (edge_to es (r - 1) + 1) d ≡ false
-    less d k = from-off v (edge_to es (r - 1) + 1) d (λ e l. not-true-false (from_on v t d) (from-on-is v t d e (let y = w.2 in omega arith)) k)
+    less : (d : Ends) → from_on v t d ≡ false → from_on v (edge_to es i + 1) d ≡ false
+    less d k = from-off v (edge_to es i + 1) d (λ e l. not-true-false (from_on v t d) (from-on-is v t d e (let y = w.2 in omega arith)) k)
 
-    above : (d : Ends) → d.from ≡ v → edge_to es (r - 1) ≤ d.to → Below d (edge_at es (r - 1)).ends → ⊥
+    above : (d : Ends) → d.from ≡ v → edge_to es i ≤ d.to → Below d (edge_at es i).ends → ⊥
     above d e l (inl h) = let y = w.1 in omega arith
     above d e l (inr h) = let y = h.1 in omega arith
 
-    small : (j : ℕ) → j < m → from_on v t (edge_at es j).ends ≡ true → compare_ends (edge_at es (r - 1)).ends (edge_at es j).ends ≡ Ordering.gt → ⊥
+    small : (j : ℕ) → j < m → from_on v t (edge_at es j).ends ≡ true → compare_ends (edge_at es i).ends (edge_at es j).ends ≡ Ordering.gt → ⊥
     small j h k c =
         let u = is-from-on v t (edge_at es j).ends k in
-        above (edge_at es j).ends u.0 (x.least j h u.0 u.1).1 (is-above (edge_at es (r - 1)).ends (edge_at es j).ends c)
+        above (edge_at es j).ends u.0 (x.least j h u.0 u.1) (is-above (edge_at es i).ends (edge_at es j).ends c)
 
 -- ---- the scan of a vertex's slots
 -- a slot's number names an edge, where it names any
 abbrev pub Names : List ℕ → ℕ → Type 0
 Names es r = 0 < r → HasEdge es (r - 1)
 
--- the better of what was found and a slot
-pub record Lesser (es : List ℕ) (best slot t r : ℕ) : Type 0 where
-  pub from : (r ≡ best) ⊎ ((r ≡ slot) × (t ≤ edge_to es (slot - 1)))
-  pub keeps : 0 < best → (0 < r) × (edge_to es (r - 1) ≤ edge_to es (best - 1))
-  pub beats : 0 < slot → t ≤ edge_to es (slot - 1) → (0 < r) × (edge_to es (r - 1) ≤ edge_to es (slot - 1))
+-- the better of what was found and a slot's edge
+pub record Lesser (es : List ℕ) (best slot : Option ℕ) (t : ℕ) (r : Option ℕ) : Type 0 where
+  pub from : (r ≡ best) ⊎ ((r ≡ slot) × IfSome slot (λ i. t ≤ edge_to es i))
+  pub keeps : IfSome best (λ j. IsSomeAnd r (λ i. edge_to es i ≤ edge_to es j))
+  pub beats : IfSome slot (λ j. t ≤ edge_to es j → IsSomeAnd r (λ i. edge_to es i ≤ edge_to es j))
 
 -- v's slots hold its out-edges and nothing else
 pub record Slots (vs es : List ℕ) (m v : ℕ) : Type 0 where
@@ -244,72 +244,7 @@ pub slots-names : {vs es : List ℕ} {m v : ℕ} → Slots vs es m v → HasEdge
 slots-names s r c h z = let w = (s.full c h z).0 in omega arith
 
 -- after c slots: what was found stands in one of them, and is the least of them from t on
-pub record Best (vs es : List ℕ) (v t c r : ℕ) : Type 0 where
+pub record Best (vs es : List ℕ) (v t c : ℕ) (r : Option ℕ) : Type 0 where
   pub within : c ≤ 8
-  pub there : 0 < r → (d : ℕ) × (d < c) × (r ≡ vertex_field vs v d) × (t ≤ edge_to es (r - 1))
-  pub least : (d : ℕ) → d < c → 0 < vertex_field vs v d → t ≤ edge_to es (vertex_field vs v d - 1) → (0 < r) × (edge_to es (r - 1) ≤ edge_to es (vertex_field vs v d - 1))
-
-pub best-start : (vs es : List ℕ) (v t : ℕ) → Best vs es v t 0 0
-best-start vs es v t = record { within = omega arith; there = λ h. absurd (omega arith); least = λ d h. absurd (omega arith) }
-
-pub best-next : (vs es : List ℕ) (v t c r r' : ℕ) → Best vs es v t c r → c < 8 → Lesser es r (out_edge vs v c) t r' → Best vs es v t (c + 1) r'
-best-next vs es v t c r r' b h l =
-    record {
-      within = omega arith;
-      there = λ z. there' z l.from;
-      least = λ d k z w. least' d k z w (ℕ_discrete d c);
-    }
-  where
-    there' : 0 < r' → (r' ≡ r) ⊎ ((r' ≡ out_edge vs v c) × (t ≤ edge_to es (out_edge vs v c - 1))) → (d : ℕ) × (d < c + 1) × (r' ≡ vertex_field vs v d) × (t ≤ edge_to es (r' - 1))
-    there' z (inl e) = let w = b.there (rw e at z) in (w.0, (let y = w.1 in omega arith), e ∙ w.2, rw e w.3)
-    there' z (inr e) = (c, omega arith, e.0, rw e.0 e.1)
-
-    least' : (d : ℕ) → d < c + 1 → 0 < vertex_field vs v d → t ≤ edge_to es (vertex_field vs v d - 1) → Dec (d ≡ c) → (0 < r') × (edge_to es (r' - 1) ≤ edge_to es (vertex_field vs v d - 1))
-    least' d k z w (yes e) = rw e (l.beats (rw e at z) (rw e at w))
-    least' d k z w (no e) =
-        let y = b.least d (omega arith) z w in
-        let x = l.keeps y.0 in
-        (x.0, (let p = x.1 in let q = y.1 in omega arith))
-
-pub best-end : (vs es : List ℕ) (v t c r : ℕ) → Best vs es v t c r → 8 ≤ c → (m : ℕ) → Slots vs es m v → Nexts es m v t r
-best-end vs es v t c r b h m s =
-    record {
-      there = λ z. there' z (b.there z);
-      least = λ j l e k. least' j k (s.all j l e);
-    }
-  where
-    there' : 0 < r → (d : ℕ) × (d < c) × (r ≡ vertex_field vs v d) × (t ≤ edge_to es (r - 1)) → (r ≤ m) × (edge_from es (r - 1) ≡ v) × (t ≤ edge_to es (r - 1))
-    there' z w =
-        let l : w.0 < 8 = (let x = b.within in let y = w.1 in omega arith) in
-        let u = s.full w.0 l (rw w.2 at z) in
-        (rw w.2 u.0, rw w.2 u.1, w.3)
-
-    least' : (j : ℕ) → t ≤ edge_to es j → (d : ℕ) × (d < 8) × (vertex_field vs v d ≡ j + 1) → (0 < r) × (edge_to es (r - 1) ≤ edge_to es j)
-    least' j k w =
-        let z : j + 1 - 1 ≡ j = omega arith in
-        let y = b.least w.0 (let x = w.1 in omega arith) (let x = w.2 in omega arith) (rw (w.2, z) k) in
-        (y.0, rw (w.2, z) at y.1)
-
-pub names-next : (es : List ℕ) (best slot t r : ℕ) → Names es best → Names es slot → Lesser es best slot t r → Names es r
-names-next es best slot t r a b l = go l.from
-  where
-    go : (r ≡ best) ⊎ ((r ≡ slot) × (t ≤ edge_to es (slot - 1))) → Names es r
-    go (inl e) = rw e a
-    go (inr e) = rw e.0 b
-
--- ---- the five ways out of the comparison
-module _ (es : List ℕ) (best slot t : ℕ) where
-  pub lesser-empty : slot ≡ 0 → Lesser es best slot t best
-  lesser-empty e = record { from = inl refl; keeps = λ h. (h, omega arith); beats = λ h. absurd (omega arith) }
-
-  pub lesser-low : edge_to es (slot - 1) < t → Lesser es best slot t best
-  lesser-low e = record { from = inl refl; keeps = λ h. (h, omega arith); beats = λ h k. absurd (omega arith) }
-
-  pub lesser-first : (slot ≡ 0 → ⊥) → t ≤ edge_to es (slot - 1) → best ≡ 0 → Lesser es best slot t slot
-  lesser-first z e h = record { from = inr (refl, e); keeps = λ k. absurd (omega arith); beats = λ k l. (k, omega arith) }
-
-  pub lesser-new : (slot ≡ 0 → ⊥) → t ≤ edge_to es (slot - 1) → edge_to es (slot - 1) < edge_to es (best - 1) → Lesser es best slot t slot
-  lesser-new z e h = record { from = inr (refl, e); keeps = λ k. (omega arith, omega arith); beats = λ k l. (k, omega arith) }
-
-  pub lesser-old : (best ≡ 0 → ⊥) → edge_to es (best - 1) ≤ edge_to es (slot - 1) → Lesser es best slot t best
-  lesser-old z h = record { from = inl refl; keeps = λ k. (k, omega arith); beats = λ k l. (omega arith, h) }
+  pub there : IfSome r (λ i. (d : ℕ) × (d < c) × (vertex_field vs v d ≡ i + 1) × (t ≤ edge_to es i))
+  pub least : (d : ℕ) → d < c → 0 < vertex_field vs v d → t ≤ edge_to es (vertex_field vs v d - 1) → IsSomeAnd r (λ i. edge_to es i ≤ edge_to es (vertex_field vs v d - 1))

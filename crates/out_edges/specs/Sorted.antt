@@ -1,5 +1,5 @@
 -- All edges in the definition's order, by the numbers of birth: vertex by vertex, each time the next out-edge. Assumes nothing.
-use Rattle.std.specs.Prelude.{◌≡◌, refl, ◌⊎◌, Bool, true, false, ◌&&◌, ◌||◌, List, [], ◌∷◌, ℕ, ◌+◌, ◌-◌, ◌<◌, ◌≤◌, eqb, leb, ltb, length}
+use Rattle.std.specs.Prelude.{Some, None, ◌≡◌, refl, ◌⊎◌, Bool, true, false, ◌&&◌, ◌||◌, List, [], ◌∷◌, ℕ, ◌+◌, ◌<◌, ◌≤◌, eqb, leb, ltb, length}
 use Rattle.std.proofs.Common.{sym, ◌∙◌, inl, inr, arith, eqb-true, eq-eqb, le-leb, leb-true, lt-ltb, le-ltb, ltb-true}
 use Prim.Native.Nat.{Ordering}
 use Rattle.std.proofs.Math.Decide.{ℕ_discrete, dec_lt}
@@ -74,9 +74,9 @@ rest_end es m v t h =
     no l (inl w) = omega arith
     no l (inr w) = let z = w.0 in omega arith
 
-pub rest-skip : (es : List ℕ) (m v t r : ℕ) → Nexts es m v t r → r ≡ 0 → rest v t (edges_of es m) ≡ rest (v + 1) 0 (edges_of es m)
+pub rest-skip : (es : List ℕ) (m v t : ℕ) → Nexts es m v t None → rest v t (edges_of es m) ≡ rest (v + 1) 0 (edges_of es m)
 unfolding rest edges_of
-rest-skip es m v t r x z =
+rest-skip es m v t x =
     keep_same (from-there v t) (from-there (v + 1) 0) (table (edge_at es) m)
     (each-table (λ d. from-there v t d ≡ from-there (v + 1) 0 d) (edge_at es) m (λ j h. same j h (dec_lt v (edge_from es j))))
   where
@@ -86,7 +86,7 @@ rest-skip es m v t r x z =
 
     off : (j : ℕ) → j < m → (v < edge_from es j → ⊥) → There v t (edge_at es j).ends → ⊥
     off j h l (inl w) = l w
-    off j h l (inr w) = let y = (x.least j h w.0 w.1).0 in omega arith
+    off j h l (inr w) = x.least j h w.0 w.1
 
     off' : (j : ℕ) → (v < edge_from es j → ⊥) → There (v + 1) 0 (edge_at es j).ends → ⊥
     off' j l (inl w) = l (omega arith)
@@ -96,45 +96,45 @@ rest-skip es m v t r x z =
     same j h (yes l) = there-is v t (edge_at es j).ends (inl l) ∙ sym (there-is (v + 1) 0 (edge_at es j).ends (on j l (ℕ_discrete (edge_from es j) (v + 1))))
     same j h (no l) = there-off v t (edge_at es j).ends (off j h l) ∙ sym (there-off (v + 1) 0 (edge_at es j).ends (off' j l))
 
-pub rest-take : (es : List ℕ) (m v t r : ℕ) → Distinct (edge_at es) m → Nexts es m v t r → 0 < r
-    → rest v t (edges_of es m) ≡ edge_at es (r - 1) ∷ rest v (edge_to es (r - 1) + 1) (edges_of es m)
+pub rest-take : (es : List ℕ) (m v t i : ℕ) → Distinct (edge_at es) m → Nexts es m v t (Some i)
+    → rest v t (edges_of es m) ≡ edge_at es i ∷ rest v (edge_to es i + 1) (edges_of es m)
 unfolding rest edges_of
-rest-take es m v t r ds x z =
-    keep-least (from-there v t) (from-there v (edge_to es (r - 1) + 1)) (edge_at es (r - 1))
-    (there-is v t (edge_at es (r - 1)).ends (inr (w.1, w.2))) (there-off v (edge_to es (r - 1) + 1) (edge_at es (r - 1)).ends itself) (λ d c. after d (is_below (edge_at es (r - 1)).ends d c)) less
-    (table (edge_at es) m) (rising-table (edge_at es) m) (has-table (edge_at es) m (r - 1) ds (let y = w.0 in omega arith))
-    (each-table (λ d. from-there v t d ≡ true → compare_ends (edge_at es (r - 1)).ends d ≡ Ordering.gt → ⊥) (edge_at es) m
-    (λ j h k c. small j h (is-there v t (edge_at es j).ends k) (is-above (edge_at es (r - 1)).ends (edge_at es j).ends c)))
+rest-take es m v t i ds x =
+    keep-least (from-there v t) (from-there v (edge_to es i + 1)) (edge_at es i)
+    (there-is v t (edge_at es i).ends (inr (w.1, w.2))) (there-off v (edge_to es i + 1) (edge_at es i).ends itself) (λ d c. after d (is_below (edge_at es i).ends d c)) less
+    (table (edge_at es) m) (rising-table (edge_at es) m) (has-table (edge_at es) m i ds w.0)
+    (each-table (λ d. from-there v t d ≡ true → compare_ends (edge_at es i).ends d ≡ Ordering.gt → ⊥) (edge_at es) m
+    (λ j h k c. small j h (is-there v t (edge_at es j).ends k) (is-above (edge_at es i).ends (edge_at es j).ends c)))
   where
-    w : (r ≤ m) × (edge_from es (r - 1) ≡ v) × (t ≤ edge_to es (r - 1))
-    w = x.there z
+    w : (i < m) × (edge_from es i ≡ v) × (t ≤ edge_to es i)
+    w = x.there
 
-    itself : There v (edge_to es (r - 1) + 1) (edge_at es (r - 1)).ends → ⊥
+    itself : There v (edge_to es i + 1) (edge_at es i).ends → ⊥
     itself (inl h) = let y = w.1 in omega arith
     itself (inr h) = let y = h.1 in omega arith
 
-    after : (d : Ends) → Below (edge_at es (r - 1)).ends d → from-there v (edge_to es (r - 1) + 1) d ≡ from-there v t d
+    after : (d : Ends) → Below (edge_at es i).ends d → from-there v (edge_to es i + 1) d ≡ from-there v t d
     after d (inl h) =
         let l : v < d.from = (let y = w.1 in omega arith) in
-        there-is v (edge_to es (r - 1) + 1) d (inl l) ∙ sym (there-is v t d (inl l))
+        there-is v (edge_to es i + 1) d (inl l) ∙ sym (there-is v t d (inl l))
     after d (inr h) =
         let e : d.from ≡ v = sym h.0 ∙ w.1 in
         let l = h.1 in
         let y = w.2 in
-        there-is v (edge_to es (r - 1) + 1) d (inr (e, omega arith)) ∙ sym (there-is v t d (inr (e, omega arith)))
+        there-is v (edge_to es i + 1) d (inr (e, omega arith)) ∙ sym (there-is v t d (inr (e, omega arith)))
 
-    fewer : (d : Ends) → There v (edge_to es (r - 1) + 1) d → There v t d
+    fewer : (d : Ends) → There v (edge_to es i + 1) d → There v t d
     fewer d (inl h) = inl h
     fewer d (inr h) = inr (h.0, (let y = w.2 in let u = h.1 in omega arith))
 
-    less : (d : Ends) → from-there v t d ≡ false → from-there v (edge_to es (r - 1) + 1) d ≡ false
-    less d k = there-off v (edge_to es (r - 1) + 1) d (λ u. not_there v t d k (fewer d u))
+    less : (d : Ends) → from-there v t d ≡ false → from-there v (edge_to es i + 1) d ≡ false
+    less d k = there-off v (edge_to es i + 1) d (λ u. not_there v t d k (fewer d u))
 
-    small : (j : ℕ) → j < m → There v t (edge_at es j).ends → Below (edge_at es j).ends (edge_at es (r - 1)).ends → ⊥
+    small : (j : ℕ) → j < m → There v t (edge_at es j).ends → Below (edge_at es j).ends (edge_at es i).ends → ⊥
     small j h (inl k) (inl b) = let y = w.1 in omega arith
     small j h (inl k) (inr b) = let y = w.1 in let u = b.0 in omega arith
     small j h (inr k) (inl b) = let y = w.1 in let u = k.0 in omega arith
-    small j h (inr k) (inr b) = let y = (x.least j h k.0 k.1).1 in let u = b.1 in omega arith
+    small j h (inr k) (inr b) = let y = x.least j h k.0 k.1 in let u = b.1 in omega arith
 
 -- ---- the pass: over every vertex that the table has room for, until all edges are out
 pub record Orders (vs es out : List ℕ) (m : ℕ) : Type 0 where

@@ -1,15 +1,9 @@
 -- At the sink the path that was taken may close; closed or not, its edges are no longer pivotal.
-use Rattle.std.specs.Prelude.{◌≡◌, refl, ◌⊎◌, ◌≢◌, Bool, true, false, eqb, length, drop, set, Float}
-use Rattle.std.proofs.Common.{sym, ◌∙◌, inl, eq-or-lt_of_le, eq-eqb, ne_eqb}
-use Rattle.std.proofs.Math.Path.{ap, subst}
-use Rattle.std.proofs.Math.Logic.{inr}
-use mathlib.Core.List.{List, [], ◌∷◌, ◌++◌, map, map-append}
-use Prim.Native.Nat.{ℕ, zero, suc, ◌+◌, ◌*◌, ◌<◌, ◌≤◌}
-use Rattle.std.proofs.Math.Numerals.{add-one}
-use native.Mathlib.Omega.{arith}
-use Rattle.std.proofs.Math.ListN.{take, length-set}
-use Rattle.std.proofs.Math.Seq.{get_or-set_same, get_or-set_other, take-suc-set}
-use Rattle.std.specs.Float.Ieee.{nan, is_nan}
+use Rattle.std.specs.Prelude.{◌≡◌, refl, ◌⊎◌, ◌≢◌, Bool, true, false, eqb, length, drop, set, Float, Ok, Err, List, [], ◌∷◌, ◌++◌, map, ℕ, zero, suc, ◌+◌, ◌*◌, ◌<◌, ◌≤◌, take, is_nan}
+use Rattle.std.proofs.Common.{sym, ◌∙◌, inl, eq-or-lt_of_le, eq-eqb, ne_eqb, ap, subst, inr, add-one, arith, length-set, get_or-set_same, get_or-set_other, take-suc-set}
+use Rattle.std.proofs.lemmas.List.{map-append}
+use Rattle.std.specs.Float.{nan}
+use Rattle.std.specs.Prelude as std
 use Rattle.laws.specs.ListLaws.{All, nil, cons, all-mono, all_append}
 use Rattle.laws.specs.Records.{row_step}
 use Rattle.definition.specs.Refusal.{Result, ok, refused}
@@ -31,14 +25,14 @@ use Rattle.closed_paths.specs.Cross.{Distinct, Struck, struck-out}
 use Rattle.closed_paths.specs.Recover.{edges-in}
 use Rattle.closed_paths.specs.Close.{close-elsewhere, close-kept, close-over, close-made}
 use Rattle.fork_offers.specs.Actives.{Actives, actives-none}
-use Rattle.search_state.specs.declared.Setting.{Setting}
+use Rattle.search_state.specs.Settings.{Setting}
 use Rattle.search_state.specs.declared.Progress.{Progress}
-use Rattle.search_state.specs.declared.Step.{Step}
-use Rattle.search_state.specs.declared.Step.TheVariants.{On, Refused}
+use Rattle.refusals.specs.declared.Refusal.{Refusal}
+use Rattle.refusals.specs.Numbers.{number}
 use Rattle.search_state.specs.Ground.{name_of, Ground}
 use Rattle.search_state.specs.State.{path_of, closed_record, Records, Holds, Apart, Kept}
 use Rattle.search_state.specs.Keep.{with_records, map-agree, holds_kept, apart-kept}
-use Rattle.path_closing.specs.ClosesTaken.{with_closed, ClosesTaken, ClosedTaken, ClosingTaken, ClosedTakenBy}
+use Rattle.path_closing.specs.ClosesTaken.{with_closed, ClosedTaken, ClosingTaken, ClosedTakenBy}
 use Rattle.path_closing.specs.Joins.{Joined}
 
 -- ---- what the contract says
@@ -91,12 +85,12 @@ pub record ClosedOn (f : SearchInput) (g : Setting) (es x index targets : List �
   pub known : taken.path < p'.records
   pub progress : (p' ≡ p) ⊎ (p' ≡ with_closed p)
 
-abbrev pub ClosedBy : SearchInput → Setting → List ℕ → List ℕ → List ℕ → List ℕ → (ℕ → List Branches) → List ℕ → List Float → List ℕ → List ℕ → List ℕ → Progress → State Float → Taken → Step → List ℕ → List Float → List ℕ → List ℕ → Type 0
-ClosedBy f g es x index targets bs t sc ac queue order p s taken (On p') t' sc' closed' marks' = ClosedOn f g es x index targets bs t sc ac queue order p s taken p' t' sc' closed' marks'
-ClosedBy f g es x index targets bs t sc ac queue order p s taken (Refused k) t' sc' closed' marks' = closing f es index targets bs t sc taken s ≡ refused k
+abbrev pub ClosedBy : SearchInput → Setting → List ℕ → List ℕ → List ℕ → List ℕ → (ℕ → List Branches) → List ℕ → List Float → List ℕ → List ℕ → List ℕ → Progress → State Float → Taken → std.Result Progress Refusal → List ℕ → List Float → List ℕ → List ℕ → Type 0
+ClosedBy f g es x index targets bs t sc ac queue order p s taken (Ok p') t' sc' closed' marks' = ClosedOn f g es x index targets bs t sc ac queue order p s taken p' t' sc' closed' marks'
+ClosedBy f g es x index targets bs t sc ac queue order p s taken (Err e) t' sc' closed' marks' = closing f es index targets bs t sc taken s ≡ refused (number e)
 
 -- by the answer, for every search whose stores these are
-pub record ClosedAt (g : Setting) (x index targets t : List ℕ) (sc : List Float) (ac closed marks : List ℕ) (p : Progress) (taken : Taken) (r : Step) (t' : List ℕ) (sc' : List Float) (closed' marks' : List ℕ) : Type 0 where
+pub record ClosedAt (g : Setting) (x index targets t : List ℕ) (sc : List Float) (ac closed marks : List ℕ) (p : Progress) (taken : Taken) (r : std.Result Progress Refusal) (t' : List ℕ) (sc' : List Float) (closed' marks' : List ℕ) : Type 0 where
   pub is : (f : SearchInput) (vs es : List ℕ) (bs : ℕ → List Branches) (closings : ℕ → ℕ) (queue order : List ℕ) (s : State Float)
       → Closing f g vs es x index targets bs closings t sc ac queue closed order marks p s taken → ClosedBy f g es x index targets bs t sc ac queue order p s taken r t' sc' closed' marks'
 
@@ -251,16 +245,6 @@ module _ (f : SearchInput) (g : Setting) (vs es x index targets : List ℕ) (bs 
 
   pub closing-table : Table index targets t sc (taken.path + 1)
   closing-table = table-front index targets t sc n (r + 1) G.table (let q = C.known in omega arith)
-
-  pub closing-taken : ClosesTaken g x ac t sc closed taken p
-  closing-taken =
-      record {
-        active = record { branches = bs r; stands = H.records.actives r C.known };
-        room = I;
-        known = C.known;
-        more = C.more;
-        few = C.few;
-      }
 
   pub closed-elsewhere : (taken.vertex ≡ g.sink → ⊥) → ClosedOn f g es x index targets bs t sc ac queue order p s taken p t sc closed marks
   closed-elsewhere h =
@@ -435,67 +419,56 @@ module _ (f : SearchInput) (g : Setting) (vs es x index targets : List ℕ) (bs 
 
 -- ---- what the code asks and says, by what it has read
 
-on-on : {a b : Progress} → On a ≡ On b → a ≡ b
+abbrev Answer : Type 0
+Answer = std.Result Progress Refusal
+
+on-on : {a b : Progress} → ◌≡◌ {A = Answer} (Ok a) (Ok b) → a ≡ b
 on-on e = cc
 
-refused-on : {B : Type 0} {k : ℕ} {a : Progress} → Refused k ≡ On a → B
+refused-on : {B : Type 0} {k : Refusal} {a : Progress} → ◌≡◌ {A = Answer} (Err k) (Ok a) → B
 refused-on e = let z : ◌≡◌ {A = ℕ} 0 1 = cc in absurd (omega arith)
 
 module _ (g : Setting) (x index targets t : List ℕ) (sc : List Float) (ac closed marks : List ℕ) (p : Progress) (taken : Taken) where
-  pub closed-away : (taken.vertex ≡ g.sink → ⊥) → ClosedAt g x index targets t sc ac closed marks p taken (On p) t sc closed marks
+  pub closed-away : (taken.vertex ≡ g.sink → ⊥) → ClosedAt g x index targets t sc ac closed marks p taken (Ok p) t sc closed marks
   closed-away h = record { is = λ f vs es bs cl queue order s C. closed-elsewhere f g vs es x index targets bs cl t sc ac queue closed order marks p s taken C h }
-
-  pub closes-taken : Closes g x index targets t sc ac closed marks p taken → ClosesTaken g x ac t sc closed taken p
-  closes-taken P =
-      closing-taken P.input g P.vertices P.edges x index targets P.branches P.closings t sc ac P.queue closed P.order marks p P.state taken P.all
 
   pub closes-marks : Closes g x index targets t sc ac closed marks p taken → length targets ≤ length marks
   closes-marks P = P.all.holds.marks-room
 
-  module _ (at : taken.vertex ≡ g.sink) (a : Step) (t' : List ℕ) (sc' : List Float) (closed' : List ℕ) (Z : ClosingTaken g x ac t sc closed taken p a t' sc' closed') where
+  module _ (at : taken.vertex ≡ g.sink) (t' : List ℕ) (sc' : List Float) (closed' : List ℕ) where
     module _ (f : SearchInput) (vs es : List ℕ) (bs : ℕ → List Branches) (cl : ℕ → ℕ) (queue order : List ℕ) (s : State Float) (C : Closing f g vs es x index targets bs cl t sc ac queue closed order marks p s taken) where
-      evidence : Z.evidence ≡ has_stopping_evidence f (bs taken.path)
-      evidence = Z.stops.is f (bs taken.path) C.on_ground.settings.symbolic C.on_ground.settings.threshold (C.holds.records.actives taken.path C.known)
+      evidence : (a : Answer) (Z : ClosingTaken g x ac t sc closed taken p a t' sc' closed') → Z.evidence ≡ has_stopping_evidence f (bs taken.path)
+      evidence a Z = Z.stops.is f (bs taken.path) C.on_ground.settings.symbolic C.on_ground.settings.threshold (C.holds.records.actives taken.path C.known)
 
-      refused-by : (b : Bool) (k : ℕ) → b ≡ has_stopping_evidence f (bs taken.path) → ClosedTakenBy g t sc closed taken p b (Refused k) t' sc' closed' → closing f es index targets bs t sc taken s ≡ refused k
+      refused-by : (b : Bool) (k : Refusal) → b ≡ has_stopping_evidence f (bs taken.path) → ClosedTakenBy g t sc closed taken p b (Err k) t' sc' closed' → closing f es index targets bs t sc taken s ≡ refused (number k)
       refused-by false k e u = refused-on u.answer
       refused-by true k e u =
           closed-over f g vs es x index targets bs cl t sc ac queue closed order marks p s taken C at (sym e) u.over ∙ ap (λ (d : ℕ). refused d) (sym u.number)
 
-      on-by : (b : Bool) (q : Progress) → b ≡ has_stopping_evidence f (bs taken.path) → ClosedTakenBy g t sc closed taken p b (On q) t' sc' closed' → (marks' : List ℕ)
+      on-by : (b : Bool) (q : Progress) → b ≡ has_stopping_evidence f (bs taken.path) → ClosedTakenBy g t sc closed taken p b (Ok q) t' sc' closed' → (marks' : List ℕ)
           → Struck index marks (edges index targets t' taken.path) marks' → ClosedOn f g es x index targets bs t sc ac queue order p s taken q t' sc' closed' marks'
       on-by false q e u marks' z =
           let y : Struck index marks (edges index targets t taken.path) marks' = rw u.cells at z in
           rw (on-on u.answer, u.cells, u.scores, u.numbers) (closed-open f g vs es x index targets bs cl t sc ac queue closed order marks p s taken C at (sym e) marks' y)
       on-by true q e u marks' z = closed-made f g vs es x index targets bs cl t sc ac queue closed order marks p s taken C at (sym e) u.fits q t' sc' closed' u marks' z
 
-      table-by : (b : Bool) (q : Progress) → b ≡ has_stopping_evidence f (bs taken.path) → ClosedTakenBy g t sc closed taken p b (On q) t' sc' closed' → Table index targets t' sc' (taken.path + 1)
+      table-by : (b : Bool) (q : Progress) → b ≡ has_stopping_evidence f (bs taken.path) → ClosedTakenBy g t sc closed taken p b (Ok q) t' sc' closed' → Table index targets t' sc' (taken.path + 1)
       table-by false q e u = rw (u.cells, u.scores) (closing-table f g vs es x index targets bs cl t sc ac queue closed order marks p s taken C)
       table-by true q e u = taken-table f g vs es x index targets bs cl t sc ac queue closed order marks p s taken C at (sym e) u.fits q t' sc' closed' u
 
-    abbrev By : Step → Type 0
-    By d = ClosedTakenBy g t sc closed taken p Z.evidence d t' sc' closed'
+    pub closed-refused : (k : Refusal) → ClosingTaken g x ac t sc closed taken p (Err k) t' sc' closed' → ClosedAt g x index targets t sc ac closed marks p taken (Err k) t' sc' closed' marks
+    closed-refused k Z =
+        record { is = λ f vs es bs cl queue order s C. refused-by f vs es bs cl queue order s C Z.evidence k (evidence f vs es bs cl queue order s C (Err k) Z) Z.by }
 
-    pub closed-refused : (k : ℕ) → a ≡ Refused k → ClosedAt g x index targets t sc ac closed marks p taken a t' sc' closed' marks
-    closed-refused k e =
-        rw e
-        (record {
-          is = λ f vs es bs cl queue order s C.
-              refused-by f vs es bs cl queue order s C Z.evidence k (evidence f vs es bs cl queue order s C) (subst By e Z.by);
-        })
-
-    module _ (q : Progress) (e : a ≡ On q) where
+    module _ (q : Progress) (Z : ClosingTaken g x ac t sc closed taken p (Ok q) t' sc' closed') where
       pub closed-table : Closes g x index targets t sc ac closed marks p taken → Table index targets t' sc' (taken.path + 1)
       closed-table P =
           table-by P.input P.vertices P.edges P.branches P.closings P.queue P.order P.state P.all Z.evidence q
-          (evidence P.input P.vertices P.edges P.branches P.closings P.queue P.order P.state P.all) (subst By e Z.by)
+          (evidence P.input P.vertices P.edges P.branches P.closings P.queue P.order P.state P.all (Ok q) Z) Z.by
 
-      pub closed_on : (marks' : List ℕ) → Struck index marks (edges index targets t' taken.path) marks' → ClosedAt g x index targets t sc ac closed marks p taken (On q) t' sc' closed' marks'
+      pub closed_on : (marks' : List ℕ) → Struck index marks (edges index targets t' taken.path) marks' → ClosedAt g x index targets t sc ac closed marks p taken (Ok q) t' sc' closed' marks'
       closed_on marks' z =
-          record {
-            is = λ f vs es bs cl queue order s C.
-                on-by f vs es bs cl queue order s C Z.evidence q (evidence f vs es bs cl queue order s C) (subst By e Z.by) marks' z;
-          }
+          record { is = λ f vs es bs cl queue order s C. on-by f vs es bs cl queue order s C Z.evidence q (evidence f vs es bs cl queue order s C (Ok q) Z) Z.by marks' z }
 
 -- ---- for callers: the step comes after a tree has joined, or has not
 module _ (f : SearchInput) (g : Setting) (vs es x index targets : List ℕ) (bs : ℕ → List Branches) (cl : ℕ → ℕ) (t : List ℕ) (sc : List Float) (ac queue closed order marks : List ℕ) (p : Progress) (s : State Float)

@@ -1,12 +1,7 @@
 -- A tree joins the path that was taken, over the stores (Rust: add_junction_tree).
-use Rattle.std.specs.Prelude.{◌≡◌, ◌⊎◌, ◌≢◌, Bool, true, false, not, ℕ, ◌+◌, ◌-◌, ◌*◌, ◌<◌, ◌≤◌, eqb, length, set, Float}
-use Rattle.std.proofs.Math.Path.{refl, ap, subst}
-use Rattle.std.proofs.Common.{sym, ◌∙◌, inl, inr, eq-eqb, ne_eqb}
-use mathlib.Core.List.{List, [], ◌∷◌, ◌++◌}
+use Rattle.std.specs.Prelude.{◌≡◌, ◌⊎◌, ◌≢◌, Bool, true, false, not, Option, Some, None, Result, Ok, Err, ℕ, ◌+◌, ◌-◌, ◌*◌, ◌<◌, ◌≤◌, eqb, length, set, Float, refl, List, [], ◌∷◌, ◌++◌, get_or}
+use Rattle.std.proofs.Common.{ap, subst, sym, ◌∙◌, inl, inr, eq-eqb, ne_eqb, arith, length-set, get_or-set_same, get_or-set_other}
 use Rattle.std.proofs.Math.Decide.{ℕ_discrete}
-use native.Mathlib.Omega.{arith}
-use Rattle.std.proofs.Math.ListN.{get_or, length-set}
-use Rattle.std.proofs.Math.Seq.{get_or-set_same, get_or-set_other}
 use Rattle.laws.specs.Lists.{any}
 use Rattle.laws.specs.ListLaws.{All, nil, cons, all_append}
 use Rattle.laws.specs.Records.{row_step, place-row}
@@ -19,8 +14,8 @@ use Rattle.threading_node.specs.Slots.{cols, Slot}
 use Rattle.threading_node.specs.Take.{wide-slot}
 use Rattle.threading_tree.specs.Read.{leads-has}
 use Rattle.path_store.specs.declared.records.PathRecord.{PathRecord}
-use Rattle.path_growth.specs.declared.PathAnswer.{PathAnswer}
-use Rattle.path_growth.specs.declared.PathAnswer.TheVariants.{Made, Refused}
+use Rattle.refusals.specs.declared.Refusal.{Refusal}
+use Rattle.refusals.specs.Numbers.{number}
 use Rattle.path_growth.specs.declared.Taken.{Taken}
 use Rattle.path_store.specs.Steps.{after-low}
 use Rattle.path_store.specs.Cells.{joined_of, trees_of, score_of, Inside, path_at, put_cells, put_other, put-trees}
@@ -33,7 +28,7 @@ use Rattle.path_growth.specs.Held.{held-joined, following-joined, joined-view, j
 use Rattle.path_growth.specs.Held as held
 use Rattle.path_growth.specs.Grow as grow
 use Rattle.fork_offers.specs.Actives.{Actives, actives-kept, actives-join, actives-many}
-use Rattle.search_state.specs.declared.Setting.{Setting}
+use Rattle.search_state.specs.Settings.{Setting}
 use Rattle.search_state.specs.Ground.{name_of, TreeIn, Ground}
 use Rattle.search_state.specs.State.{path_of, Records, Kept}
 
@@ -68,41 +63,26 @@ pub record Joined (f : SearchInput) (g : Setting) (es x index targets : List ℕ
   pub following : Following index targets t' taken.path taken
   pub same : (q : ℕ) → q ≢ taken.path → branches q ≡ bs q
 
-abbrev pub JoinedBy : SearchInput → Setting → List ℕ → List ℕ → List ℕ → List ℕ → (ℕ → List Branches) → List ℕ → List Float → ℕ → Taken → PathAnswer → List ℕ → List Float → List ℕ → Type 0
-JoinedBy f g es x index targets bs t sc n taken (Made m) t' sc' ac' = Joined f g es x index targets bs t sc n taken t' sc' ac'
-JoinedBy f g es x index targets bs t sc n taken (Refused k) t' sc' ac' = join_tree f taken.vertex (path_of f es index targets bs t sc taken.path) ≡ refused k
+abbrev pub JoinedBy : SearchInput → Setting → List ℕ → List ℕ → List ℕ → List ℕ → (ℕ → List Branches) → List ℕ → List Float → ℕ → Taken → Result ℕ Refusal → List ℕ → List Float → List ℕ → Type 0
+JoinedBy f g es x index targets bs t sc n taken (Ok m) t' sc' ac' = Joined f g es x index targets bs t sc n taken t' sc' ac'
+JoinedBy f g es x index targets bs t sc n taken (Err e) t' sc' ac' = join_tree f taken.vertex (path_of f es index targets bs t sc taken.path) ≡ refused (number e)
 
 -- by the answer, for every search whose stores these are
-pub record TreeAdded (g : Setting) (vs x index targets t : List ℕ) (sc : List Float) (ac : List ℕ) (taken : Taken) (r : PathAnswer) (t' : List ℕ) (sc' : List Float) (ac' : List ℕ) : Type 0 where
+pub record TreeAdded (g : Setting) (vs x index targets t : List ℕ) (sc : List Float) (ac : List ℕ) (taken : Taken) (r : Result ℕ Refusal) (t' : List ℕ) (sc' : List Float) (ac' : List ℕ) : Type 0 where
   pub is : (f : SearchInput) (es : List ℕ) (bs : ℕ → List Branches) (n : ℕ) → Joining f g vs es x index targets bs t sc ac n taken
       → JoinedBy f g es x index targets bs t sc n taken r t' sc' ac'
 
 -- ---- the tree at a vertex
 
--- r is the slot of the root of v's tree where that has a branch, else 0
-pub record Rooted (vs x : List ℕ) (v r : ℕ) : Type 0 where
-  pub none : r ≡ 0 → (tree_root vs v ≡ 0) ⊎ ((tree_root vs v ≡ 0 → ⊥) × ((cols x).kid (tree_root vs v) ≡ 0))
-  pub some : (r ≡ 0 → ⊥) → (r ≡ tree_root vs v) × ((cols x).kid (tree_root vs v) ≡ 0 → ⊥)
+-- the slot of the root of v's tree where that has a branch, else none
+abbrev pub Rooted : List ℕ → List ℕ → ℕ → Option ℕ → Type 0
+Rooted vs x v None = (tree_root vs v ≡ 0) ⊎ ((tree_root vs v ≡ 0 → ⊥) × ((cols x).kid (tree_root vs v) ≡ 0))
+Rooted vs x v (Some s) = (s ≡ tree_root vs v) × ((s ≡ 0 → ⊥) × ((cols x).kid (tree_root vs v) ≡ 0 → ⊥))
 
 -- what the code asks of the tables at v
 pub record Rootable (vs x : List ℕ) (v : ℕ) : Type 0 where
   pub inside : HasVertex vs v
   pub slot : (tree_root vs v ≡ 0 → ⊥) → Slot (tree_root vs v) x
-
-module _ (vs x : List ℕ) (v s : ℕ) (e : s ≡ tree_root vs v) where
-  pub rooted_none : s ≡ 0 → Rooted vs x v 0
-  rooted_none z = record { none = λ _. inl (sym e ∙ z); some = λ h. absurd (h refl) }
-
-  module _ (ne : s ≡ 0 → ⊥) where
-    pub rooted-slot : Rootable vs x v → Slot s x
-    rooted-slot p = let q = p.slot (λ z. ne (e ∙ z)) in subst (λ (d : ℕ). Slot d x) (sym e) q
-
-    module _ (k : ℕ) (h : k ≡ (cols x).kid s) where
-      pub rooted-bare : k ≡ 0 → Rooted vs x v 0
-      rooted-bare z = record { none = λ _. inr ((λ y. ne (e ∙ y)), ap (λ (d : ℕ). (cols x).kid d) (sym e) ∙ sym h ∙ z); some = λ y. absurd (y refl) }
-
-      pub rooted-some : (k ≡ 0 → ⊥) → Rooted vs x v s
-      rooted-some z = record { none = λ y. absurd (ne y); some = λ _. (e, (λ y. z (h ∙ ap (λ (d : ℕ). (cols x).kid d) e ∙ y))) }
 
 -- ---- the stores at a taken path
 module _ (f : SearchInput) (g : Setting) (vs es x index targets : List ℕ) (bs : ℕ → List Branches) (t : List ℕ) (sc : List Float) (ac : List ℕ) (n : ℕ) (taken : Taken) (J : Joining f g vs es x index targets bs t sc ac n taken) where
@@ -151,8 +131,8 @@ module _ (f : SearchInput) (g : Setting) (vs es x index targets : List ℕ) (bs 
         same = λ q d. refl;
       }
 
-  pub joined-none : Rooted vs x taken.vertex 0 → Joined f g es x index targets bs t sc n taken t sc ac
-  joined-none k = go (k.none refl)
+  pub joined-none : Rooted vs x taken.vertex None → Joined f g es x index targets bs t sc n taken t sc ac
+  joined-none k = go k
     where
       go : (tree_root vs v ≡ 0) ⊎ ((tree_root vs v ≡ 0 → ⊥) × ((cols x).kid (tree_root vs v) ≡ 0)) → Joined f g es x index targets bs t sc n taken t sc ac
       go (inl z) = left (join-none index targets t sc n r v T J.known f (name_of es) (bs r) (J.on_ground.no-tree v joining-vertex z))
@@ -162,15 +142,15 @@ module _ (f : SearchInput) (g : Setting) (vs es x index targets : List ℕ) (bs 
           left (join-bare index targets t sc n r v T J.known f (name_of es) (bs r) w.below w.is h)
 
   -- ---- a tree that has a branch, in the slot s
-  module _ (s : ℕ) (k : Rooted vs x taken.vertex s) (ne : s ≡ 0 → ⊥) where
+  module _ (s : ℕ) (k : Rooted vs x taken.vertex (Some s)) where
     at-root : s ≡ tree_root vs v
-    at-root = (k.some ne).0
+    at-root = k.0
 
     tree : TreeIn f x g.nodes (tree_root vs v) v
-    tree = J.on_ground.tree v joining-vertex (λ z. ne (at-root ∙ z))
+    tree = J.on_ground.tree v joining-vertex (λ z. k.1.0 (at-root ∙ z))
 
     has : has_branch tree.below ≡ true
-    has = leads-has g.nodes x _ tree.below tree.leads ∙ ap not (ne_eqb _ 0 (k.some ne).1)
+    has = leads-has g.nodes x _ tree.below tree.leads ∙ ap not (ne_eqb _ 0 k.1.1)
 
     seen-is : any (eqb v) (seen index targets 0 t r) ≡ any (eqb v) (visited (has_tree f) index targets f.source t r)
     seen-is =
@@ -320,8 +300,8 @@ module _ (f : SearchInput) (g : Setting) (vs es x index targets : List ℕ) (bs 
 -- ---- what the code asks and says, by what it has read
 module _ (g : Setting) (vs x index targets t : List ℕ) (sc : List Float) (ac : List ℕ) (taken : Taken) where
   module _ (P : Joins g vs x index targets t sc ac taken) where
-    pub joins-rootable : (w : ℕ) → w ≡ taken.vertex → Rootable vs x w
-    joins-rootable w e = subst (λ (d : ℕ). Rootable vs x d) (sym e) (joining-rootable P.input g vs P.edges x index targets P.branches t sc ac P.count taken P.all)
+    pub joins-rootable : Rootable vs x taken.vertex
+    joins-rootable = joining-rootable P.input g vs P.edges x index targets P.branches t sc ac P.count taken P.all
 
     pub joins-table : Table index targets t sc (taken.path + 1)
     joins-table = joining-table P.input g vs P.edges x index targets P.branches t sc ac P.count taken P.all
@@ -329,40 +309,33 @@ module _ (g : Setting) (vs x index targets t : List ℕ) (sc : List Float) (ac :
     pub joins-inside : Inside t sc taken.path
     joins-inside = joining-inside P.input g vs P.edges x index targets P.branches t sc ac P.count taken P.all
 
-    pub joins-path : taken.path + 1 < 4294967296
-    joins-path = let a = P.all.known in let b = P.all.few in omega arith
-
     pub joins-vertex : taken.vertex + 1 < 4294967296
     joins-vertex = let a = joining-vertex P.input g vs P.edges x index targets P.branches t sc ac P.count taken P.all in let b = P.all.on_ground.few in omega arith
 
     pub joins-active : g.active ≤ 64
     joins-active = P.all.on_ground.active-fits
 
-  module _ (w : ℕ) (e : w ≡ taken.vertex) (s : ℕ) (k : Rooted vs x w s) where
-    here : Rooted vs x taken.vertex s
-    here = subst (λ (d : ℕ). Rooted vs x d s) e k
+  pub added_none : (m : ℕ) → Rooted vs x taken.vertex None → TreeAdded g vs x index targets t sc ac taken (Ok m) t sc ac
+  added_none m k = record { is = λ f es bs n J. joined-none f g vs es x index targets bs t sc ac n taken J k }
 
-    pub added_none : (m : ℕ) → s ≡ 0 → TreeAdded g vs x index targets t sc ac taken (Made m) t sc ac
-    added_none m z = record { is = λ f es bs n J. joined-none f g vs es x index targets bs t sc ac n taken J (subst (λ (d : ℕ). Rooted vs x taken.vertex d) z here) }
+  module _ (s : ℕ) (k : Rooted vs x taken.vertex (Some s)) where
+    module _ (b : Bool) (h : b ≡ any (eqb taken.vertex) (seen index targets 0 t taken.path)) where
+      pub added-had : (m : ℕ) → b ≡ true → TreeAdded g vs x index targets t sc ac taken (Ok m) t sc ac
+      added-had m z = record { is = λ f es bs n J. joined-had f g vs es x index targets bs t sc ac n taken J s k (sym z ∙ h) }
 
-    module _ (ne : s ≡ 0 → ⊥) (b : Bool) (h : b ≡ any (eqb taken.vertex) (seen index targets 0 t taken.path)) where
-      pub added-had : (m : ℕ) → b ≡ true → TreeAdded g vs x index targets t sc ac taken (Made m) t sc ac
-      added-had m z = record { is = λ f es bs n J. joined-had f g vs es x index targets bs t sc ac n taken J s here ne (sym z ∙ h) }
-
-      module _ (z : b ≡ false) (most : ℕ) (me : most ≡ g.active) (r : PathAnswer) (t' : List ℕ) (sc' : List Float) (j : grow.Joined t sc taken.path taken.vertex most r t' sc') where
-        pub added-over : (i : ℕ) → r ≡ Refused i → TreeAdded g vs x index targets t sc ac taken r t' sc' ac
-        added-over i y =
-            let a = held.joined-refused t sc taken.path taken.vertex most t' sc' i (subst (λ (d : PathAnswer). grow.Joined t sc taken.path taken.vertex most d t' sc') y j) in
-            rw y
-            (record {
+      module _ (z : b ≡ false) (most : ℕ) (me : most ≡ g.active) (t' : List ℕ) (sc' : List Float) where
+        pub added-over : (i : Refusal) → grow.Joined t sc taken.path taken.vertex most (Err i) t' sc' → TreeAdded g vs x index targets t sc ac taken (Err i) t' sc' ac
+        added-over i j =
+            let a = held.joined-refused t sc taken.path taken.vertex most t' sc' i j in
+            record {
               is = λ f es bs n J.
-                  joined-over f g vs es x index targets bs t sc ac n taken J s here ne (sym z ∙ h) (let q = a.1 in omega arith)
+                  joined-over f g vs es x index targets bs t sc ac n taken J s k (sym z ∙ h) (let q = a.1 in omega arith)
                   ∙ ap (λ (d : ℕ). refused d) (sym a.0.number);
-            })
+            }
 
-        module _ (m : ℕ) (y : r ≡ Made m) where
+        module _ (m : ℕ) (j : grow.Joined t sc taken.path taken.vertex most (Ok m) t' sc') where
           put : held.Put t sc taken.path (joined_row (path_at t sc taken.path) taken.vertex) m t' sc' × (trees_of t taken.path < most)
-          put = held.joined_made t sc taken.path taken.vertex most t' sc' m (subst (λ (d : PathAnswer). grow.Joined t sc taken.path taken.vertex most d t' sc') y j)
+          put = held.joined_made t sc taken.path taken.vertex most t' sc' m j
 
           low : trees_of t taken.path < g.active
           low = let q = put.1 in omega arith
@@ -373,25 +346,17 @@ module _ (g : Setting) (vs x index targets t : List ℕ) (sc : List Float) (ac :
 
             pub added-place : Joins g vs x index targets t sc ac taken → taken.path * g.active + row.trees < length ac
             added-place P =
-                let a = joining-place P.input g vs P.edges x index targets P.branches t sc ac P.count taken P.all s here ne (sym z ∙ h) low in
+                let a = joining-place P.input g vs P.edges x index targets P.branches t sc ac P.count taken P.all s k (sym z ∙ h) low in
                 let b = trees in
                 omega arith
 
             pub added-small : Joins g vs x index targets t sc ac taken → s < 65536
-            added-small P = joining-small P.input g vs P.edges x index targets P.branches t sc ac P.count taken P.all s here ne
+            added-small P = joining-small P.input g vs P.edges x index targets P.branches t sc ac P.count taken P.all s k
 
-            pub added-made : (i : ℕ) (ac' : List ℕ) → ac' ≡ set ac (taken.path * g.active + row.trees) s → TreeAdded g vs x index targets t sc ac taken (Made i) t' sc' ac'
+            pub added-made : (i : ℕ) (ac' : List ℕ) → ac' ≡ set ac (taken.path * g.active + row.trees) s → TreeAdded g vs x index targets t sc ac taken (Ok i) t' sc' ac'
             added-made i ac' q =
                 record {
                   is = λ f es bs n J.
-                      joined_made f g vs es x index targets bs t sc ac n taken J s here ne (sym z ∙ h) low t' sc' ac' put.0.cells put.0.scores
+                      joined_made f g vs es x index targets bs t sc ac n taken J s k (sym z ∙ h) low t' sc' ac' put.0.cells put.0.scores
                       (q ∙ ap (λ (d : ℕ). set ac (taken.path * g.active + d) s) trees);
                 }
-
--- ---- the place of a slot, by the numbers that the code has read
-module _ (path most trees len w k : ℕ) (a : w ≡ path) (b : k ≡ trees) (h : path * most + trees < len) where
-  pub stored-place : w * most + k < len
-  stored-place = rw (a, b) h
-
-  pub stored_row : w * most < len
-  stored_row = let q = stored-place in omega arith

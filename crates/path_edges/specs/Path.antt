@@ -1,14 +1,12 @@
 -- The edges of a path, read off its record and those above it; what holds of a table of records; and the walks up the parents.
-use Rattle.std.specs.Prelude.{◌≡◌, ◌⊎◌, cond, List, [], ◌∷◌, ◌++◌, eqb, length, get_or, set, Float}
-use Rattle.std.proofs.Math.Path.{refl, ap}
-use Rattle.std.proofs.Common.{sym, ◌∙◌, inl, inr, arith, length-append}
-use Prim.Native.Nat.{ℕ, zero, suc, ◌+◌, ◌-◌, ◌*◌, ◌<◌, ◌≤◌}
+use Rattle.std.specs.Prelude.{◌≡◌, ◌⊎◌, cond, Option, option_to_list, List, [], ◌∷◌, ◌++◌, eqb, length, get_or, Float}
+use Rattle.std.proofs.Common.{sym, ◌∙◌, inl, inr, arith, length-append, refl, ap, ℕ, zero, suc, ◌+◌, ◌-◌, ◌*◌, ◌<◌, ◌≤◌}
 use Rattle.std.proofs.lemmas.List.Edits.{sets}
 use Rattle.std.proofs.Math.Seq.{length-sets}
 use Rattle.laws.specs.Records.{field}
 use Rattle.laws.specs.Stores.{sets-append, sets-back}
-use Rattle.path_store.specs.Cells.{parent_of, chain_of, edge_of, count_of, end_of, fork_of, Inside}
-use Rattle.path_store.specs.Walk.{end_from, times, hits, run, after, Runs, Graph, run_length, end-run, end-append, end-one, end-nil, times-append, times-step, times-le, hits-nil, hits-le, hits-step, hits-append}
+use Rattle.path_store.specs.Cells.{numbered, parent_of, chain_of, edge_of, count_of, end_of, fork_of, Inside}
+use Rattle.path_store.specs.Walk.{end_from, times, hits, run, after, Runs, Graph, run_length, end-run, end-append, end-one, end-nil, times-append, times-step, times-le, hits-nil, hits-le, hits-append}
 
 -- ---- what a record adds to its parent, whose last vertex is u: c edges of the chain, and the last edge where there is one
 
@@ -75,17 +73,10 @@ pub last-short : (l : ℕ) → length (last_edge l) ≤ 1
 last-short zero = omega arith
 last-short (suc l) = omega arith
 
-pub last_one : (l : ℕ) → (l ≡ 0 → ⊥) → 1 ≡ length (last_edge l)
-last_one l h = ap (λ x. length x) (sym (last_edge-is l (omega arith)))
-
-pub last_none : (targets : List ℕ) (l v : ℕ) → l ≡ 0 → 0 ≡ hits targets v (last_edge l)
-last_none targets l v h = rw h (sym (hits-nil targets v))
-
-pub last_some : (targets : List ℕ) (l v d : ℕ) → (l ≡ 0 → ⊥) → d ≡ cond (eqb v (get_or targets (l - 1) 0)) 1 0 → d ≡ hits targets v (last_edge l)
-last_some targets l v d h e = omega (arith, ap (λ x. hits targets v x) (last_edge-is l (omega arith)), hits-step targets v (l - 1) [], hits-nil targets v)
-
-pub write-last : (out : List ℕ) (at l : ℕ) → 0 < l → set out at (l - 1) ≡ sets out at (last_edge l)
-write-last out at l h = ap (λ es. sets out at es) (sym (last_edge-is l h))
+-- a last edge as the code takes it
+pub last-listed : (l : ℕ) (e : Option ℕ) → e ≡ numbered l → option_to_list e ≡ last_edge l
+last-listed zero e h = rw h
+last-listed (suc l) e h = rw h
 
 pub piece_is : (index targets : List ℕ) (u c l : ℕ) → piece index targets u c l ≡ run index targets u c ++ last_edge l
 unfolding piece
@@ -220,9 +211,6 @@ module _ (index targets t : List ℕ) (sc : List Float) (r : ℕ) (P : Piece ind
   pub read-runs : Runs index targets u c
   read-runs = rw (U, C, F) P.runs
 
-  pub read-last : l ≤ length targets
-  read-last = omega (arith, P.last)
-
   pub read-hits : (v a b : ℕ) → a ≡ hits targets v (run index targets u c) → b ≡ hits targets v (last_edge l) → a + b ≡ hits targets v (piece_of index targets t r)
   read-hits v a b h k = omega (arith, piece-hits index targets u c l v, ap (λ x. hits targets v x) read)
 
@@ -243,100 +231,86 @@ module _ (index targets t : List ℕ) (sc : List Float) (r : ℕ) (P : Piece ind
       ∙ ap (λ x. sets out (at + x) (piece_of index targets t r)) (read-place k a)
 
 -- ---- count_in_path
-pub record Upward (index targets : List ℕ) (source : ℕ) (t : List ℕ) (n path v r p k : ℕ) : Type 0 where
+pub record Upward (index targets : List ℕ) (source : ℕ) (t : List ℕ) (n path v r k : ℕ) : Type 0 where
   pub low : r < n
-  pub par : p ≡ parent_of t r
   pub is : k + times targets source v (edges index targets t r) ≡ times targets source v (edges index targets t path)
 
 module _ (index targets : List ℕ) (source : ℕ) (t : List ℕ) (sc : List Float) (n : ℕ) (T : Table index targets t sc n) where
-  pub upward-start : (path v p : ℕ) → path < n → p ≡ parent_of t path → Upward index targets source t n path v path p 0
-  upward-start path v p l e = record { low = l; par = e; is = omega arith }
+  pub upward-start : (path v : ℕ) → path < n → Upward index targets source t n path v path 0
+  upward-start path v l = record { low = l; is = omega arith }
 
-  module _ (path v r p k : ℕ) (l₀ : path < n) (U : Upward index targets source t n path v r p k) where
-    pub upward-piece : 0 < p → Piece index targets t sc r
-    upward-piece h = piece-at index targets t sc n T r U.low (rw U.par at h)
+  module _ (path v r k : ℕ) (l₀ : path < n) (U : Upward index targets source t n path v r k) where
+    module _ (p : ℕ) (h : parent_of t r ≡ suc p) where
+      pub upward-low : (p < r) × (p < n)
+      upward-low = omega (arith, U.low, (T.rows r U.low).rises)
 
-    pub upward-low : 0 < p → p - 1 < n
-    upward-low h = omega (arith, U.par, U.low, (T.rows r U.low).rises)
+      more : times targets source v (edges index targets t r) ≡ times targets source v (edges index targets t p) + hits targets v (piece_of index targets t r)
+      more =
+          let e : parent_of t r - 1 ≡ p = omega arith in
+          ap (λ es. times targets source v es) (edges-up index targets t sc n T r U.low (omega arith))
+          ∙ times-append targets source v (edges index targets t (parent_of t r - 1)) (piece_of index targets t r)
+          ∙ ap (λ x. times targets source v (edges index targets t x) + hits targets v (piece_of index targets t r)) e
 
-    pub upward-inside : 0 < p → Inside t sc (p - 1)
-    upward-inside h = inside index targets t sc n T (p - 1) (upward-low h)
+      pub upward-fits : (d : ℕ) → d ≡ hits targets v (piece_of index targets t r) → k + d ≤ count_of t path + 1
+      upward-fits d e = omega (arith, U.is, more, times-le targets source v (edges index targets t path), (T.rows path l₀).count)
 
-    more : 0 < p → times targets source v (edges index targets t r) ≡ times targets source v (edges index targets t (p - 1)) + hits targets v (piece_of index targets t r)
-    more h =
-        let e : parent_of t r ≡ p = sym U.par in
-        ap (λ es. times targets source v es) (edges-up index targets t sc n T r U.low (rw U.par at h))
-        ∙ times-append targets source v (edges index targets t (parent_of t r - 1)) (piece_of index targets t r)
-        ∙ ap (λ x. times targets source v (edges index targets t (x - 1)) + hits targets v (piece_of index targets t r)) e
+      pub upward-next : (d : ℕ) → d ≡ hits targets v (piece_of index targets t r) → Upward index targets source t n path v p (k + d)
+      upward-next d e = record { low = upward-low.1; is = omega (arith, U.is, more) }
 
-    pub upward-fits : (d : ℕ) → 0 < p → d ≡ hits targets v (piece_of index targets t r) → k + d ≤ count_of t path + 1
-    upward-fits d h e = omega (arith, U.is, more h, times-le targets source v (edges index targets t path), (T.rows path l₀).count)
-
-    pub upward-next : (d q : ℕ) → 0 < p → d ≡ hits targets v (piece_of index targets t r) → q ≡ parent_of t (p - 1)
-        → Upward index targets source t n path v (p - 1) q (k + d)
-    upward-next d q h e f = record { low = upward-low h; par = f; is = omega (arith, U.is, more h) }
-
-    at-start : p ≤ 0 → times targets source v (edges index targets t r) ≡ cond (eqb v source) 1 0
+    at-start : parent_of t r ≡ 0 → times targets source v (edges index targets t r) ≡ cond (eqb v source) 1 0
     at-start h =
-        ap (λ es. times targets source v es) (edges_none index targets t r (sym U.par ∙ omega arith)) ∙ times-step targets source v [] ∙ omega (arith, hits-nil targets v)
+        ap (λ es. times targets source v es) (edges_none index targets t r h) ∙ times-step targets source v [] ∙ omega (arith, hits-nil targets v)
 
-    pub upward-end-fits : (d : ℕ) → p ≤ 0 → d ≡ cond (eqb v source) 1 0 → k + d ≤ count_of t path + 1
+    pub upward-end-fits : (d : ℕ) → parent_of t r ≡ 0 → d ≡ cond (eqb v source) 1 0 → k + d ≤ count_of t path + 1
     upward-end-fits d h e = omega (arith, U.is, at-start h, times-le targets source v (edges index targets t path), (T.rows path l₀).count)
 
-    pub upward-end : (d : ℕ) → p ≤ 0 → d ≡ cond (eqb v source) 1 0 → k + d ≡ times targets source v (edges index targets t path)
+    pub upward-end : (d : ℕ) → parent_of t r ≡ 0 → d ≡ cond (eqb v source) 1 0 → k + d ≡ times targets source v (edges index targets t path)
     upward-end d h e = omega (arith, U.is, at-start h)
 
 -- ---- write_path: filled from the back
-pub record Filling (index targets t : List ℕ) (n path : ℕ) (out₀ : List ℕ) (at : ℕ) (out : List ℕ) (r p : ℕ) : Type 0 where
+pub record Filling (index targets t : List ℕ) (n path : ℕ) (out₀ : List ℕ) (at : ℕ) (out : List ℕ) (r : ℕ) : Type 0 where
   pub size : length out ≡ length out₀
   pub low : r < n
-  pub par : p ≡ parent_of t r
   pub room : at + length (edges index targets t r) ≤ length out₀
   pub is : sets out at (edges index targets t r) ≡ sets out₀ at (edges index targets t path)
 
 module _ (index targets t : List ℕ) (sc : List Float) (n : ℕ) (T : Table index targets t sc n) where
-  pub filling-start : (path p : ℕ) (out : List ℕ) (at : ℕ) → path < n → at + count_of t path ≤ length out → p ≡ parent_of t path
-      → Filling index targets t n path out at out path p
-  filling-start path p out at l h e = record { size = refl; low = l; par = e; room = omega (arith, (T.rows path l).count); is = refl }
+  module _ (path : ℕ) (out₀ : List ℕ) (at : ℕ) (out : List ℕ) (r : ℕ) (U : Filling index targets t n path out₀ at out r) where
+    module _ (p : ℕ) (h : parent_of t r ≡ suc p) where
+      pub filling-piece : Piece index targets t sc r
+      filling-piece = piece-at index targets t sc n T r U.low (omega arith)
 
-  module _ (path : ℕ) (out₀ : List ℕ) (at : ℕ) (out : List ℕ) (r p : ℕ) (U : Filling index targets t n path out₀ at out r p) where
-    pub filling-piece : 0 < p → Piece index targets t sc r
-    filling-piece h = piece-at index targets t sc n T r U.low (rw U.par at h)
+      pub filling-low : (p < r) × (p < n)
+      filling-low = omega (arith, U.low, (T.rows r U.low).rises)
 
-    pub filling-low : 0 < p → p - 1 < n
-    filling-low h = omega (arith, U.par, U.low, (T.rows r U.low).rises)
+      before : parent_of t r - 1 ≡ p
+      before = omega arith
 
-    pub filling-inside : 0 < p → Inside t sc (p - 1)
-    filling-inside h = inside index targets t sc n T (p - 1) (filling-low h)
+      up : edges index targets t r ≡ edges index targets t p ++ piece_of index targets t r
+      up = edges-up index targets t sc n T r U.low (omega arith) ∙ ap (λ x. edges index targets t x ++ piece_of index targets t r) before
 
-    up : 0 < p → edges index targets t r ≡ edges index targets t (p - 1) ++ piece_of index targets t r
-    up h =
-        let e : parent_of t r ≡ p = sym U.par in
-        edges-up index targets t sc n T r U.low (rw U.par at h) ∙ ap (λ x. edges index targets t (x - 1) ++ piece_of index targets t r) e
+      sum : length (edges index targets t r) ≡ length (edges index targets t p) + length (piece_of index targets t r)
+      sum = ap (λ es. length es) up ∙ length-append (edges index targets t p) (piece_of index targets t r)
 
-    sum : 0 < p → length (edges index targets t r) ≡ length (edges index targets t (p - 1)) + length (piece_of index targets t r)
-    sum h = ap (λ es. length es) (up h) ∙ length-append (edges index targets t (p - 1)) (piece_of index targets t r)
+      place : count_of t (parent_of t r - 1) ≡ length (edges index targets t p)
+      place = ap (λ x. count_of t x) before ∙ (T.rows p filling-low.1).count
 
-    place : 0 < p → count_of t (parent_of t r - 1) ≡ length (edges index targets t (p - 1))
-    place h = ap (λ x. count_of t (x - 1)) (sym U.par) ∙ (T.rows (p - 1) (filling-low h)).count
+      pub filling-room : at + count_of t (parent_of t r - 1) + length (piece_of index targets t r) ≤ length out
+      filling-room = omega (arith, place, U.room, U.size, sum)
 
-    pub filling-room : 0 < p → at + count_of t (parent_of t r - 1) + length (piece_of index targets t r) ≤ length out
-    filling-room h = omega (arith, place h, U.room, U.size, sum h)
+      pub filling-next : (out' : List ℕ) → out' ≡ sets out (at + count_of t (parent_of t r - 1)) (piece_of index targets t r)
+          → Filling index targets t n path out₀ at out' p
+      filling-next out' e =
+          record {
+            size = ap (λ x. length x) e ∙ length-sets out (at + count_of t (parent_of t r - 1)) (piece_of index targets t r) ∙ U.size;
+            low = filling-low.1;
+            room = omega (arith, U.room, sum);
+            is =
+                ap (λ x. sets x at (edges index targets t p)) (e ∙ ap (λ x. sets out (at + x) (piece_of index targets t r)) place)
+                ∙ sets-back out at (edges index targets t p) (piece_of index targets t r)
+                ∙ ap (λ x. sets out at x) (sym up)
+                ∙ U.is;
+          }
 
-    pub filling-next : (q : ℕ) (out' : List ℕ) → 0 < p → out' ≡ sets out (at + count_of t (parent_of t r - 1)) (piece_of index targets t r)
-        → q ≡ parent_of t (p - 1) → Filling index targets t n path out₀ at out' (p - 1) q
-    filling-next q out' h e f =
-        record {
-          size = ap (λ x. length x) e ∙ length-sets out (at + count_of t (parent_of t r - 1)) (piece_of index targets t r) ∙ U.size;
-          low = filling-low h;
-          par = f;
-          room = omega (arith, U.room, sum h);
-          is =
-              ap (λ x. sets x at (edges index targets t (p - 1))) (e ∙ ap (λ x. sets out (at + x) (piece_of index targets t r)) (place h))
-              ∙ sets-back out at (edges index targets t (p - 1)) (piece_of index targets t r)
-              ∙ ap (λ x. sets out at x) (sym (up h))
-              ∙ U.is;
-        }
-
-    pub filling-end : p ≤ 0 → out ≡ sets out₀ at (edges index targets t path)
-    filling-end h = ap (λ es. sets out at es) (sym (edges_none index targets t r (sym U.par ∙ omega arith))) ∙ U.is
+    pub filling-end : parent_of t r ≡ 0 → out ≡ sets out₀ at (edges index targets t path)
+    filling-end h = ap (λ es. sets out at es) (sym (edges_none index targets t r h)) ∙ U.is

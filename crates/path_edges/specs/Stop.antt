@@ -1,9 +1,6 @@
 -- A vertex where chains stop stands in a chain nowhere but at its end, so that a path's visits to it are counted without walking its chains.
 use Rattle.std.specs.Prelude.{◌≡◌, Bool, true, false, cond, eqb, get_or, Float}
-use Rattle.std.proofs.Math.Path.{refl, sym, ap}
-use Rattle.std.proofs.Common.{◌∙◌, arith, ne_eqb, eqb-true}
-use mathlib.Core.List.{List, []}
-use Prim.Native.Nat.{ℕ, zero, suc, ◌+◌, ◌-◌, ◌<◌, ◌≤◌}
+use Rattle.std.proofs.Common.{◌∙◌, arith, ne_eqb, refl, sym, ap, List, [], ℕ, zero, suc, ◌+◌, ◌-◌, ◌<◌, ◌≤◌}
 use Rattle.path_store.specs.Walk.{hits, run, after, Runs, sole, next, hits-nil, hits-step, hits-le}
 use Rattle.path_store.specs.Cells.{parent_of, chain_of, edge_of, end_of, fork_of}
 use Rattle.path_edges.specs.Path.{last_edge, last-short, Piece, piece_of, piece-hits}
@@ -44,10 +41,6 @@ stop_is targets v t r c w l a b C W L A B = rw (A, B, C, W, L)
 
 pub stop-fits : (targets : List ℕ) (v c w l a b : ℕ) → a ≡ fork_hits v c w → b ≡ hits targets v (last_edge l) → a + b ≤ 2
 stop-fits targets v c w l a b A B = omega (arith, fork-most v c w, hits-le targets v (last_edge l), last-short l)
-
--- chains stop at v, by the number that the code has read
-pub stop-at : (index : List ℕ) (v i : ℕ) → i ≡ v → eqb (get_or index i 0) 0 ≡ true → get_or index v 0 ≡ 0
-stop-at index v i e h = ap (λ x. get_or index x 0) (sym e) ∙ eqb-true (get_or index i 0) 0 h
 
 module _ (index targets : List ℕ) (v : ℕ) (stop : get_or index v 0 ≡ 0) where
   -- a vertex that a chain goes on from is not v

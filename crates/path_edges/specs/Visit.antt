@@ -1,13 +1,11 @@
 -- The vertices whose trees a path has visited, read off the record and those above it. A record tells the tree that joined when its path was taken; a
 -- recovered path starts anew, with all its vertices that have a tree.
-use Rattle.std.specs.Prelude.{◌≡◌, ◌⊎◌, Bool, true, false, ◌||◌, List, [], ◌∷◌, map, eqb, ltb, leb, get_or, Float}
-use Rattle.std.proofs.Math.Path.{refl, sym, ap}
-use Rattle.std.proofs.Common.{◌∙◌, inl, inr, arith, eq-eqb, ne_eqb, eqb-true, lt-ltb}
-use Prim.Native.Nat.{ℕ, zero, suc, ◌+◌, ◌-◌, ◌<◌, ◌≤◌}
+use Rattle.std.specs.Prelude.{◌≡◌, ◌⊎◌, Option, Some, None, IfSome, Bool, true, false, ◌||◌, List, [], ◌∷◌, map, eqb, ltb, leb, get_or, Float}
+use Rattle.std.proofs.Common.{◌∙◌, inl, inr, arith, eq-eqb, ne_eqb, eqb-true, lt-ltb, refl, sym, ap, ℕ, zero, suc, ◌+◌, ◌-◌, ◌<◌, ◌≤◌}
 use Rattle.laws.specs.Lists.{any, keep, tally}
 use Rattle.laws.specs.BoolLaws.{Bool-cases, both_ways}
 use Rattle.path_store.specs.Walk.{times}
-use Rattle.path_store.specs.Cells.{parent_of, end_of, since_of, joined_of, recovered_of, Inside}
+use Rattle.path_store.specs.Cells.{numbered, parent_of, end_of, since_of, joined_of, recovered_of, Inside}
 use Rattle.path_edges.specs.Path.{edges, edges-same, Same, Table, table-front, inside, Nat-cases}
 
 -- the vertices of a path of these edges from the source
@@ -140,14 +138,14 @@ module _ (has_tree : ℕ → Bool) (index targets : List ℕ) (source : ℕ) (v 
   unfolding seen visited
   seen-visited t r = sym (seen_by t (suc r) r)
 
--- ---- has_visited: `up` is a record's number + 1, 0 above the start path
+-- ---- has_visited: `up` is a record, or none above the start path
 
-abbrev pub seen_up : List ℕ → List ℕ → ℕ → List ℕ → ℕ → List ℕ
-seen_up index targets source t zero = []
-seen_up index targets source t (suc r) = seen index targets source t r
+abbrev pub seen_up : List ℕ → List ℕ → ℕ → List ℕ → Option ℕ → List ℕ
+seen_up index targets source t None = []
+seen_up index targets source t (Some r) = seen index targets source t r
 
-pub record Visiting (index targets : List ℕ) (source : ℕ) (t : List ℕ) (path v up : ℕ) : Type 0 where
-  pub low : up ≤ path + 1
+pub record Visiting (index targets : List ℕ) (source : ℕ) (t : List ℕ) (path v : ℕ) (up : Option ℕ) : Type 0 where
+  pub low : IfSome up (λ r. r < path + 1)
   pub is : any (eqb v) (seen_up index targets source t up) ≡ any (eqb v) (seen index targets source t path)
 
 -- a vertex is among others where it stands there at least once
@@ -172,70 +170,67 @@ joined-miss v zero xs h = refl
 joined-miss v (suc w) xs h = rw (ne_eqb v w (λ e. h (omega arith)))
 
 module _ (index targets : List ℕ) (source : ℕ) (t : List ℕ) (sc : List Float) (path v : ℕ) (T : Table index targets t sc (path + 1)) where
-  pub visiting-start : Visiting index targets source t path v (path + 1)
-  visiting-start = let e : path + 1 ≡ suc path = omega arith in record { low = omega arith; is = rw e }
+  pub visiting-start : Visiting index targets source t path v (Some path)
+  visiting-start = record { low = omega arith; is = refl }
 
-  module _ (up : ℕ) (I : Visiting index targets source t path v up) where
-    pub visiting-inside : 0 < up → Inside t sc (up - 1)
-    visiting-inside h = inside index targets t sc (path + 1) T (up - 1) (omega (arith, I.low))
+  module _ (r : ℕ) (I : Visiting index targets source t path v (Some r)) where
+    pub visiting-inside : Inside t sc r
+    visiting-inside = inside index targets t sc (path + 1) T r I.low
 
-    pub visiting-table : 0 < up → Table index targets t sc (up - 1 + 1)
-    visiting-table h = table-front index targets t sc (path + 1) (up - 1 + 1) T (omega (arith, I.low))
+    pub visiting-table : Table index targets t sc (r + 1)
+    visiting-table = table-front index targets t sc (path + 1) (r + 1) T (omega (arith, I.low))
 
-    here : 0 < up → any (eqb v) (seen index targets source t (up - 1)) ≡ any (eqb v) (seen index targets source t path)
-    here h = go (Nat-cases up)
-      where
-        go : (up ≡ 0) ⊎ (up ≡ suc (up - 1)) → any (eqb v) (seen index targets source t (up - 1)) ≡ any (eqb v) (seen index targets source t path)
-        go (inl z) = absurd (omega arith)
-        go (inr z) = sym (ap (λ x. any (eqb v) (seen_up index targets source t x)) z) ∙ I.is
+    pub visiting-rises : parent_of t r ≤ r
+    visiting-rises = (T.rows r I.low).rises
 
     -- the record's list, whatever its kind, by what joined it
     rest : List ℕ
     rest =
-        elim (recovered_of t (up - 1)) [
-          | true ↦ keep every_one (vertices_of targets source (edges index targets t (up - 1)))
-          | false ↦ seen_up index targets source t (parent_of t (up - 1))
+        elim (recovered_of t r) [
+          | true ↦ keep every_one (vertices_of targets source (edges index targets t r))
+          | false ↦ seen_up index targets source t (numbered (parent_of t r))
         ]
 
-    by-rest : 0 < up → seen index targets source t (up - 1) ≡ joined_to (joined_of t (up - 1)) rest
+    by-rest : seen index targets source t r ≡ joined_to (joined_of t r) rest
     unfolding seen rest
-    by-rest h = go (Bool-cases (recovered_of t (up - 1))) (Nat-cases (parent_of t (up - 1)))
+    by-rest = go (Bool-cases (recovered_of t r)) (Nat-cases (parent_of t r))
       where
-        r : ℕ
-        r = up - 1
-
-        go : (recovered_of t (up - 1) ≡ true) ⊎ (recovered_of t (up - 1) ≡ false)
-            → (parent_of t (up - 1) ≡ 0) ⊎ (parent_of t (up - 1) ≡ suc (parent_of t (up - 1) - 1))
-            → visited every_one index targets source t (up - 1) ≡ joined_to (joined_of t (up - 1)) rest
-        go (inl m) c = visited-recovered every_one index targets source t (up - 1) m ∙ (rw (m, rest))
-        go (inr m) (inl c) = visited-start every_one index targets source t (up - 1) m c ∙ (rw (m, c, rest))
+        go : (recovered_of t r ≡ true) ⊎ (recovered_of t r ≡ false) → (parent_of t r ≡ 0) ⊎ (parent_of t r ≡ suc (parent_of t r - 1))
+            → visited every_one index targets source t r ≡ joined_to (joined_of t r) rest
+        go (inl m) c = visited-recovered every_one index targets source t r m ∙ (rw (m, rest))
+        go (inr m) (inl c) = visited-start every_one index targets source t r m c ∙ (rw (m, c, rest))
         go (inr m) (inr c) =
-            visited-next every_one index targets source t (path + 1) (up - 1) (parent_of t (up - 1) - 1) (λ i l. (T.rows i l).rises) (omega (arith, I.low)) m c
-            ∙ ap (λ x. joined_to (joined_of t (up - 1)) (seen_up index targets source t x)) (sym c)
+            visited-next every_one index targets source t (path + 1) r (parent_of t r - 1) (λ i l. (T.rows i l).rises) I.low m c
+            ∙ ap (λ x. joined_to (joined_of t r) (seen_up index targets source t (numbered x))) (sym c)
             ∙ (rw (m, rest))
 
-    pub visiting-hit : 0 < up → joined_of t (up - 1) ≡ v + 1 → true ≡ any (eqb v) (seen index targets source t path)
-    visiting-hit h j = sym (joined-hit v rest) ∙ ap (λ x. any (eqb v) (joined_to x rest)) (sym j) ∙ ap (λ x. any (eqb v) x) (sym (by-rest h)) ∙ here h
+    pub visiting-hit : joined_of t r ≡ v + 1 → true ≡ any (eqb v) (seen index targets source t path)
+    visiting-hit j = sym (joined-hit v rest) ∙ ap (λ x. any (eqb v) (joined_to x rest)) (sym j) ∙ ap (λ x. any (eqb v) x) (sym by-rest) ∙ I.is
 
-    past : 0 < up → (joined_of t (up - 1) ≡ v + 1 → ⊥) → any (eqb v) rest ≡ any (eqb v) (seen index targets source t path)
-    past h j = sym (joined-miss v (joined_of t (up - 1)) rest j) ∙ ap (λ x. any (eqb v) x) (sym (by-rest h)) ∙ here h
+    past : (joined_of t r ≡ v + 1 → ⊥) → any (eqb v) rest ≡ any (eqb v) (seen index targets source t path)
+    past j = sym (joined-miss v (joined_of t r) rest j) ∙ ap (λ x. any (eqb v) x) (sym by-rest) ∙ I.is
 
-    pub visiting-recovered : (k : ℕ) → 0 < up → (joined_of t (up - 1) ≡ v + 1 → ⊥) → recovered_of t (up - 1) ≡ true
-        → k ≡ times targets source v (edges index targets t (up - 1)) → ltb 0 k ≡ any (eqb v) (seen index targets source t path)
+    pub visiting-recovered : (k : ℕ) → (joined_of t r ≡ v + 1 → ⊥) → recovered_of t r ≡ true
+        → k ≡ times targets source v (edges index targets t r) → ltb 0 k ≡ any (eqb v) (seen index targets source t path)
     unfolding rest every_one
-    visiting-recovered k h j m e =
+    visiting-recovered k j m e =
         rw e
-        (times-any targets source v (edges index targets t (up - 1))
-        ∙ sym (any-keep every_one v refl (vertices_of targets source (edges index targets t (up - 1))))
-        ∙ (rw (m, rest) at (past h j)))
+        (times-any targets source v (edges index targets t r)
+        ∙ sym (any-keep every_one v refl (vertices_of targets source (edges index targets t r)))
+        ∙ (rw (m, rest) at (past j)))
 
-    pub visiting-next : 0 < up → (joined_of t (up - 1) ≡ v + 1 → ⊥) → recovered_of t (up - 1) ≡ false → Visiting index targets source t path v (parent_of t (up - 1))
+    pub visiting-next : (up : Option ℕ) → up ≡ numbered (parent_of t r) → (joined_of t r ≡ v + 1 → ⊥) → recovered_of t r ≡ false
+        → Visiting index targets source t path v up
     unfolding rest
-    visiting-next h j m =
-        record { low = omega (arith, I.low, (T.rows (up - 1) (omega (arith, I.low))).rises); is = rw (m, rest) at (past h j) }
+    visiting-next up u j m =
+        record { low = rw u (upper (parent_of t r) (omega (arith, I.low, visiting-rises))); is = rw u (rw (m, rest) at (past j)) }
+      where
+        upper : (p : ℕ) → p ≤ path + 1 → IfSome (numbered p) (λ x. x < path + 1)
+        upper zero h = tt
+        upper (suc p) h = omega arith
 
-    pub visiting-end : up ≤ 0 → false ≡ any (eqb v) (seen index targets source t path)
-    visiting-end h = let z : up ≡ 0 = omega arith in rw z at I.is
+  pub visiting-end : Visiting index targets source t path v None → false ≡ any (eqb v) (seen index targets source t path)
+  visiting-end I = I.is
 
 -- ---- the repeat rule: a path is kept if it has guidance, or its last vertex stands in it once
 

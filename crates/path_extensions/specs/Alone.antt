@@ -1,6 +1,6 @@
 -- The extension by the only edge that leaves a vertex.
-use Rattle.std.specs.Prelude.{◌≡◌, refl, Bool, true, false, not, ◌||◌, List, [], ◌∷◌, map, ℕ, ◌+◌, ◌*◌, ◌<◌, ◌≤◌, eqb, leb, length, Float}
-use Rattle.std.proofs.Common.{sym, ap, subst, ◌∙◌, arith, eq-eqb, ne_eqb}
+use Rattle.std.specs.Prelude.{Ok, Err, ◌≡◌, refl, Bool, true, false, not, ◌||◌, List, [], ◌∷◌, map, ℕ, ◌+◌, ◌*◌, ◌<◌, eqb, leb, length, Float}
+use Rattle.std.proofs.Common.{sym, ap, subst, ◌∙◌, arith}
 use Rattle.laws.specs.Lists.{is_empty}
 use Rattle.definition.specs.Refusal.{Result, ok, refused, and_then}
 use Rattle.definition.specs.Score.{Scoring}
@@ -10,34 +10,20 @@ use Rattle.definition.specs.Search as defs
 use Rattle.assembly.specs.Store.{edge_at}
 use Rattle.fork_offers.specs.Actives.{actives-many}
 use Rattle.path_growth.specs.declared.Taken.{Taken}
-use Rattle.path_store.specs.declared.records.PathRecord.{PathRecord}
 use Rattle.path_store.specs.Walk.{times}
-use Rattle.path_store.specs.Cells.{trees_of, score_of, path_at, Inside}
-use Rattle.path_edges.specs.Path.{Table, table-front, edges}
-use Rattle.path_edges.specs.Path as paths
+use Rattle.path_store.specs.Cells.{trees_of, score_of}
+use Rattle.path_edges.specs.Path.{edges}
 use Rattle.path_growth.specs.View.{times-view}
-use Rattle.search_state.specs.declared.Setting.{Setting}
+use Rattle.search_state.specs.Settings.{Setting}
 use Rattle.search_state.specs.Ground.{name_of}
 use Rattle.search_state.specs.State.{path_of}
-use Rattle.path_extensions.specs.declared.Extended.{Extended}
-use Rattle.path_extensions.specs.declared.Extended.TheVariants.{Made, Refused}
 use Rattle.path_extensions.specs.declared.Way.{Way}
 use Rattle.path_extensions.specs.Made.{Here, made_none}
-use Rattle.path_extensions.specs.One.{Run, Answers, Wanted, chain_of, Gives, Place, Stands, Lengthens, lengthened, empty-is}
+use Rattle.path_extensions.specs.One.{Extended, Run, Answers, Wanted, chain_of, Gives, Place, Stands, Lengthens, lengthened, empty-is}
 
 -- ---- whether the path goes on: it has an active tree, or the vertex stands in it at most once
 abbrev pub goes_on : List ℕ → List ℕ → List ℕ → ℕ → ℕ → Bool
 goes_on index targets t path v = not (eqb (trees_of t path) 0) || leb (times targets 0 v (edges index targets t path)) 1
-
-module _ (index targets t : List ℕ) (sc : List Float) (path : ℕ) (row : PathRecord) (hr : row ≡ path_at t sc path) where
-  trees-are : row.trees ≡ trees_of t path
-  trees-are = ap (λ (y : PathRecord). y.trees) hr
-
-  pub goes-by-trees : (v : ℕ) → 0 < row.trees → true ≡ goes_on index targets t path v
-  goes-by-trees v h = let e = trees-are in sym (rw (ne_eqb (trees_of t path) 0 (λ z. omega arith)))
-
-  pub goes-by-count : (v k : ℕ) → row.trees ≤ 0 → k ≡ times targets 0 v (edges index targets t path) → leb k 1 ≡ goes_on index targets t path v
-  goes-by-count v k h e = let z = trees-are in rw (eq-eqb (trees_of t path) 0 (omega arith), e)
 
 -- ---- the extension
 
@@ -65,12 +51,6 @@ alone-off : (es : List ℕ) (v edge : ℕ) (f : SearchInput) (p : Path Float) �
 alone-off es v edge f p h = rw (h, alone)
 
 module _ {g : Setting} {es x index targets t : List ℕ} {sc : List Float} {ac : List ℕ} {n : ℕ} {taken : Taken} {edge : ℕ} (A : AloneStands g es x index targets t sc ac n taken edge) where
-  pub alone-table : Table index targets t sc (taken.path + 1)
-  alone-table = let h = A.stands.here.known in table-front index targets t sc n (taken.path + 1) A.stands.here.records.held.table (omega arith)
-
-  pub alone-inside : Inside t sc taken.path
-  alone-inside = paths.inside index targets t sc n A.stands.here.records.held.table taken.path A.stands.here.known
-
   module _ (f : SearchInput) (bs : ℕ → List Branches) (H : Here g es x index targets t sc ac n taken f bs) where
     abbrev p : Path Float
     p = path_of f es index targets bs t sc taken.path
@@ -86,7 +66,7 @@ module _ {g : Setting} {es x index targets t : List ℕ} {sc : List Float} {ac :
         ap (λ (z : Bool). not z || leb (times targets 0 taken.vertex (edges index targets t taken.path)) 1) (sym a) ∙ ap (λ (k : ℕ). not (is_empty (bs taken.path)) || leb k 1) b
 
   module _ {r : Bool} (hr : r ≡ goes_on index targets t taken.path taken.vertex) where
-    pub alone-ends : r ≡ false → Gives g es x index targets t sc ac n taken 6 (alone es taken.vertex edge) (Made n) t sc ac
+    pub alone-ends : r ≡ false → Gives g es x index targets t sc ac n taken 6 (alone es taken.vertex edge) (Ok n) t sc ac
     alone-ends h =
         record {
           is = λ f bs H.
@@ -98,29 +78,27 @@ module _ {g : Setting} {es x index targets t : List ℕ} {sc : List Float} {ac :
               };
         }
 
-    module _ (h : r ≡ true) {row : PathRecord} (hw : row ≡ path_at t sc taken.path) {w : Way} (e : w ≡ record { edge = edge; score = row.score; guided = false; free = true }) where
-      way-is : w ≡ record { edge = edge; score = score_of sc taken.path; guided = false; free = true }
-      way-is = e ∙ ap (λ (y : PathRecord). record { edge = edge; score = y.score; guided = false; free = true }) hw
+    module _ (h : r ≡ true) where
+      abbrev only : Way
+      only = record { edge = edge; score = score_of sc taken.path; guided = false; free = true }
 
-      pub alone-asks : Lengthens g es x targets t sc ac n taken w
+      pub alone-asks : Lengthens g es x index targets t sc ac n taken only
       alone-asks =
           record {
-            index = index;
             stands = A.stands;
             place = A.place;
-            edge = rw way-is A.edge_in;
-            score = rw way-is (A.stands.here.records.number taken.path A.stands.here.known);
+            edge = A.edge_in;
+            score = A.stands.here.records.number taken.path A.stands.here.known;
           }
 
-      pub alone-made : {s : Extended} {t' : List ℕ} {sc' : List Float} {ac' : List ℕ} → Gives g es x index targets t sc ac n taken 1 (lengthened es w) s t' sc' ac'
+      pub alone-made : {s : Extended} {t' : List ℕ} {sc' : List Float} {ac' : List ℕ} → Gives g es x index targets t sc ac n taken 1 (lengthened es only) s t' sc' ac'
           → Gives g es x index targets t sc ac n taken 6 (alone es taken.vertex edge) s t' sc' ac'
       alone-made {s} {t'} {sc'} {ac'} G =
           record {
             is = λ f bs H.
-                let p₀ = path_of f es index targets bs t sc taken.path in
                 wider f bs s
                 (subst (λ (want : Result (List (Path Float))). Answers (Run f g es x index targets bs t sc n taken.path t' sc' ac' 1 want) (λ k. want ≡ refused k) s)
-                (ap (λ (y : Way). lengthened es y f p₀) way-is ∙ sym (alone-on es taken.vertex edge f p₀ (sym (goes-is f bs H) ∙ sym hr ∙ h))) (G.is f bs H));
+                (sym (alone-on es taken.vertex edge f (path_of f es index targets bs t sc taken.path) (sym (goes-is f bs H) ∙ sym hr ∙ h))) (G.is f bs H));
           }
         where
           wider : (f : SearchInput) (bs : ℕ → List Branches) (s : Extended)
@@ -128,5 +106,5 @@ module _ {g : Setting} {es x index targets t : List ℕ} {sc : List Float} {ac :
               (λ k. alone es taken.vertex edge f (path_of f es index targets bs t sc taken.path) ≡ refused k) s
               → Answers (Run f g es x index targets bs t sc n taken.path t' sc' ac' 6 (alone es taken.vertex edge f (path_of f es index targets bs t sc taken.path)))
               (λ k. alone es taken.vertex edge f (path_of f es index targets bs t sc taken.path) ≡ refused k) s
-          wider f bs (Made m) R = record { paths = R.paths; is = R.is; made = R.made; most = let z = R.most in omega arith }
-          wider f bs (Refused k) R = R
+          wider f bs (Ok m) R = record { paths = R.paths; is = R.is; made = R.made; most = let z = R.most in omega arith }
+          wider f bs (Err k) R = R

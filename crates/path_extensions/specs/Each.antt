@@ -1,9 +1,7 @@
 -- All offers of a fork in turn: what the loop over the rows keeps.
-use Rattle.std.specs.Prelude.{◌≡◌, refl, Bool, true, false, cond, ℕ, zero, suc, ◌+◌, ◌-◌, ◌*◌, ◌<◌, ◌≤◌, length, Float}
-use Rattle.std.proofs.Common.{sym, ◌∙◌, add-one, mul-le-mul_right}
-use Rattle.std.proofs.Math.Path.{ap}
-use mathlib.Core.List.{List, [], ◌∷◌, ◌++◌, map, map-append, append_assoc}
-use native.Mathlib.Omega.{arith}
+use Rattle.std.specs.Prelude.{Ok, Err, ◌≡◌, refl, Bool, true, false, cond, List, [], ◌∷◌, ◌++◌, map, ℕ, zero, suc, ◌+◌, ◌-◌, ◌*◌, ◌<◌, ◌≤◌, length, Float}
+use Rattle.std.proofs.Common.{sym, ap, ◌∙◌, add-one, mul-le-mul_right, append_assoc, arith}
+use Rattle.std.proofs.lemmas.List.{map-append}
 use Rattle.laws.specs.Lists.{keep}
 use Rattle.laws.specs.Rows.{rows, rows_more, length-rows}
 use Rattle.definition.specs.Refusal.{Result, ok, refused, and_then, each}
@@ -11,16 +9,17 @@ use Rattle.definition.specs.Limits.{column_fits}
 use Rattle.definition.specs.Score.{column_scoring}
 use Rattle.definition.specs.Evidence.{Branches}
 use Rattle.definition.specs.Search.{SearchInput, Path, Offer, extend, repeat_rule}
-use Rattle.fork_offers.specs.Fields.{HasOffers}
+use Rattle.fork_offers.specs.declared.Offer as code
+use Rattle.fork_offers.specs.Fields.{HasOffers, row_of}
+use Rattle.refusals.specs.declared.Refusal.{Refusal}
+use Rattle.refusals.specs.Numbers.{number}
 use Rattle.fork_offers.specs.Rows.{offer_at, offers_of, Few}
 use Rattle.path_growth.specs.declared.Taken.{Taken}
 use Rattle.path_store.specs.Cells.{HasPaths, since_of}
-use Rattle.search_state.specs.declared.Setting.{Setting}
+use Rattle.search_state.specs.Settings.{Setting}
 use Rattle.search_state.specs.State.{path_of, up_from}
-use Rattle.path_extensions.specs.declared.Extended.{Extended}
-use Rattle.path_extensions.specs.declared.Extended.TheVariants.{Made, Refused}
 use Rattle.path_extensions.specs.Made.{Here, MadeTo, made_none, made-both, here-after, up-append}
-use Rattle.path_extensions.specs.One.{Run, Wanted, chain_of, Gives, Place, Stands}
+use Rattle.path_extensions.specs.One.{Extended, Run, Wanted, chain_of, Gives, Place, Stands}
 use Rattle.path_extensions.specs.Offer.{OfferStands, tried}
 
 -- there is room for eight records from n on
@@ -163,7 +162,7 @@ module _ {g : Setting} {es x index targets : List ℕ} {column : List Float} {t�
 
   module _ {t : List ℕ} {sc : List Float} {ac : List ℕ} {made row : ℕ} (T : Trying g es x index targets column t₀ sc₀ ac₀ out n taken k t sc ac made row) where
     module _ (l : k ≤ row) where
-      pub trying-end : Gives g es x index targets t₀ sc₀ ac₀ n taken 6 (all_tried column es out k) (Made made) t sc ac
+      pub trying-end : Gives g es x index targets t₀ sc₀ ac₀ n taken 6 (all_tried column es out k) (Ok made) t sc ac
       unfolding rest
       trying-end =
           record {
@@ -209,60 +208,64 @@ module _ {g : Setting} {es x index targets : List ℕ} {column : List Float} {t�
             so_far.done)
             (up-head row k l)
 
-      pub trying-asks : OfferStands g es x index targets column t sc ac out made taken row
-      unfolding so_far
-      trying-asks =
-          let H = O.stands.here in
-          let S = so_far O.stands.input O.stands.trees H in
-          let e : since_of t taken.path ≡ since_of t₀ taken.path = S.to-here.cells taken.path 6 H.known (omega arith) in
-          let a = O.inside in
-          let b = S.most in
-          let d = O.few in
-          record {
-            stands = record { input = O.stands.input; trees = S.to-here.bs'; here = here-now O.stands.input O.stands.trees H; guided = rw e O.stands.guided };
-            place = rooms-place g t₀ sc₀ ac₀ n O.rooms t sc ac made T.paths T.scores T.actives (omega arith);
-            fits = O.fits;
-            room = omega arith;
-            edge = O.edges row l;
-          }
-
-      module _ {r : Extended} {t' : List ℕ} {sc' : List Float} {ac' : List ℕ} (G : Gives g es x index targets t sc ac made taken 1 (tried column es out row) r t' sc' ac') where
-        pub trying-stop : {j : ℕ} → r ≡ Refused j → Gives g es x index targets t₀ sc₀ ac₀ n taken 6 (all_tried column es out k) r t' sc' ac'
+      module _ {o : code.Offer} (ho : o ≡ row_of out row) where
+        pub trying-asks : OfferStands g es x index targets column t sc ac made taken o
         unfolding so_far
-        trying-stop {j} e =
-            rw e
+        trying-asks =
+            let H = O.stands.here in
+            let S = so_far O.stands.input O.stands.trees H in
+            let e : since_of t taken.path ≡ since_of t₀ taken.path = S.to-here.cells taken.path 6 H.known (omega arith) in
+            let a = O.inside in
+            let b = S.most in
+            let d = O.few in
+            rw ho
             (record {
-              is = λ f bs H.
-                  let told : tried column es out row f (path_of f es index targets (so_far f bs H).to-here.bs' t sc taken.path) ≡ refused j = rw e at (G.is f (so_far f bs H).to-here.bs' (here-now f bs H)) in
-                  left-now f bs H
-                  ∙ rest-stop (extend (column_scoring column) f (path_of f es index targets bs t₀ sc₀ taken.path) (chain_of f (path_of f es index targets bs t₀ sc₀ taken.path))) (repeat_rule f)
-                  (offer_at es out row) (map (offer_at es out) (up_from (row + 1) (k - (row + 1)))) (so_far f bs H).done j
-                  (ap (λ (p : Path Float). tried column es out row f p) (sym (same-path f bs H)) ∙ told);
+              stands = record { input = O.stands.input; trees = S.to-here.bs'; here = here-now O.stands.input O.stands.trees H; guided = rw e O.stands.guided };
+              place = rooms-place g t₀ sc₀ ac₀ n O.rooms t sc ac made T.paths T.scores T.actives (omega arith);
+              fits = O.fits;
+              edge = O.edges row l;
             })
 
-        pub trying-next : {m : ℕ} → r ≡ Made m → length t' ≡ length t → length sc' ≡ length sc → length ac' ≡ length ac
-            → Trying g es x index targets column t₀ sc₀ ac₀ out n taken k t' sc' ac' m (row + 1)
-        unfolding so_far
-        trying-next {m} e a b c =
-            record {
-              run = λ f bs H.
-                  let S = so_far f bs H in
-                  let R : Run f g es x index targets S.to-here.bs' t sc made taken.path t' sc' ac' 1 (tried column es out row f (path_of f es index targets S.to-here.bs' t sc taken.path)) m
-                  = rw e at (G.is f S.to-here.bs' (here-now f bs H)) in
-                  let u = S.most in
-                  let v = R.most in
-                  record {
-                    done = S.done ++ R.paths;
-                    to-here = made-both f g es x index targets bs t₀ sc₀ n taken.path t sc ac made S.done S.to-here t' sc' ac' m R.paths R.made;
-                    most = omega arith;
-                    left =
-                        left-now f bs H
-                        ∙ rest-step (extend (column_scoring column) f (path_of f es index targets bs t₀ sc₀ taken.path) (chain_of f (path_of f es index targets bs t₀ sc₀ taken.path))) (repeat_rule f)
-                        (offer_at es out row) (map (offer_at es out) (up_from (row + 1) (k - (row + 1)))) S.done R.paths
-                        (ap (λ (p : Path Float). tried column es out row f p) (sym (same-path f bs H)) ∙ R.is);
-                  };
-              paths = a ∙ T.paths;
-              scores = b ∙ T.scores;
-              actives = c ∙ T.actives;
-              low = omega arith;
-            }
+        module _ {r : Extended} {t' : List ℕ} {sc' : List Float} {ac' : List ℕ} (G₀ : Gives g es x index targets t sc ac made taken 1 (tried column es o) r t' sc' ac') where
+          G : Gives g es x index targets t sc ac made taken 1 (tried column es (row_of out row)) r t' sc' ac'
+          G = rw ho at G₀
+
+          pub trying-stop : {j : Refusal} → r ≡ Err j → Gives g es x index targets t₀ sc₀ ac₀ n taken 6 (all_tried column es out k) r t' sc' ac'
+          unfolding so_far G
+          trying-stop {j} e =
+              rw e
+              (record {
+                is = λ f bs H.
+                    let told : tried column es (row_of out row) f (path_of f es index targets (so_far f bs H).to-here.bs' t sc taken.path) ≡ refused (number j) = rw e at (G.is f (so_far f bs H).to-here.bs' (here-now f bs H)) in
+                    left-now f bs H
+                    ∙ rest-stop (extend (column_scoring column) f (path_of f es index targets bs t₀ sc₀ taken.path) (chain_of f (path_of f es index targets bs t₀ sc₀ taken.path))) (repeat_rule f)
+                    (offer_at es out row) (map (offer_at es out) (up_from (row + 1) (k - (row + 1)))) (so_far f bs H).done (number j)
+                    (ap (λ (p : Path Float). tried column es (row_of out row) f p) (sym (same-path f bs H)) ∙ told);
+              })
+
+          pub trying-next : {m : ℕ} → r ≡ Ok m → length t' ≡ length t → length sc' ≡ length sc → length ac' ≡ length ac
+              → Trying g es x index targets column t₀ sc₀ ac₀ out n taken k t' sc' ac' m (row + 1)
+          unfolding so_far G
+          trying-next {m} e a b c =
+              record {
+                run = λ f bs H.
+                    let S = so_far f bs H in
+                    let R : Run f g es x index targets S.to-here.bs' t sc made taken.path t' sc' ac' 1 (tried column es (row_of out row) f (path_of f es index targets S.to-here.bs' t sc taken.path)) m
+                    = rw e at (G.is f S.to-here.bs' (here-now f bs H)) in
+                    let u = S.most in
+                    let v = R.most in
+                    record {
+                      done = S.done ++ R.paths;
+                      to-here = made-both f g es x index targets bs t₀ sc₀ n taken.path t sc ac made S.done S.to-here t' sc' ac' m R.paths R.made;
+                      most = omega arith;
+                      left =
+                          left-now f bs H
+                          ∙ rest-step (extend (column_scoring column) f (path_of f es index targets bs t₀ sc₀ taken.path) (chain_of f (path_of f es index targets bs t₀ sc₀ taken.path))) (repeat_rule f)
+                          (offer_at es out row) (map (offer_at es out) (up_from (row + 1) (k - (row + 1)))) S.done R.paths
+                          (ap (λ (p : Path Float). tried column es (row_of out row) f p) (sym (same-path f bs H)) ∙ R.is);
+                    };
+                paths = a ∙ T.paths;
+                scores = b ∙ T.scores;
+                actives = c ∙ T.actives;
+                low = omega arith;
+              }

@@ -1,9 +1,7 @@
 -- What stands when a path is taken, and records made after it: the earlier ones stay, and the new ones are the definition's paths.
-use Rattle.std.specs.Prelude.{◌≡◌, ◌≢◌, List, [], ◌∷◌, ◌++◌, map, Float}
-use Rattle.std.proofs.Math.Path.{refl}
+use Rattle.std.specs.Prelude.{◌≡◌, refl, ◌≢◌, List, [], ◌∷◌, ◌++◌, map, ℕ, zero, suc, ◌+◌, ◌-◌, ◌<◌, ◌≤◌, Float}
 use Rattle.std.proofs.Common.{sym, ap, ◌∙◌, arith}
 use Rattle.std.proofs.lemmas.List.{map-append}
-use Prim.Native.Nat.{ℕ, zero, suc, ◌+◌, ◌-◌, ◌<◌, ◌≤◌}
 use Rattle.std.proofs.Math.Decide.{dec_lt}
 use Rattle.definition.specs.Evidence.{Branches}
 use Rattle.definition.specs.Search.{SearchInput, Path}
@@ -13,7 +11,7 @@ use Rattle.path_edges.specs.Path.{Same, table-front}
 use Rattle.path_growth.specs.Grow.{Following}
 use Rattle.path_growth.specs.Held.{Held}
 use Rattle.path_growth.specs.View.{view_of, view-kept, closed-kept}
-use Rattle.search_state.specs.declared.Setting.{Setting}
+use Rattle.search_state.specs.Settings.{Setting}
 use Rattle.search_state.specs.Ground.{Ground, name_of}
 use Rattle.search_state.specs.State.{path_of, Records, Kept, New, Idle, up_from}
 

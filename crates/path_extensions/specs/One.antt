@@ -1,6 +1,7 @@
 -- One extension of the taken path (Rust: extend_with_edges).
-use Rattle.std.specs.Prelude.{◌≡◌, refl, ◌≢◌, Bool, true, false, not, ◌||◌, cond, List, [], ◌∷◌, map, ℕ, suc, ◌+◌, ◌-◌, ◌*◌, ◌/◌, ◌<◌, ◌≤◌, eqb, length, set, Float}
-use Rattle.std.proofs.Common.{sym, ◌∙◌, inr, mul-le-mul_right, add-one, arith, eq-eqb, ne_eqb, get_or-set_same, get_or-set_other}
+use Rattle.std.specs.Prelude as Prelude
+use Rattle.std.specs.Prelude.{Ok, Err, ◌≡◌, refl, ◌≢◌, Bool, true, false, not, ◌||◌, cond, List, [], ◌∷◌, map, ℕ, suc, ◌+◌, ◌-◌, ◌*◌, ◌/◌, ◌<◌, ◌≤◌, eqb, length, set, Float}
+use Rattle.std.proofs.Common.{sym, ◌∙◌, inr, add-one, arith, eq-eqb, ne_eqb, get_or-set_same, get_or-set_other}
 use Rattle.std.proofs.Math.Path.{ap}
 use Rattle.std.proofs.Math.Decide.{ℕ_discrete}
 use Rattle.std.specs.Float.{nan}
@@ -14,27 +15,24 @@ use Rattle.definition.specs.Evidence.{Branches}
 use Rattle.definition.specs.Search.{SearchInput, Path, walk_trees, lengthen}
 use Rattle.definition.specs.Search as defs
 use Rattle.theorems.proofs.Counts.{Small, small-walk}
-use Rattle.assembly.specs.Fields.{HasEdge, edge_from, edge_to}
-use Rattle.threading_node.specs.Ends.{ends}
+use Rattle.refusals.specs.declared.Refusal.{Refusal}
+use Rattle.refusals.specs.Numbers.{number}
+use Rattle.threading_node.specs.declared.Edge.{Edge}
+use Rattle.threading_node.specs.Ends.{ends_of}
 use Rattle.fork_offers.specs.Actives.{Actives, actives-kept, actives-many}
 use Rattle.fork_offers.specs.Walks.{Walkable, Walked}
-use Rattle.path_growth.specs.declared.PathAnswer.{PathAnswer}
-use Rattle.path_growth.specs.declared.PathAnswer.TheVariants as answers
 use Rattle.path_growth.specs.declared.Taken.{Taken}
 use Rattle.path_growth.specs.declared.Extension.{Extension}
 use Rattle.path_store.specs.declared.records.PathRecord.{PathRecord}
 use Rattle.path_store.specs.Cells.{HasPaths, count_of, since_of, trees_of, score_of, Inside, path_at, put_cells, put-at, put-trees}
 use Rattle.path_edges.specs.Path.{Same}
-use Rattle.path_edges.specs.Path as paths
 use Rattle.path_growth.specs.Push.{put_same}
-use Rattle.path_growth.specs.Grow.{path_refusal, extended_row, Growable, Grown}
+use Rattle.path_growth.specs.Grow.{extended_row, Grown}
 use Rattle.path_growth.specs.Held.{Put, grown-made, grown-refused, held-extended}
 use Rattle.path_growth.specs.View.{view_of, extended-made, extended-full}
-use Rattle.search_state.specs.declared.Setting.{Setting}
+use Rattle.search_state.specs.Settings.{Setting}
 use Rattle.search_state.specs.Ground.{name_of}
 use Rattle.search_state.specs.State.{path_of, Records, up_from}
-use Rattle.path_extensions.specs.declared.Extended.{Extended}
-use Rattle.path_extensions.specs.declared.Extended.TheVariants.{Made, Refused}
 use Rattle.path_extensions.specs.declared.Way.{Way}
 use Rattle.path_extensions.specs.Made.{Here, MadeTo, kept_of, up_one}
 
@@ -54,10 +52,14 @@ pub run_is : {f : SearchInput} {g : Setting} {es x index targets : List ℕ} {bs
     → want ≡ ok (map (path_of f es index targets R.made.bs' t' sc') (up_from n (n' - n)))
 run_is R = R.is ∙ ap ok R.made.is
 
+-- the number of the next free record once the extensions are made, or a refusal
+abbrev pub Extended : Type 0
+Extended = Prelude.Result ℕ Refusal
+
 -- by the answer: the records, or the definition's refusal
 abbrev pub Answers : (ℕ → Type 0) → (ℕ → Type 0) → Extended → Type 0
-Answers P Q (Made m) = P m
-Answers P Q (Refused k) = Q k
+Answers P Q (Ok m) = P m
+Answers P Q (Err e) = Q (number e)
 
 -- what the definition wants, of the search's input and the taken path
 abbrev pub Wanted : Type 0
@@ -88,8 +90,7 @@ pub record Stands (g : Setting) (es x index targets t : List ℕ) (sc : List Flo
   -- a taken path has few decisions since guidance
   pub guided : since_of t taken.path ≤ 5
 
-pub record Lengthens (g : Setting) (es x targets t : List ℕ) (sc : List Float) (ac : List ℕ) (n : ℕ) (taken : Taken) (w : Way) : Type 0 where
-  pub index : List ℕ
+pub record Lengthens (g : Setting) (es x index targets t : List ℕ) (sc : List Float) (ac : List ℕ) (n : ℕ) (taken : Taken) (w : Way) : Type 0 where
   pub stands : Stands g es x index targets t sc ac n taken
   pub place : Place g t sc ac n
   pub edge : w.edge < g.edges
@@ -119,20 +120,6 @@ pub empty-is : {A : Type 0} (l : List A) (k : ℕ) → length l ≡ k → is_emp
 empty-is [] k h = sym (eq-eqb k 0 (sym h))
 empty-is (a ∷ l) k h = sym (ne_eqb k 0 (λ z. omega arith))
 
--- ---- the decisions since guidance
-module _ (trees : ℕ) (free : Bool) (since : ℕ) where
-  pub with-trees : (guided : Bool) → 0 < trees → 0 ≡ decisions trees guided free since
-  with-trees guided h = rw (ne_eqb trees 0 (λ z. omega arith))
-
-  pub with-guide : (guided : Bool) → trees ≤ 0 → guided ≡ true → 0 ≡ decisions trees guided free since
-  with-guide guided h k = rw (eq-eqb trees 0 (omega arith), k)
-
-pub at-no-cost : (trees : ℕ) (guided free : Bool) (since : ℕ) → trees ≤ 0 → guided ≡ false → free ≡ true → since ≡ decisions trees guided free since
-at-no-cost trees guided free since h k l = rw (eq-eqb trees 0 (omega arith), k, l)
-
-pub one-decision : (trees : ℕ) (guided free : Bool) (since : ℕ) → trees ≤ 0 → guided ≡ false → free ≡ false → since + 1 ≡ decisions trees guided free since
-one-decision trees guided free since h k l = rw (eq-eqb trees 0 (omega arith), k, l) (add-one since)
-
 -- ---- the record
 module _ (g : Setting) (es x index targets t : List ℕ) (sc : List Float) (ac : List ℕ) (n : ℕ) (taken : Taken) (P : Place g t sc ac n) where
   pub place_inside : Inside t sc n
@@ -155,12 +142,6 @@ module _ (g : Setting) (es x index targets t : List ℕ) (sc : List Float) (ac :
     stood : Actives g.cap g.nodes x ac at end (bs taken.path)
     stood = H.records.actives taken.path H.known
 
-    pub place-fits : n * g.active ≤ length ac
-    place-fits =
-        let a = row_step g.active n (n + 1) (omega arith) in
-        let b = P.actives in
-        omega arith
-
     asks : Walkable g.cap g.nodes x ac at end slot
     asks =
         let a = row_step g.active n (n + 1) (omega arith) in
@@ -173,21 +154,18 @@ module _ (g : Setting) (es x index targets t : List ℕ) (sc : List Float) (ac :
           few = omega (arith, H.on_ground.cap-fits);
         }
 
-    module _ (i k j : ℕ) (ei : i ≡ taken.path * g.active) (ek : k ≡ trees_of t taken.path) (ej : j ≡ n * g.active) where
-      pub walk-asks : Walkable g.cap g.nodes x ac i (i + k) j
-      walk-asks = rw (ei, ek, ej) asks
+    module _ (k : ℕ) (ek : k ≡ trees_of t taken.path) where
+      pub walk-asks : Walkable g.cap g.nodes x ac at (at + k) slot
+      walk-asks = rw ek asks
 
-      module _ (w : Way) (he : w.edge < g.edges) (hs : is_nan w.score ≡ false) (a b : ℕ) (ha : a ≡ edge_from es w.edge) (hb : b ≡ edge_to es w.edge) (ad : List ℕ) (r : ℕ)
-          (W : Walked g.cap g.nodes x ac ad i (i + k) j (ends a b) r) (long : length ad ≡ length ac) (since : ℕ)
+      module _ (w : Way) (he : w.edge < g.edges) (hs : is_nan w.score ≡ false) (e : Ends) (named : e ≡ name_of es w.edge) (ad : List ℕ) (r : ℕ)
+          (W : Walked g.cap g.nodes x ac ad at (at + k) slot e r) (long : length ad ≡ length ac) (since : ℕ)
           (hd : since ≡ decisions r w.guided w.free (since_of t taken.path)) where
         walked : List Branches
         walked = walk_trees (name_of es w.edge) (bs taken.path)
 
-        named : ends a b ≡ name_of es w.edge
-        named = cc
-
         walk : Walked g.cap g.nodes x ac ad at end slot (name_of es w.edge) r
-        walk = rw (ei, ek, ej, named) at W
+        walk = rw (ek, named) at W
 
         stand : Actives g.cap g.nodes x ad slot (slot + r) walked
         unfolding walked
@@ -308,98 +286,51 @@ module _ (g : Setting) (es x index targets t : List ℕ) (sc : List Float) (ac :
           one-run = record { paths = view ∷ []; is = one-is; made = one-made; most = omega arith }
 
 -- ---- the function's needs
-module _ {g : Setting} {es x targets t : List ℕ} {sc : List Float} {ac : List ℕ} {n : ℕ} {taken : Taken} {w : Way} (L : Lengthens g es x targets t sc ac n taken w) where
-  abbrev index : List ℕ
-  index = L.index
-
+module _ {g : Setting} {es x index targets t : List ℕ} {sc : List Float} {ac : List ℕ} {n : ℕ} {taken : Taken} {w : Way} (L : Lengthens g es x index targets t sc ac n taken w) where
   abbrev there : Here g es x index targets t sc ac n taken L.stands.input L.stands.trees
   there = L.stands.here
 
-  product : (p a : ℕ) → p < 2147483648 → a ≤ 64 → p * a < 18446744073709551616
-  product p a h k = let z : p * a ≤ 2147483648 * a = mul-le-mul_right a (omega arith) in omega arith
-
-  pub parent-inside : Inside t sc taken.path
-  parent-inside = paths.inside index targets t sc n there.records.held.table taken.path there.known
-
-  pub taken-product : {p : ℕ} → p ≡ taken.path → p * g.active < 18446744073709551616
-  taken-product {p} e = product p g.active (let h = there.known in let k = L.place.number in omega arith) there.on_ground.active-fits
-
-  pub new-product : {p : ℕ} → p ≡ n → p * g.active < 18446744073709551616
-  new-product {p} e = product p g.active (let k = L.place.number in omega arith) there.on_ground.active-fits
-
-  pub edge-inside : {e : ℕ} → e ≡ w.edge → HasEdge es e
-  edge-inside {e} h = let a = L.edge in let b = there.on_ground.linked.room in omega arith
-
   module _ {row : PathRecord} (hr : row ≡ path_at t sc taken.path) where
-    pub few-since : row.since ≤ 5
-    few-since = rw (ap (λ (y : PathRecord). y.since) hr) L.stands.guided
+    many-trees : row.trees ≡ trees_of t taken.path
+    many-trees = ap (λ (y : PathRecord). y.trees) hr
 
-    module _ {p k m : ℕ} (hp : p ≡ taken.path) (hk : k ≡ row.trees) (hm : m ≡ n) where
-      many-trees : k ≡ trees_of t taken.path
-      many-trees = hk ∙ ap (λ (y : PathRecord). y.trees) hr
+    pub lengthen-walks : Walkable g.cap g.nodes x ac (taken.path * g.active) (taken.path * g.active + row.trees) (n * g.active)
+    lengthen-walks = walk-asks g es x index targets t sc ac n taken L.place L.stands.input L.stands.trees there row.trees many-trees
 
-      pub lengthen-walks : Walkable g.cap g.nodes x ac (p * g.active) (p * g.active + k) (m * g.active)
-      lengthen-walks =
-          walk-asks g es x index targets t sc ac n taken L.place L.stands.input L.stands.trees there (p * g.active) k (m * g.active) (ap (λ (i : ℕ). i * g.active) hp) many-trees
-          (ap (λ (i : ℕ). i * g.active) hm)
+    module _ {e : Edge} (he : ends_of e ≡ name_of es w.edge) {ad : List ℕ} {r : ℕ}
+        (W : Walked g.cap g.nodes x ac ad (taken.path * g.active) (taken.path * g.active + row.trees) (n * g.active) (ends_of e) r) where
+      module _ (long : length ad ≡ length ac) {since : ℕ} (hd : since ≡ decisions r w.guided w.free row.since) {answer : Extended} {t' : List ℕ} {sc' : List Float}
+          (G : Grown t sc n (extended_row t targets taken (record { edge = w.edge; score = w.score; since = since; trees = r })) g.most answer t' sc') where
+        since-by : since ≡ decisions r w.guided w.free (since_of t taken.path)
+        since-by = hd ∙ ap (λ (y : PathRecord). decisions r w.guided w.free y.since) hr
 
-      module _ {a b e : ℕ} (he : e ≡ w.edge) (ha : a ≡ edge_from es e) (hb : b ≡ edge_to es e) {ad : List ℕ} {r : ℕ}
-          (W : Walked g.cap g.nodes x ac ad (p * g.active) (p * g.active + k) (m * g.active) (ends a b) r) where
-        pub few-trees : r ≤ 64
-        few-trees =
-            let h = W.few in
-            let z = many-trees in
-            let k = there.records.trees taken.path there.known in
-            let l = there.on_ground.active-fits in
-            omega arith
+        new_row : PathRecord
+        new_row = extended_row t targets taken (record { edge = w.edge; score = w.score; since = since; trees = r })
 
-        pub extend-asks : Growable t sc n taken.path × (w.edge < length targets) × (w.edge + 1 < 4294967296) × (r < 2147483648)
-        extend-asks =
-            let a = L.edge in
-            let b = there.on_ground.size in
-            let d = there.on_ground.linked.few in
-            let h = few-trees in
-            (record { room = place_inside g es x index targets t sc ac n taken L.place; known = there.known }, omega arith, omega arith, omega arith)
+        pub lengthen-refused : {k₀ : Refusal} → answer ≡ Err k₀ → Gives g es x index targets t sc ac n taken 1 (lengthened es w) answer t' sc' ad
+        unfolding new_row
+        lengthen-refused {k₀} told =
+            let q = grown-refused t sc n new_row g.most t' sc' k₀ (rw told at G) in
+            rw told
+            (record {
+              is = λ f bs H.
+                  one-refused g es x index targets t sc ac n taken L.place f bs H row.trees many-trees w L.edge L.score (ends_of e) he ad r W long since since-by q.1
+                  ∙ ap (λ (i : ℕ). refused i) (sym q.0.number);
+            })
 
-        module _ (long : length ad ≡ length ac) {since : ℕ} (hd : since ≡ decisions r w.guided w.free row.since) {answer : PathAnswer} {t' : List ℕ} {sc' : List Float}
-            (G : Grown t sc n (extended_row t targets taken (record { edge = w.edge; score = w.score; since = since; trees = r })) g.most answer t' sc') where
-          source_is : a ≡ edge_from es w.edge
-          source_is = ha ∙ ap (λ (i : ℕ). edge_from es i) he
-
-          target_is : b ≡ edge_to es w.edge
-          target_is = hb ∙ ap (λ (i : ℕ). edge_to es i) he
-
-          since-by : since ≡ decisions r w.guided w.free (since_of t taken.path)
-          since-by = hd ∙ ap (λ (y : PathRecord). decisions r w.guided w.free y.since) hr
-
-          new_row : PathRecord
-          new_row = extended_row t targets taken (record { edge = w.edge; score = w.score; since = since; trees = r })
-
-          pub lengthen-refused : {k₀ : ℕ} → answer ≡ answers.Refused k₀ → (j : ℕ) → j ≡ path_refusal answer → (o : List ℕ) → Gives g es x o targets t sc ac n taken 1 (lengthened es w) (Refused j) t' sc' ad
+        module _ {m₀ : ℕ} (told : answer ≡ Ok m₀) where
+          put : Put t sc n new_row m₀ t' sc' × (new_row.edges ≤ g.most)
           unfolding new_row
-          lengthen-refused {k₀} e j d o =
-              let q = grown-refused t sc n new_row g.most t' sc' k₀ (rw e at G) in
+          put = grown-made t sc n new_row g.most t' sc' m₀ (rw told at G)
+
+          pub made-low : m₀ < 2147483648
+          made-low = let h = put.0.number in let z = L.place.number in omega arith
+
+          pub lengthen-made : Gives g es x index targets t sc ac n taken 1 (lengthened es w) (Ok (m₀ + 1)) t' sc' ad
+          unfolding new_row
+          lengthen-made =
               record {
                 is = λ f bs H.
-                    one-refused g es x o targets t sc ac n taken L.place f bs H (p * g.active) k (m * g.active) (ap (λ (i : ℕ). i * g.active) hp) many-trees (ap (λ (i : ℕ). i * g.active) hm) w
-                    L.edge L.score a b source_is target_is ad r W long since since-by q.1
-                    ∙ ap (λ (i : ℕ). refused i) (sym (d ∙ ap path_refusal e ∙ q.0.number));
+                    rw (put.0.number, put.0.cells, put.0.scores)
+                    (one-run g es x index targets t sc ac n taken L.place f bs H row.trees many-trees w L.edge L.score (ends_of e) he ad r W long since since-by put.1);
               }
-
-          module _ {m₀ : ℕ} (told : answer ≡ answers.Made m₀) where
-            put : Put t sc n new_row m₀ t' sc' × (new_row.edges ≤ g.most)
-            unfolding new_row
-            put = grown-made t sc n new_row g.most t' sc' m₀ (rw told at G)
-
-            pub made-low : m₀ < 2147483648
-            made-low = let h = put.0.number in let z = L.place.number in omega arith
-
-            pub lengthen-made : (o : List ℕ) → Gives g es x o targets t sc ac n taken 1 (lengthened es w) (Made (m₀ + 1)) t' sc' ad
-            unfolding new_row
-            lengthen-made o =
-                record {
-                  is = λ f bs H.
-                      rw (put.0.number, put.0.cells, put.0.scores)
-                      (one-run g es x o targets t sc ac n taken L.place f bs H (p * g.active) k (m * g.active) (ap (λ (i : ℕ). i * g.active) hp) many-trees (ap (λ (i : ℕ). i * g.active) hm) w
-                      L.edge L.score a b source_is target_is ad r W long since since-by put.1);
-                }

@@ -1,6 +1,6 @@
 -- The extensions of a taken path at the vertex that its chain leads to (Rust: process_vertex).
-use Rattle.std.specs.Prelude.{◌≡◌, refl, true, List, [], ◌∷◌, ℕ, ◌+◌, ◌-◌, ◌*◌, ◌^◌, ◌<◌, ◌≤◌, length, Float}
-use Rattle.std.proofs.Common.{sym, ap, subst, ◌∙◌, mul-le-mul_right, arith}
+use Rattle.std.specs.Prelude.{Ok, Option, Some, None, is_some, ◌≡◌, refl, true, false, List, [], ◌∷◌, ℕ, ◌+◌, ◌*◌, ◌^◌, ◌<◌, ◌≤◌, length, Float}
+use Rattle.std.proofs.Common.{sym, ap, subst, ◌∙◌, arith}
 use Rattle.laws.specs.Lists.{keep, total}
 use Rattle.laws.specs.Rows.{length-rows}
 use Rattle.definition.specs.Refusal.{Result, ok, refused, and_then, each}
@@ -10,11 +10,12 @@ use Rattle.definition.specs.Threading.{Ends, Edge, leaving, support_of}
 use Rattle.definition.specs.Evidence.{Branches}
 use Rattle.definition.specs.Search.{SearchInput, Path, Offer, offers, extend, repeat_rule, extensions}
 use Rattle.tables.specs.Widths.{offer_numbers}
-use Rattle.assembly.specs.Fields.{HasVertex, out_edge, HasEdge, edge_to}
+use Rattle.assembly.specs.Fields.{edge_to}
 use Rattle.assembly.specs.Store.{edge_at, edges_of}
-use Rattle.out_edges.specs.Outs.{Slots, Names, Nexts, out_from}
+use Rattle.out_edges.specs.Outs.{Slots, Nexts, out_from}
+use Rattle.out_edges.specs.Walked.{Named}
 use Rattle.threading_node.specs.Ends.{ends}
-use Rattle.pivotal_edges.specs.Walk.{leaving-from, next-asks, next-is, next-none, next-some, next-in, next_row, next_fits, next-again}
+use Rattle.pivotal_edges.specs.Walk.{leaving-from, next-asks, here-slots, next-none, next-some, next-in, next-again}
 use Rattle.pivotal_edges.specs.Walk as outs
 use Rattle.fork_offers.specs.Fields.{HasOffers}
 use Rattle.fork_offers.specs.Actives.{Actives}
@@ -22,19 +23,16 @@ use Rattle.fork_offers.specs.Rows.{offer_at, offers_of, Few}
 use Rattle.fork_offers.specs.Offers.{Forks, Offers, smalls-of}
 use Rattle.path_growth.specs.declared.Taken.{Taken}
 use Rattle.path_store.specs.declared.records.PathRecord.{PathRecord}
-use Rattle.path_store.specs.Cells.{end_of, since_of, trees_of, path_at, Inside}
-use Rattle.path_edges.specs.Path as paths
+use Rattle.path_store.specs.Cells.{end_of, since_of, trees_of, path_at}
 use Rattle.path_store.specs.Steps.{after-low}
 use Rattle.path_growth.specs.Grow.{Following}
-use Rattle.search_state.specs.declared.Setting.{Setting}
+use Rattle.search_state.specs.Settings.{Setting}
 use Rattle.search_state.specs.Ground.{Ground}
 use Rattle.search_state.specs.State.{path_of, Records}
 use Rattle.search_ground.specs.Offers.{actives-few}
-use Rattle.path_extensions.specs.declared.Extended.{Extended}
-use Rattle.path_extensions.specs.declared.Extended.TheVariants.{Made}
 use Rattle.path_extensions.specs.Made.{Here, made_none}
-use Rattle.path_extensions.specs.One.{Run, Answers, Wanted, chain_of, Gives, Place, Stands}
-use Rattle.path_extensions.specs.Each.{Rooms, rooms-place, OffersStand, all_tried}
+use Rattle.path_extensions.specs.One.{Extended, Run, Answers, Wanted, chain_of, Gives, Place, Stands}
+use Rattle.path_extensions.specs.Each.{Rooms, rooms-place, all_tried}
 use Rattle.path_extensions.specs.Alone.{AloneStands, alone, alone-is}
 
 -- the search's tables, of which n records are made, and a taken one of them with the chain after it
@@ -78,11 +76,11 @@ module _ {g : Setting} {vs es x index targets t : List ℕ} {sc : List Float} {a
       let T = H.records.held.table in
       rw H.follows.vertex (after-low index targets T.graph (end_of t taken.path) taken.chain (T.rows taken.path H.known).low H.follows.chain.runs)
 
-  pub vertex-here : {v : ℕ} → v ≡ taken.vertex → outs.Here vs es g.edges v
-  vertex-here {v} e = let a = vertex-low in let b = H.on_ground.vertices in record { linked = H.on_ground.linked; v-in = omega arith }
+  pub vertex-here : outs.Here vs es g.edges taken.vertex
+  vertex-here = let a = vertex-low in let b = H.on_ground.vertices in record { linked = H.on_ground.linked; v-in = omega arith }
 
-  leaving-is : {v : ℕ} → v ≡ taken.vertex → leaving (edges_of es g.edges) v ≡ leaving f.edges taken.vertex
-  leaving-is {v} e = ap (leaving (edges_of es g.edges)) e ∙ ap (λ (l : List Edge). leaving l taken.vertex) (sym H.on_ground.settings.edges)
+  leaving-is : leaving (edges_of es g.edges) taken.vertex ≡ leaving f.edges taken.vertex
+  leaving-is = ap (λ (l : List Edge). leaving l taken.vertex) (sym H.on_ground.settings.edges)
 
 -- ---- the offers, as rows
 
@@ -106,44 +104,34 @@ unfolding offers_of
 many-rows es out k = length-rows (offer_at es out) k
 
 module _ {g : Setting} {vs es x t : List ℕ} {sc : List Float} {ac out : List ℕ} {taken : Taken} (L : Lists g vs es x t sc ac out taken) where
-  pub lists-inside : Inside t sc taken.path
-  lists-inside = paths.inside L.index L.targets t sc L.records L.taking.records.held.table taken.path L.taking.known
-
-  pub lists-product : {p : ℕ} → p < 4294967296 → p * g.active < 18446744073709551616
-  lists-product {p} h = let k = L.taking.on_ground.active-fits in let z : p * g.active ≤ 4294967296 * g.active = mul-le-mul_right g.active (omega arith) in omega arith
-
-  module _ {row : PathRecord} (hr : row ≡ path_at t sc taken.path) {p k v : ℕ} (hp : p ≡ taken.path) (hk : k ≡ row.trees) (hv : v ≡ taken.vertex) where
-    starts : p * g.active ≡ taken.path * g.active
-    starts = ap (λ (i : ℕ). i * g.active) hp
-
-    ends_at : p * g.active + k ≡ taken.path * g.active + trees_of t taken.path
-    ends_at = let a = starts in let b : k ≡ trees_of t taken.path = hk ∙ ap (λ (y : PathRecord). y.trees) hr in omega arith
+  module _ {row : PathRecord} (hr : row ≡ path_at t sc taken.path) where
+    ends_at : taken.path * g.active + row.trees ≡ taken.path * g.active + trees_of t taken.path
+    ends_at = ap (λ (y : PathRecord). taken.path * g.active + y.trees) hr
 
     stood : (index targets : List ℕ) (n : ℕ) (f : SearchInput) (bs : ℕ → List Branches) → Taking g vs es x index targets t sc ac n taken f bs
-        → Actives g.cap g.nodes x ac (p * g.active) (p * g.active + k) (bs taken.path)
-    stood index targets n f bs H = rw (ends_at, starts) (H.records.actives taken.path H.known)
+        → Actives g.cap g.nodes x ac (taken.path * g.active) (taken.path * g.active + row.trees) (bs taken.path)
+    stood index targets n f bs H = rw ends_at (H.records.actives taken.path H.known)
 
     at_most : (index targets : List ℕ) (n : ℕ) (f : SearchInput) (bs : ℕ → List Branches) → Taking g vs es x index targets t sc ac n taken f bs
         → length (offers f (leaving f.edges taken.vertex) [] (bs taken.path)) ≤ 6
     at_most index targets n f bs H =
-        actives-few f g vs es x index targets H.on_ground taken.vertex (bs taken.path) ac (p * g.active) (p * g.active + k) (stood index targets n f bs H)
+        actives-few f g vs es x index targets H.on_ground taken.vertex (bs taken.path) ac (taken.path * g.active) (taken.path * g.active + row.trees) (stood index targets n f bs H)
 
-    pub lists-asks : Forks vs es g.edges g.cap g.nodes x ac (p * g.active) (p * g.active + k) v (ends g.sink g.symbolic) g.least out
+    pub lists-asks : Forks vs es g.edges g.cap g.nodes x ac (taken.path * g.active) (taken.path * g.active + row.trees) taken.vertex (ends g.sink g.symbolic) g.least out
     lists-asks =
         let H = L.taking in
-        let o = vertex-here H hv in
+        let o = vertex-here H in
         let s = H.on_ground.support taken.vertex in
         let m = at_most L.index L.targets L.records L.input L.trees H in
-        let r = L.rows in
         let few = H.on_ground.linked.few in
         record {
-          fork = record { slots = H.on_ground.linked.slots v o.v-in; distinct = H.on_ground.linked.distinct; room-v = o.v-in; room-e = H.on_ground.linked.room; few = omega arith };
+          fork = record { slots = here-slots o; distinct = H.on_ground.linked.distinct; room-v = o.v-in; room-e = H.on_ground.linked.room; few = omega arith };
           active = record { branches = L.trees taken.path; stands = stood L.index L.targets L.records L.input L.trees H };
           input = L.input;
           settings = H.on_ground.settings;
           small = smalls-of 65535 (L.trees taken.path) (omega arith) (H.records.small taken.path H.known);
-          support = rw (leaving-is H hv) (small-support (total support_of (leaving L.input.edges taken.vertex)) s);
-          room = rw hv (rowed (length (offers L.input (leaving L.input.edges taken.vertex) [] (L.trees taken.path))) m);
+          support = rw (leaving-is H) (small-support (total support_of (leaving L.input.edges taken.vertex)) s);
+          room = rowed (length (offers L.input (leaving L.input.edges taken.vertex) [] (L.trees taken.path))) m;
         }
       where
         small-support : (a : ℕ) → a ≤ 65535 → a < 2 ^ 32
@@ -152,18 +140,13 @@ module _ {g : Setting} {vs es x t : List ℕ} {sc : List Float} {ac out : List �
         rowed : (a : ℕ) → a ≤ 6 → HasOffers out a
         rowed a h = let r = L.rows in omega arith
 
-    module _ {out' : List ℕ} {r : ℕ} (O : Offers es g.edges g.cap g.nodes x ac (p * g.active) (p * g.active + k) v (ends g.sink g.symbolic) g.least out' r) where
-      listed-is : (index targets : List ℕ) (n : ℕ) (f : SearchInput) (bs : ℕ → List Branches) → Taking g vs es x index targets t sc ac n taken f bs
-          → offers_of es out' r ≡ offers f (leaving f.edges taken.vertex) [] (bs taken.path)
-      listed-is index targets n f bs H =
-          O.is f (bs taken.path) H.on_ground.settings (stood index targets n f bs H) ∙ ap (λ (i : ℕ). offers f (leaving f.edges i) [] (bs taken.path)) hv
-
+    module _ {out' : List ℕ} {r : ℕ} (O : Offers es g.edges g.cap g.nodes x ac (taken.path * g.active) (taken.path * g.active + row.trees) taken.vertex (ends g.sink g.symbolic) g.least out' r) where
       pub lists-listed : Listed g vs es x t sc ac taken out' r
       lists-listed =
           let a = many-rows es out' r in
-          let b = ap length (listed-is L.index L.targets L.records L.input L.trees L.taking) in
+          let b = ap length (O.is L.input (L.trees taken.path) L.taking.on_ground.settings (stood L.index L.targets L.records L.input L.trees L.taking)) in
           let d = at_most L.index L.targets L.records L.input L.trees L.taking in
-          record { few = omega arith; edges = O.few; is = listed-is }
+          record { few = omega arith; edges = O.few; is = λ index targets n f bs H. O.is f (bs taken.path) H.on_ground.settings (stood index targets n f bs H) }
 
 -- ---- the three ways
 
@@ -195,91 +178,75 @@ module _ {g : Setting} {vs es x index targets : List ℕ} {column : List Float} 
               subst (λ (w : Result (List (Path Float))). Answers (Run f g es x index targets bs t sc n taken.path t' sc' ac' 6 w) (λ k. w ≡ refused k) r) (e f bs H) (G.is f bs (here_of H));
         }
 
-    module _ {v : ℕ} (hv : v ≡ taken.vertex) where
-      pub outs-here : outs.Here vs es g.edges v
-      outs-here = vertex-here E.taking hv
+    pub outs-here : outs.Here vs es g.edges taken.vertex
+    outs-here = vertex-here E.taking
 
-      pub first-asks : (HasVertex vs v) × ((c : ℕ) → c < 8 → Names es (out_edge vs v c))
-      first-asks = next-asks outs-here
+    pub outs-named : Named vs es taken.vertex
+    outs-named = next-asks outs-here
 
-      module _ {first : ℕ} (all : (m : ℕ) → Slots vs es m v → Nexts es m v 0 first) where
-        nexts : Nexts es g.edges v 0 first
-        nexts = next-is outs-here all
+    pub outs-slots : Slots vs es g.edges taken.vertex
+    outs-slots = here-slots outs-here
 
-        pub vertex-none : first ≡ 0 → Extensions g vs es x index targets column t sc ac n taken (Made n) t sc ac
-        vertex-none h =
-            record {
-              is = λ f bs H.
-                  let e : leaving f.edges taken.vertex ≡ [] = sym (leaving-is H hv) ∙ sym (leaving-from (edges_of es g.edges) v) ∙ next-none outs-here nexts (omega arith) in
+    pub vertex-none : Nexts es g.edges taken.vertex 0 None → Extensions g vs es x index targets column t sc ac n taken (Ok n) t sc ac
+    vertex-none z =
+        record {
+          is = λ f bs H.
+              let e : leaving f.edges taken.vertex ≡ [] = sym (leaving-is H) ∙ sym (leaving-from (edges_of es g.edges) taken.vertex) ∙ next-none outs-here z in
+              let p = path_of f es index targets bs t sc taken.path in
+              record {
+                paths = [];
+                is = extensions-none (column_scoring column) f p (chain_of f p) taken.vertex (leaving f.edges taken.vertex) e;
+                made = made_none f g es x index targets bs t sc n ac taken.path H.records;
+                most = omega arith;
+              };
+        }
+
+    module _ {i : ℕ} (z : Nexts es g.edges taken.vertex 0 (Some i)) where
+      pub first-low : i < 8192
+      first-low = let a = next-in outs-here z in let b = E.taking.on_ground.linked.few in omega arith
+
+      begins : leaving (edges_of es g.edges) taken.vertex ≡ edge_at es i ∷ out_from (edges_of es g.edges) taken.vertex (edge_to es i + 1)
+      begins = sym (leaving-from (edges_of es g.edges) taken.vertex) ∙ next-some outs-here z
+
+      pub alone-stands : AloneStands g es x index targets t sc ac n taken i
+      alone-stands = record { stands = stands_of; place = place_of; edge_in = next-in outs-here z }
+
+      module _ {w : ℕ} (hw : w ≡ edge_to es i + 1) where
+        one-edge : Nexts es g.edges taken.vertex w None → {f : SearchInput} {bs : ℕ → List Branches} → Taking g vs es x index targets t sc ac n taken f bs
+            → leaving f.edges taken.vertex ≡ edge_at es i ∷ []
+        one-edge y H = sym (leaving-is H) ∙ begins ∙ ap (λ (l : List Edge). edge_at es i ∷ l) (next-none outs-here (next-again outs-here z hw y))
+
+        pub vertex-alone : {s : Option ℕ} → Nexts es g.edges taken.vertex w s → is_some s ≡ false → {r : Extended} {t' : List ℕ} {sc' : List Float} {ac' : List ℕ}
+            → Gives g es x index targets t sc ac n taken 6 (alone es taken.vertex i) r t' sc' ac' → Extensions g vs es x index targets column t sc ac n taken r t' sc' ac'
+        vertex-alone {s} = go s
+          where
+            go : (s : Option ℕ) → Nexts es g.edges taken.vertex w s → is_some s ≡ false → {r : Extended} {t' : List ℕ} {sc' : List Float} {ac' : List ℕ}
+                → Gives g es x index targets t sc ac n taken 6 (alone es taken.vertex i) r t' sc' ac' → Extensions g vs es x index targets column t sc ac n taken r t' sc' ac'
+            go (Some j) y h G = absurd (let q : ◌≡◌ {A = ℕ} 0 1 = cc in omega arith)
+            go None y h {r} {t'} {sc'} {ac'} G =
+                gives_as (alone es taken.vertex i) r t' sc' ac' G
+                (λ f bs H.
+                let p = path_of f es index targets bs t sc taken.path in
+                sym
+                (ap (extensions (column_scoring column) f p (chain_of f p) taken.vertex) (one-edge y H) ∙ alone-is (column_scoring column) es taken.vertex i f p))
+
+        two_edges : {j : ℕ} → Nexts es g.edges taken.vertex w (Some j) → {f : SearchInput} {bs : ℕ → List Branches} → Taking g vs es x index targets t sc ac n taken f bs
+            → leaving f.edges taken.vertex ≡ edge_at es i ∷ edge_at es j ∷ out_from (edges_of es g.edges) taken.vertex (edge_to es j + 1)
+        two_edges y H = sym (leaving-is H) ∙ begins ∙ ap (λ (l : List Edge). edge_at es i ∷ l) (next-some outs-here (next-again outs-here z hw y))
+
+        module _ {k : ℕ} {out' : List ℕ} (L : Listed g vs es x t sc ac taken out' k) where
+          pub vertex-fork : {s : Option ℕ} → Nexts es g.edges taken.vertex w s → is_some s ≡ true → {r : Extended} {t' : List ℕ} {sc' : List Float} {ac' : List ℕ}
+              → Gives g es x index targets t sc ac n taken 6 (all_tried column es out' k) r t' sc' ac' → Extensions g vs es x index targets column t sc ac n taken r t' sc' ac'
+          vertex-fork {s} = go s
+            where
+              go : (s : Option ℕ) → Nexts es g.edges taken.vertex w s → is_some s ≡ true → {r : Extended} {t' : List ℕ} {sc' : List Float} {ac' : List ℕ}
+                  → Gives g es x index targets t sc ac n taken 6 (all_tried column es out' k) r t' sc' ac' → Extensions g vs es x index targets column t sc ac n taken r t' sc' ac'
+              go None y h G = absurd (let q : ◌≡◌ {A = ℕ} 0 1 = cc in omega arith)
+              go (Some j) y h {r} {t'} {sc'} {ac'} G =
+                  gives_as (all_tried column es out' k) r t' sc' ac' G
+                  (λ f bs H.
                   let p = path_of f es index targets bs t sc taken.path in
-                  record {
-                    paths = [];
-                    is = extensions-none (column_scoring column) f p (chain_of f p) taken.vertex (leaving f.edges taken.vertex) e;
-                    made = made_none f g es x index targets bs t sc n ac taken.path H.records;
-                    most = omega arith;
-                  };
-            }
-
-        module _ (ne : first ≡ 0 → ⊥) where
-          some_first : 0 < first
-          some_first = omega arith
-
-          pub first-row : HasEdge es (first - 1)
-          first-row = next_row outs-here nexts some_first
-
-          pub first-low : first - 1 < 8192
-          first-low = let a = next-in outs-here nexts some_first in let b = E.taking.on_ground.linked.few in omega arith
-
-          begins : leaving (edges_of es g.edges) v ≡ edge_at es (first - 1) ∷ out_from (edges_of es g.edges) v (edge_to es (first - 1) + 1)
-          begins = sym (leaving-from (edges_of es g.edges) v) ∙ next-some outs-here nexts some_first
-
-          module _ {w : ℕ} (hw : w ≡ edge_to es (first - 1)) where
-            pub target_fits : w + 1 ≤ length vs
-            target_fits = next_fits outs-here nexts some_first hw
-
-            module _ {second : ℕ} (again : (m : ℕ) → Slots vs es m v → Nexts es m v (w + 1) second) where
-              later : Nexts es g.edges v (edge_to es (first - 1) + 1) second
-              later = next-again outs-here nexts some_first hw again
-
-              module _ (h : second ≡ 0) where
-                one-edge : {f : SearchInput} {bs : ℕ → List Branches} → Taking g vs es x index targets t sc ac n taken f bs → leaving f.edges taken.vertex ≡ edge_at es (first - 1) ∷ []
-                one-edge H = sym (leaving-is H hv) ∙ begins ∙ ap (λ (l : List Edge). edge_at es (first - 1) ∷ l) (next-none outs-here later (omega arith))
-
-                pub alone-stands : AloneStands g es x index targets t sc ac n taken (first - 1)
-                alone-stands = record { stands = stands_of; place = place_of; edge_in = next-in outs-here nexts some_first }
-
-                pub vertex-alone : {r : Extended} {t' : List ℕ} {sc' : List Float} {ac' : List ℕ} → Gives g es x index targets t sc ac n taken 6 (alone es taken.vertex (first - 1)) r t' sc' ac'
-                    → Extensions g vs es x index targets column t sc ac n taken r t' sc' ac'
-                vertex-alone {r} {t'} {sc'} {ac'} G =
-                    gives_as (alone es taken.vertex (first - 1)) r t' sc' ac' G
-                    (λ f bs H.
-                    let p = path_of f es index targets bs t sc taken.path in
-                    sym
-                    (ap (extensions (column_scoring column) f p (chain_of f p) taken.vertex) (one-edge H) ∙ alone-is (column_scoring column) es taken.vertex (first - 1) f p))
-
-              module _ (h : second ≡ 0 → ⊥) where
-                two_edges : {f : SearchInput} {bs : ℕ → List Branches} → Taking g vs es x index targets t sc ac n taken f bs
-                    → leaving f.edges taken.vertex ≡ edge_at es (first - 1) ∷ edge_at es (second - 1) ∷ out_from (edges_of es g.edges) v (edge_to es (second - 1) + 1)
-                two_edges H = sym (leaving-is H hv) ∙ begins ∙ ap (λ (l : List Edge). edge_at es (first - 1) ∷ l) (next-some outs-here later (omega arith))
-
-                module _ {k : ℕ} {out' : List ℕ} (L : Listed g vs es x t sc ac taken out' k) where
-                  pub vertex-fork : {r : Extended} {t' : List ℕ} {sc' : List Float} {ac' : List ℕ} → Gives g es x index targets t sc ac n taken 6 (all_tried column es out' k) r t' sc' ac'
-                      → Extensions g vs es x index targets column t sc ac n taken r t' sc' ac'
-                  vertex-fork {r} {t'} {sc'} {ac'} G =
-                      gives_as (all_tried column es out' k) r t' sc' ac' G
-                      (λ f bs H.
-                      let p = path_of f es index targets bs t sc taken.path in
-                      ap (λ (os : List Offer). and_then (each (extend (column_scoring column) f p (chain_of f p)) os) (λ qs. ok (keep (repeat_rule f) qs))) (L.is index targets n f bs H)
-                      ∙ sym
-                      (extensions-fork (column_scoring column) f p (chain_of f p) taken.vertex (leaving f.edges taken.vertex) (edge_at es (first - 1)) (edge_at es (second - 1))
-                      (out_from (edges_of es g.edges) v (edge_to es (second - 1) + 1)) (two_edges H)))
-
-    pub lists_of : Lists g vs es x t sc ac out taken
-    lists_of = record { index = index; targets = targets; records = n; input = E.input; trees = E.trees; taking = E.taking; rows = E.rows }
-
-    module _ {k : ℕ} {out' : List ℕ} (L : Listed g vs es x t sc ac taken out' k) (long : length out' ≡ length out) where
-      pub offers-stand : OffersStand g es x index targets column t sc ac out' n taken k
-      offers-stand =
-          let a = E.rows in
-          let b = L.few in
-          record { stands = stands_of; rooms = E.rooms; fits = E.fits; few = L.few; inside = omega arith; edges = L.edges }
+                  ap (λ (os : List Offer). and_then (each (extend (column_scoring column) f p (chain_of f p)) os) (λ qs. ok (keep (repeat_rule f) qs))) (L.is index targets n f bs H)
+                  ∙ sym
+                  (extensions-fork (column_scoring column) f p (chain_of f p) taken.vertex (leaving f.edges taken.vertex) (edge_at es i) (edge_at es j)
+                  (out_from (edges_of es g.edges) taken.vertex (edge_to es j + 1)) (two_edges y H)))

@@ -1,9 +1,7 @@
 -- A recovered path keeps the first k edges of a path. Those are an ancestor's edges and a front of the chain after it, so it is a record like any
 -- other, with no cut of its own.
 use Rattle.std.specs.Prelude.{◌≡◌, ◌⊎◌, true, false, List, leb, length, Float}
-use Rattle.std.proofs.Math.Path.{refl, sym}
-use Rattle.std.proofs.Common.{ap, ◌∙◌, inl, inr, arith, le-leb, leb-true, leb-false}
-use Prim.Native.Nat.{ℕ, zero, suc, ◌+◌, ◌-◌, ◌*◌, ◌<◌, ◌≤◌}
+use Rattle.std.proofs.Common.{ap, ◌∙◌, inl, inr, arith, le-leb, leb-true, leb-false, refl, sym, ℕ, zero, suc, ◌+◌, ◌-◌, ◌*◌, ◌<◌, ◌≤◌}
 use Rattle.std.proofs.lemmas.Bool.{lt-leb}
 use Rattle.laws.specs.BoolLaws.{Bool-cases}
 use Rattle.path_growth.specs.declared.Cut.{Cut}
@@ -26,8 +24,8 @@ owner_of t k r = owner_by t k r r
 unfoldable pub cut_at : List ℕ → ℕ → ℕ → Cut
 cut_at t k a =
     elim (leb (k - count_of t (parent_of t a - 1)) (chain_of t a)) [
-      | true ↦ record { parent = parent_of t a; chain = k - count_of t (parent_of t a - 1) }
-      | false ↦ record { parent = a + 1; chain = 0 }
+      | true ↦ record { parent = parent_of t a - 1; chain = k - count_of t (parent_of t a - 1) }
+      | false ↦ record { parent = a; chain = 0 }
     ]
 
 abbrev pub cut_of : List ℕ → ℕ → ℕ → Cut
@@ -66,7 +64,7 @@ pub before-none : (t : List ℕ) (r : ℕ) → parent_of t r ≡ 0 → 0 ≡ bef
 unfolding before
 before-none t r h = rw (h, before)
 
-before-suc : (t : List ℕ) (r p : ℕ) → parent_of t r ≡ suc p → count_of t p ≡ before t r
+pub before-suc : (t : List ℕ) (r p : ℕ) → parent_of t r ≡ suc p → count_of t p ≡ before t r
 unfolding before
 before-suc t r p h = rw (h, before)
 
@@ -122,39 +120,25 @@ module _ (t : List ℕ) (k : ℕ) where
         owner-up r (suc r) h
         ∙ owner-fuel r (parent_of t (suc r) - 1) i (parent_of t (suc r) - 1) up (omega (arith, up (suc r) l, has-parent (suc r) h)) (omega (arith, up (suc r) l)) (omega arith)
 
-pub record Cutting (t : List ℕ) (sc : List Float) (path k r q : ℕ) : Type 0 where
+pub record Cutting (t : List ℕ) (sc : List Float) (path k r : ℕ) : Type 0 where
   pub low : r < path + 1
-  pub par : q ≡ before t r
   pub is : owner_of t k r ≡ owner_of t k path
 
 module _ (t : List ℕ) (sc : List Float) (path k : ℕ) (L : Links t sc (path + 1)) (pos : 0 < k) where
-  pub cutting-start : (q : ℕ) → q ≡ before t path → Cutting t sc path k path q
-  cutting-start q e = record { low = omega arith; par = e; is = refl }
+  module _ (r : ℕ) (C : Cutting t sc path k r) where
+    pub cutting-low : (f : ℕ) → f ≡ parent_of t r → k ≤ before t r → (0 < f) × (f ≤ r)
+    cutting-low f e h = omega (arith, has-parent t k pos r h, L.rises r C.low)
 
-  module _ (r q : ℕ) (C : Cutting t sc path k r q) where
-    pub cutting-inside : Inside t sc r
-    cutting-inside = links-inside t sc (path + 1) L r C.low
-
-    has : k ≤ q → 0 < parent_of t r
-    has h = has-parent t k pos r (omega (arith, C.par))
-
-    pub cutting-low : (f : ℕ) → f ≡ parent_of t r → k ≤ q → (0 < f) × (f ≤ r) × (f - 1 < path + 1)
-    cutting-low f e h = omega (arith, has h, C.low, L.rises r C.low)
-
-    pub cutting-links : (f : ℕ) → f ≡ parent_of t r → k ≤ q → Links t sc (f - 1 + 1)
-    cutting-links f e h = links-front t sc (path + 1) (f - 1 + 1) L (omega (arith, cutting-low f e h))
-
-    pub cutting-next : (f q' : ℕ) → f ≡ parent_of t r → k ≤ q → q' ≡ before t (f - 1) → Cutting t sc path k (f - 1) q'
-    cutting-next f q' e h b =
+    pub cutting-next : (f : ℕ) → f ≡ parent_of t r → k ≤ before t r → Cutting t sc path k (f - 1)
+    cutting-next f e h =
         record {
-          low = omega (arith, cutting-low f e h);
-          par = b;
-          is = ap (λ x. owner_of t k (x - 1)) e ∙ sym (owner-step t k pos (path + 1) r L.rises C.low (omega (arith, C.par))) ∙ C.is;
+          low = omega (arith, cutting-low f e h, C.low);
+          is = ap (λ x. owner_of t k (x - 1)) e ∙ sym (owner-step t k pos (path + 1) r L.rises C.low h) ∙ C.is;
         }
 
-    pub cutting-end : q < k → r ≡ owner_of t k path
+    pub cutting-end : before t r < k → r ≡ owner_of t k path
     unfolding owner_of
-    cutting-end h = sym (owner_here t k r r (omega (arith, C.par))) ∙ C.is
+    cutting-end h = sym (owner_here t k r r h) ∙ C.is
 
 -- ---- cut_path
 pub record Owned (t : List ℕ) (n k a : ℕ) : Type 0 where
@@ -193,14 +177,14 @@ module _ (t : List ℕ) (sc : List Float) (n k : ℕ) (L : Links t sc n) (pos : 
   owned r l c = owned_by r r l (omega arith) c
 
 pub cut_inside : (t : List ℕ) (k a f b j : ℕ) → f ≡ parent_of t a → b ≡ count_of t (f - 1) → j ≡ chain_of t a → k - b ≤ j
-    → ◌≡◌ {A = Cut} (record { parent = f; chain = k - b }) (cut_at t k a)
+    → ◌≡◌ {A = Cut} (record { parent = f - 1; chain = k - b }) (cut_at t k a)
 unfolding cut_at
 cut_inside t k a f b j F B J h =
     let e : b ≡ count_of t (parent_of t a - 1) = B ∙ ap (λ x. count_of t (x - 1)) F in
     rw (F, e, le-leb (k - count_of t (parent_of t a - 1)) (chain_of t a) (omega arith), cut_at)
 
 pub cut-whole : (t : List ℕ) (k a f b j : ℕ) → f ≡ parent_of t a → b ≡ count_of t (f - 1) → j ≡ chain_of t a → j < k - b
-    → ◌≡◌ {A = Cut} (record { parent = a + 1; chain = 0 }) (cut_at t k a)
+    → ◌≡◌ {A = Cut} (record { parent = a; chain = 0 }) (cut_at t k a)
 unfolding cut_at
 cut-whole t k a f b j F B J h =
     let e : b ≡ count_of t (parent_of t a - 1) = B ∙ ap (λ x. count_of t (x - 1)) F in

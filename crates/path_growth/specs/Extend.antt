@@ -1,19 +1,14 @@
 -- What the new records say of the edges: an extension is the path, its chain and an edge; a closed path is the path and its chain; a recovered path is
 -- the front of a path and an edge.
 use Rattle.std.specs.Prelude.{◌≡◌, ◌⊎◌, true, false, leb, length, take, set, Float}
-use Rattle.std.proofs.Math.Path.{refl, sym, ap}
-use Rattle.std.proofs.Common.{◌∙◌, inl, inr, add-one, length-set, take_all}
-use mathlib.Core.List.{List, [], ◌∷◌, ◌++◌, append_assoc, append-nil}
-use Prim.Native.Nat.{ℕ, zero, suc, ◌+◌, ◌-◌, ◌<◌, ◌≤◌}
-use native.Mathlib.Omega.{arith}
-use borrow.Author.Tests.{leb-true, leb-false}
+use Rattle.std.proofs.Common.{◌∙◌, inl, inr, add-one, length-set, take_all, refl, sym, ap, List, [], ◌∷◌, ◌++◌, append_assoc, append-nil, ℕ, zero, suc, ◌+◌, ◌-◌, ◌<◌, ◌≤◌, arith, leb-true, leb-false}
 use Rattle.std.proofs.lemmas.List.{take-append-le}
 use Rattle.std.proofs.Math.Seq.{take-append-add}
 use Rattle.laws.specs.BoolLaws.{Bool-cases}
 use Rattle.path_growth.specs.declared.Taken.{Taken}
 use Rattle.path_growth.specs.declared.Extension.{Extension}
 use Rattle.path_growth.specs.declared.Cut.{Cut}
-use Rattle.path_store.specs.Walk.{chain, end_from, run, after, Runs, Graph, sole, next, run_length, run-zero, runs-zero, end-nil}
+use Rattle.path_store.specs.Walk.{chain, end_from, run, Runs, Graph, sole, next, run_length, run-zero, runs-zero, end-nil}
 use Rattle.path_store.specs.Cells.{parent_of, chain_of, edge_of, count_of, end_of, Inside, put_cells, put-length, put-at}
 use Rattle.path_edges.specs.Path.{Table, Rooted, Right, inside, edges, edges-up, edges_none, count-up, piece_of, piece, piece_is, piece-length, piece-end, chain-end-at, last_edge, last-short}
 use Rattle.path_growth.specs.Push.{Fresh}
@@ -114,11 +109,10 @@ module _ (index targets t : List ℕ) (sc : List Float) (n : ℕ) (taken : Taken
 -- ---- a recovered path
 
 pub record CutIs (index targets t : List ℕ) (n path k : ℕ) (cut : Cut) : Type 0 where
-  pub has : 0 < cut.parent
-  pub known : cut.parent - 1 < n
-  pub runs : Runs index targets (end_of t (cut.parent - 1)) cut.chain
-  pub size : count_of t (cut.parent - 1) + cut.chain ≡ k
-  pub is : edges index targets t (cut.parent - 1) ++ run index targets (end_of t (cut.parent - 1)) cut.chain ≡ take k (edges index targets t path)
+  pub known : cut.parent < n
+  pub runs : Runs index targets (end_of t cut.parent) cut.chain
+  pub size : count_of t cut.parent + cut.chain ≡ k
+  pub is : edges index targets t cut.parent ++ run index targets (end_of t cut.parent) cut.chain ≡ take k (edges index targets t path)
 
 module _ (index targets t : List ℕ) (sc : List Float) (n : ℕ) (T : Table index targets t sc n) (k : ℕ) (pos : 0 < k) where
   up-front : (r : ℕ) → r < n → k ≤ before t r → take k (edges index targets t (parent_of t r - 1)) ≡ take k (edges index targets t r)
@@ -214,7 +208,6 @@ module _ (index targets t : List ℕ) (sc : List Float) (n : ℕ) (T : Table ind
             let s : count_of t (parent_of t a - 1) + (k - count_of t (parent_of t a - 1)) ≡ k = omega (arith, O.below) in
             rw (h, cut_at)
             (record {
-              has = O.has;
               known = p-low;
               runs = runs-front (end_of t (parent_of t a - 1)) (chain_of t a) (k - count_of t (parent_of t a - 1)) b ((T.rows a O.low).runs O.has);
               size = s;
@@ -222,19 +215,16 @@ module _ (index targets t : List ℕ) (sc : List Float) (n : ℕ) (T : Table ind
             })
         go (inr h) =
             let b = leb-false (k - count_of t (parent_of t a - 1)) (chain_of t a) h in
-            let z : a + 1 - 1 ≡ a = omega arith in
             rw (h, cut_at)
             (record {
-              has = omega arith;
               known = omega (arith, O.low);
-              runs = rw z (runs-zero index targets (end_of t a));
-              size = rw z (omega (arith, whole b));
+              runs = runs-zero index targets (end_of t a);
+              size = omega (arith, whole b);
               is =
-                  rw z
-                  (ap (λ x. edges index targets t a ++ x) (run-zero index targets (end_of t a))
+                  ap (λ x. edges index targets t a ++ x) (run-zero index targets (end_of t a))
                   ∙ append-nil (edges index targets t a)
                   ∙ sym (take_all k (edges index targets t a) (omega (arith, whole b, (T.rows a O.low).count)))
-                  ∙ front-is);
+                  ∙ front-is;
             })
 
   pub cut-is : (path : ℕ) → path < n → k ≤ count_of t path → CutIs index targets t n path k (cut_of t k path)
@@ -245,18 +235,9 @@ module _ (index targets t : List ℕ) (sc : List Float) (n : ℕ) (T : Table ind
 -- what the walk to the end of a cut asks
 pub record Ends (index targets t : List ℕ) (sc : List Float) (cut : Cut) : Type 0 where
   pub graph : Graph index targets
-  pub has : 0 < cut.parent
-  pub own : Inside t sc (cut.parent - 1)
-  pub runs : Runs index targets (end_of t (cut.parent - 1)) cut.chain
-  pub low : end_of t (cut.parent - 1) < length index
-
-pub ends_read : (index targets t : List ℕ) (sc : List Float) (cut : Cut) → Ends index targets t sc cut → (u c : ℕ) → u ≡ end_of t (cut.parent - 1) → c ≡ cut.chain
-    → Graph index targets × (u < length index) × Runs index targets u c
-ends_read index targets t sc cut E u c U C = (E.graph, rw U E.low, rw (U, C) E.runs)
-
-pub ends_is : (index targets t : List ℕ) (cut : Cut) (u c w : ℕ) → u ≡ end_of t (cut.parent - 1) → c ≡ cut.chain → w ≡ after index targets u c
-    → w ≡ after index targets (end_of t (cut.parent - 1)) cut.chain
-ends_is index targets t cut u c w U C W = rw (U, C) at W
+  pub own : Inside t sc cut.parent
+  pub runs : Runs index targets (end_of t cut.parent) cut.chain
+  pub low : end_of t cut.parent < length index
 
 pub cut-ends : (index targets t : List ℕ) (sc : List Float) (path k : ℕ) (cut : Cut) → Table index targets t sc (path + 1) → 0 < k → k ≤ count_of t path → cut ≡ cut_of t k path
     → Ends index targets t sc cut
@@ -265,15 +246,19 @@ cut-ends index targets t sc path k cut T pos low e =
     rw e
     (record {
       graph = T.graph;
-      has = C.has;
-      own = inside index targets t sc (path + 1) T ((cut_of t k path).parent - 1) C.known;
+      own = inside index targets t sc (path + 1) T (cut_of t k path).parent C.known;
       runs = C.runs;
-      low = (T.rows ((cut_of t k path).parent - 1) C.known).low;
+      low = (T.rows (cut_of t k path).parent C.known).low;
     })
+
+pub cut-known : (index targets t : List ℕ) (sc : List Float) (path k : ℕ) (cut : Cut) → Table index targets t sc (path + 1) → 0 < k → k ≤ count_of t path → cut ≡ cut_of t k path
+    → cut.parent ≤ path
+cut-known index targets t sc path k cut T pos low e =
+    rw e (let l = (cut-is index targets t sc (path + 1) T k pos path (omega arith) low).known in omega arith)
 
 module _ (index targets t : List ℕ) (sc : List Float) (n path k e : ℕ) (T : Table index targets t sc n) (I : Inside t sc n) (K : path < n) (pos : 0 < k) (low : k ≤ count_of t path)
     (h : e < length targets) where
-  pub recovered-fresh : Fresh index targets t sc n ((cut_of t k path).parent - 1) (recovered_row index t sc targets path k e)
+  pub recovered-fresh : Fresh index targets t sc n (cut_of t k path).parent (recovered_row index t sc targets path k e)
   recovered-fresh =
       let C = cut-is index targets t sc n T k pos path K low in
       let cut = cut_of t k path in
@@ -281,20 +266,20 @@ module _ (index targets t : List ℕ) (sc : List Float) (n path k e : ℕ) (T : 
         table = T;
         room = I;
         known = C.known;
-        parent = omega (arith, C.has);
+        parent = add-one cut.parent;
         runs = C.runs;
         last = omega arith;
         count = omega (arith, C.size, ap (λ es. length es) (one-edge e));
-        end = rw (add-one e) (sym (piece-end index targets (end_of t (cut.parent - 1)) cut.chain e));
+        end = rw (add-one e) (sym (piece-end index targets (end_of t cut.parent) cut.chain e));
         fork = refl;
       }
 
-  pub recovered-piece : edges index targets t ((cut_of t k path).parent - 1) ++ piece index targets (end_of t ((cut_of t k path).parent - 1)) (cut_of t k path).chain (e + 1)
+  pub recovered-piece : edges index targets t (cut_of t k path).parent ++ piece index targets (end_of t (cut_of t k path).parent) (cut_of t k path).chain (e + 1)
       ≡ take k (edges index targets t path) ++ e ∷ []
   recovered-piece =
       let C = cut-is index targets t sc n T k pos path K low in
       let cut = cut_of t k path in
-      let q = cut.parent - 1 in
+      let q = cut.parent in
       ap (λ x. edges index targets t q ++ x) (piece_is index targets (end_of t q) cut.chain (e + 1))
       ∙ sym (append_assoc (edges index targets t q) (run index targets (end_of t q) cut.chain) (last_edge (e + 1)))
       ∙ ap (λ x. x ++ last_edge (e + 1)) C.is

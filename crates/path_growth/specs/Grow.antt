@@ -1,12 +1,13 @@
 -- The records that are made, and what the functions that make them say: one equation of the answer and the tables.
-use Rattle.std.specs.Prelude.{◌≡◌, refl, true, false, List, ℕ, ◌+◌, ◌-◌, ◌<◌, ◌≤◌, leb, ltb, pos, get_or, set, Float}
+use Rattle.std.specs.Prelude.{◌≡◌, refl, Result, Ok, Err, true, false, List, ℕ, ◌+◌, ◌<◌, ◌≤◌, leb, ltb, pos, get_or, set, Float}
 use Rattle.std.proofs.Common.{ap, ◌∙◌, le-leb, lt-ltb, le-ltb}
 use Rattle.std.proofs.lemmas.Bool.{lt-leb}
 use Rattle.std.specs.Float.{fin}
-use Rattle.definition.specs.Refusal.{Result, ok, refused}
+use Rattle.definition.specs.Refusal as definition
 use Rattle.path_store.specs.declared.records.PathRecord.{PathRecord}
-use Rattle.path_growth.specs.declared.PathAnswer.{PathAnswer}
-use Rattle.path_growth.specs.declared.PathAnswer.TheVariants.{Made, Refused}
+use Rattle.refusals.specs.declared.Refusal.{Refusal}
+use Rattle.refusals.specs.declared.Refusal.TheVariants.{PathSize}
+use Rattle.refusals.specs.Numbers.{number}
 use Rattle.path_growth.specs.declared.Taken.{Taken}
 use Rattle.path_growth.specs.declared.Extension.{Extension}
 use Rattle.path_growth.specs.declared.Cut.{Cut}
@@ -16,17 +17,13 @@ use Rattle.path_store.specs.Cells.{count_of, end_of, trees_of, score_of, Inside,
 use Rattle.path_growth.specs.Cut.{cut_of}
 
 -- the paper's number and value of each answer
-abbrev pub answer_of : PathAnswer → Result ℕ
-answer_of (Made n) = ok n
-answer_of (Refused k) = refused k
-
-abbrev pub path_refusal : PathAnswer → ℕ
-path_refusal (Made n) = 0
-path_refusal (Refused k) = k
+abbrev pub answer_of : Result ℕ Refusal → definition.Result ℕ
+answer_of (Ok n) = definition.ok n
+answer_of (Err e) = definition.refused (number e)
 
 -- an answer with the tables that it leaves
 pub record Store : Type 0 where
-  pub answer : PathAnswer
+  pub answer : Result ℕ Refusal
   pub cells : List ℕ
   pub scores : List Float
 
@@ -34,11 +31,11 @@ pub record Store : Type 0 where
 unfoldable pub grow : List ℕ → List Float → ℕ → PathRecord → ℕ → Store
 grow t sc n row most =
     elim (leb row.edges most) [
-      | true ↦ record { answer = Made n; cells = put_cells t n row; scores = set sc n row.score }
-      | false ↦ record { answer = Refused 11; cells = t; scores = sc }
+      | true ↦ record { answer = Ok n; cells = put_cells t n row; scores = set sc n row.score }
+      | false ↦ record { answer = Err PathSize; cells = t; scores = sc }
     ]
 
-abbrev pub Grown : List ℕ → List Float → ℕ → PathRecord → ℕ → PathAnswer → List ℕ → List Float → Type 0
+abbrev pub Grown : List ℕ → List Float → ℕ → PathRecord → ℕ → Result ℕ Refusal → List ℕ → List Float → Type 0
 Grown t sc n row most r t' sc' = ◌≡◌ {A = Store} (record { answer = r; cells = t'; scores = sc' }) (grow t sc n row most)
 
 -- a record may be put at n, below the record p
@@ -100,12 +97,12 @@ abbrev pub recovered_row : List ℕ → List ℕ → List Float → List ℕ →
 recovered_row index t sc targets path k e =
     record {
       score = score_of sc path;
-      parent = (cut_of t k path).parent;
+      parent = (cut_of t k path).parent + 1;
       chain = (cut_of t k path).chain;
       edge = e + 1;
       edges = k + 1;
       end = get_or targets e 0;
-      fork = after index targets (end_of t ((cut_of t k path).parent - 1)) (cut_of t k path).chain;
+      fork = after index targets (end_of t (cut_of t k path).parent) (cut_of t k path).chain;
       since = 0;
       joined = 0;
       trees = 0;
@@ -132,11 +129,11 @@ joined_row row v =
 unfoldable pub join : List ℕ → List Float → ℕ → ℕ → ℕ → Store
 join t sc r v most =
     elim (ltb (trees_of t r) most) [
-      | true ↦ record { answer = Made r; cells = put_cells t r (joined_row (path_at t sc r) v); scores = set sc r (score_of sc r) }
-      | false ↦ record { answer = Refused 11; cells = t; scores = sc }
+      | true ↦ record { answer = Ok r; cells = put_cells t r (joined_row (path_at t sc r) v); scores = set sc r (score_of sc r) }
+      | false ↦ record { answer = Err PathSize; cells = t; scores = sc }
     ]
 
-abbrev pub Joined : List ℕ → List Float → ℕ → ℕ → ℕ → PathAnswer → List ℕ → List Float → Type 0
+abbrev pub Joined : List ℕ → List Float → ℕ → ℕ → ℕ → Result ℕ Refusal → List ℕ → List Float → Type 0
 Joined t sc r v most a t' sc' = ◌≡◌ {A = Store} (record { answer = a; cells = t'; scores = sc' }) (join t sc r v most)
 
 -- the chain after the path
@@ -188,11 +185,11 @@ pub close_row : (t : List ℕ) (sc : List Float) (taken : Taken) (s : Float) (k 
 close_row t sc taken s k p q = rw (p, q)
 
 pub recover-row : (index t : List ℕ) (sc : List Float) (targets : List ℕ) (path k e : ℕ) (s : Float) (cut : Cut) (v w u : ℕ) → s ≡ score_of sc path → cut ≡ cut_of t k path
-    → v ≡ get_or targets e 0 → u ≡ end_of t (cut.parent - 1) → w ≡ after index targets u cut.chain
+    → v ≡ get_or targets e 0 → u ≡ end_of t cut.parent → w ≡ after index targets u cut.chain
     → ◌≡◌ {A = PathRecord}
     (record {
       score = s;
-      parent = cut.parent;
+      parent = cut.parent + 1;
       chain = cut.chain;
       edge = e + 1;
       edges = k + 1;
@@ -207,29 +204,29 @@ pub recover-row : (index t : List ℕ) (sc : List Float) (targets : List ℕ) (p
 recover-row index t sc targets path k e s cut v w u p q h x y = rw (p, y, x, q, h)
 
 -- ---- the two ways of `grow` and of `join`
-pub grow-full : (t : List ℕ) (sc : List Float) (n : ℕ) (row : PathRecord) (most : ℕ) → most < row.edges → Grown t sc n row most (Refused 11) t sc
+pub grow-full : (t : List ℕ) (sc : List Float) (n : ℕ) (row : PathRecord) (most : ℕ) → most < row.edges → Grown t sc n row most (Err PathSize) t sc
 unfolding grow
 grow-full t sc n row most h = rw (lt-leb row.edges most h, grow)
 
 pub grow-made : (t : List ℕ) (sc : List Float) (n : ℕ) (row : PathRecord) (most : ℕ) → row.edges ≤ most
-    → Grown t sc n row most (Made n) (put_cells t n row) (set sc n row.score)
+    → Grown t sc n row most (Ok n) (put_cells t n row) (set sc n row.score)
 unfolding grow
 grow-made t sc n row most h = rw (le-leb row.edges most h, grow)
 
 -- what was stored is the record, by the values that the code has read
 pub grow-stored : (t : List ℕ) (sc : List Float) (n : ℕ) (row made : PathRecord) (most : ℕ) (t' : List ℕ) (sc' : List Float) → made ≡ row
-    → row.edges ≤ most → Stored t sc n made t' sc' → Grown t sc n row most (Made n) t' sc'
+    → row.edges ≤ most → Stored t sc n made t' sc' → Grown t sc n row most (Ok n) t' sc'
 grow-stored t sc n row made most t' sc' e h S =
     let a : t' ≡ put_cells t n row = S.cells ∙ ap (λ (x : PathRecord). put_cells t n x) e in
     let b : sc' ≡ set sc n row.score = S.scores ∙ ap (λ (x : PathRecord). set sc n x.score) e in
     rw (a, b) (grow-made t sc n row most h)
 
-pub join-full : (t : List ℕ) (sc : List Float) (r v most : ℕ) → most ≤ trees_of t r → Joined t sc r v most (Refused 11) t sc
+pub join-full : (t : List ℕ) (sc : List Float) (r v most : ℕ) → most ≤ trees_of t r → Joined t sc r v most (Err PathSize) t sc
 unfolding join
 join-full t sc r v most h = rw (le-ltb (trees_of t r) most h, join)
 
 pub join-stored : (t : List ℕ) (sc : List Float) (r v most : ℕ) (row : PathRecord) (t' : List ℕ) (sc' : List Float) → row ≡ path_at t sc r → row.trees < most
-    → Stored t sc r (joined_row row v) t' sc' → Joined t sc r v most (Made r) t' sc'
+    → Stored t sc r (joined_row row v) t' sc' → Joined t sc r v most (Ok r) t' sc'
 unfolding join
 join-stored t sc r v most row t' sc' e h S =
     let a : t' ≡ put_cells t r (joined_row (path_at t sc r) v) = S.cells ∙ ap (λ (x : PathRecord). put_cells t r (joined_row x v)) e in

@@ -1,16 +1,15 @@
 -- What a caller carries along: a table of n paths that all start at the source. Each function's outcome keeps it, and the other paths stay what they are.
-use Rattle.std.proofs.Math.Path.{◌≡◌, ap}
-use Rattle.std.specs.Prelude.{refl, ◌⊎◌, ◌≢◌, true, false, List, ℕ, ◌+◌, ◌-◌, ◌<◌, ◌≤◌, leb, ltb, length, Float}
-use Rattle.std.proofs.Common.{sym, inl, inr, arith, get_or-set_other}
-use borrow.Author.Tests.{leb-true, leb-false, ltb-true, ltb-false}
-use Rattle.std.proofs.Math.ListN.{set}
+use Rattle.std.specs.Prelude.{refl, Result, Ok, Err, ◌⊎◌, ◌≢◌, true, false, List, ℕ, ◌+◌, ◌<◌, ◌≤◌, leb, ltb, length, Float}
+use Rattle.std.proofs.Common.{sym, inl, inr, arith, get_or-set_other, ◌≡◌, ap, leb-true, leb-false, ltb-true, ltb-false, set}
 use Rattle.std.specs.Float.{nan}
 use Rattle.laws.specs.BoolLaws.{Bool-cases}
 use Rattle.definition.specs.Threading.{Ends}
 use Rattle.definition.specs.Evidence.{Branches}
 use Rattle.definition.specs.Search.{SearchInput}
 use Rattle.path_store.specs.declared.records.PathRecord.{PathRecord}
-use Rattle.path_growth.specs.declared.PathAnswer.TheVariants.{Made, Refused}
+use Rattle.refusals.specs.declared.Refusal.{Refusal}
+use Rattle.refusals.specs.declared.Refusal.TheVariants.{PathSize}
+use Rattle.refusals.specs.Numbers.{number}
 use Rattle.path_growth.specs.declared.Taken.{Taken}
 use Rattle.path_growth.specs.declared.Extension.{Extension}
 use Rattle.path_store.specs.Walk.{Graph}
@@ -39,71 +38,74 @@ pub record Kept (t : List ℕ) (sc : List Float) (k : ℕ) (t' : List ℕ) (sc' 
   pub cells : t' ≡ t
   pub scores : sc' ≡ sc
 
-made-number : {a b : ℕ} → Made a ≡ Made b → a ≡ b
+abbrev Answer : Type 0
+Answer = Result ℕ Refusal
+
+made-number : {a b : ℕ} → ◌≡◌ {A = Answer} (Ok a) (Ok b) → a ≡ b
 made-number e = cc
 
-refused-number : {a b : ℕ} → Refused a ≡ Refused b → a ≡ b
+refused-number : {a b : Refusal} → ◌≡◌ {A = Answer} (Err a) (Err b) → number a ≡ number b
 refused-number e = cc
 
-made-refused : {A : Type 0} {a b : ℕ} → Made a ≡ Refused b → A
+made-refused : {A : Type 0} {a : ℕ} {b : Refusal} → ◌≡◌ {A = Answer} (Ok a) (Err b) → A
 made-refused e = let z : ◌≡◌ {A = ℕ} 0 1 = cc in absurd (omega arith)
 
 module _ (t : List ℕ) (sc : List Float) (n : ℕ) (row : PathRecord) (most : ℕ) (t' : List ℕ) (sc' : List Float) where
-  pub grown-made : (m : ℕ) → Grown t sc n row most (Made m) t' sc' → Put t sc n row m t' sc' × (row.edges ≤ most)
+  pub grown-made : (m : ℕ) → Grown t sc n row most (Ok m) t' sc' → Put t sc n row m t' sc' × (row.edges ≤ most)
   unfolding grow
   grown-made m g = go (Bool-cases (leb row.edges most))
     where
       go : (leb row.edges most ≡ true) ⊎ (leb row.edges most ≡ false) → Put t sc n row m t' sc' × (row.edges ≤ most)
       go (inl h) =
-          let e : ◌≡◌ {A = Store} (record { answer = Made m; cells = t'; scores = sc' }) (record { answer = Made n; cells = put_cells t n row; scores = set sc n row.score }) =
+          let e : ◌≡◌ {A = Store} (record { answer = Ok m; cells = t'; scores = sc' }) (record { answer = Ok n; cells = put_cells t n row; scores = set sc n row.score }) =
           rw (h, grow) at g
           in
           (record { number = made-number (ap (λ (x : Store). x.answer) e); cells = ap (λ (x : Store). x.cells) e; scores = ap (λ (x : Store). x.scores) e }, leb-true row.edges most h)
       go (inr h) =
-          let e : ◌≡◌ {A = Store} (record { answer = Made m; cells = t'; scores = sc' }) (record { answer = Refused 11; cells = t; scores = sc }) = rw (h, grow) at g in
+          let e : ◌≡◌ {A = Store} (record { answer = Ok m; cells = t'; scores = sc' }) (record { answer = Err PathSize; cells = t; scores = sc }) = rw (h, grow) at g in
           made-refused (ap (λ (x : Store). x.answer) e)
 
-  pub grown-refused : (k : ℕ) → Grown t sc n row most (Refused k) t' sc' → Kept t sc k t' sc' × (most < row.edges)
+  pub grown-refused : (r : Refusal) → Grown t sc n row most (Err r) t' sc' → Kept t sc (number r) t' sc' × (most < row.edges)
   unfolding grow
-  grown-refused k g = go (Bool-cases (leb row.edges most))
+  grown-refused r g = go (Bool-cases (leb row.edges most))
     where
-      go : (leb row.edges most ≡ true) ⊎ (leb row.edges most ≡ false) → Kept t sc k t' sc' × (most < row.edges)
+      go : (leb row.edges most ≡ true) ⊎ (leb row.edges most ≡ false) → Kept t sc (number r) t' sc' × (most < row.edges)
       go (inl h) =
-          let e : ◌≡◌ {A = Store} (record { answer = Refused k; cells = t'; scores = sc' }) (record { answer = Made n; cells = put_cells t n row; scores = set sc n row.score }) =
+          let e : ◌≡◌ {A = Store} (record { answer = Err r; cells = t'; scores = sc' }) (record { answer = Ok n; cells = put_cells t n row; scores = set sc n row.score }) =
           rw (h, grow) at g
           in
           made-refused (sym (ap (λ (x : Store). x.answer) e))
       go (inr h) =
-          let e : ◌≡◌ {A = Store} (record { answer = Refused k; cells = t'; scores = sc' }) (record { answer = Refused 11; cells = t; scores = sc }) = rw (h, grow) at g in
+          let e : ◌≡◌ {A = Store} (record { answer = Err r; cells = t'; scores = sc' }) (record { answer = Err PathSize; cells = t; scores = sc }) = rw (h, grow) at g in
           (record { number = refused-number (ap (λ (x : Store). x.answer) e); cells = ap (λ (x : Store). x.cells) e; scores = ap (λ (x : Store). x.scores) e }, leb-false row.edges most h)
 
 module _ (t : List ℕ) (sc : List Float) (r v most : ℕ) (t' : List ℕ) (sc' : List Float) where
-  pub joined_made : (m : ℕ) → Joined t sc r v most (Made m) t' sc' → Put t sc r (joined_row (path_at t sc r) v) m t' sc' × (trees_of t r < most)
+  pub joined_made : (m : ℕ) → Joined t sc r v most (Ok m) t' sc' → Put t sc r (joined_row (path_at t sc r) v) m t' sc' × (trees_of t r < most)
   unfolding join
   joined_made m g = go (Bool-cases (ltb (trees_of t r) most))
     where
       go : (ltb (trees_of t r) most ≡ true) ⊎ (ltb (trees_of t r) most ≡ false) → Put t sc r (joined_row (path_at t sc r) v) m t' sc' × (trees_of t r < most)
       go (inl h) =
-          let e : ◌≡◌ {A = Store} (record { answer = Made m; cells = t'; scores = sc' }) (record { answer = Made r; cells = put_cells t r (joined_row (path_at t sc r) v); scores = set sc r (score_of sc r) }) =
+          let e : ◌≡◌ {A = Store} (record { answer = Ok m; cells = t'; scores = sc' }) (record { answer = Ok r; cells = put_cells t r (joined_row (path_at t sc r) v); scores = set sc r (score_of sc r) }) =
           rw (h, join) at g
           in
           (record { number = made-number (ap (λ (x : Store). x.answer) e); cells = ap (λ (x : Store). x.cells) e; scores = ap (λ (x : Store). x.scores) e }, ltb-true (trees_of t r) most h)
       go (inr h) =
-          let e : ◌≡◌ {A = Store} (record { answer = Made m; cells = t'; scores = sc' }) (record { answer = Refused 11; cells = t; scores = sc }) = rw (h, join) at g in
+          let e : ◌≡◌ {A = Store} (record { answer = Ok m; cells = t'; scores = sc' }) (record { answer = Err PathSize; cells = t; scores = sc }) = rw (h, join) at g in
           made-refused (ap (λ (x : Store). x.answer) e)
 
-  pub joined-refused : (k : ℕ) → Joined t sc r v most (Refused k) t' sc' → Kept t sc k t' sc' × (most ≤ trees_of t r)
+  pub joined-refused : (a : Refusal) → Joined t sc r v most (Err a) t' sc' → Kept t sc (number a) t' sc' × (most ≤ trees_of t r)
   unfolding join
-  joined-refused k g = go (Bool-cases (ltb (trees_of t r) most))
+  joined-refused a g = go (Bool-cases (ltb (trees_of t r) most))
     where
-      go : (ltb (trees_of t r) most ≡ true) ⊎ (ltb (trees_of t r) most ≡ false) → Kept t sc k t' sc' × (most ≤ trees_of t r)
+      go : (ltb (trees_of t r) most ≡ true) ⊎ (ltb (trees_of t r) most ≡ false) → Kept t sc (number a) t' sc' × (most ≤ trees_of t r)
       go (inl h) =
-          let e : ◌≡◌ {A = Store} (record { answer = Refused k; cells = t'; scores = sc' }) (record { answer = Made r; cells = put_cells t r (joined_row (path_at t sc r) v); scores = set sc r (score_of sc r) }) =
+          let e : ◌≡◌ {A = Store} (record { answer = Err a; cells = t'; scores = sc' }) (record { answer = Ok r; cells = put_cells t r (joined_row (path_at t sc r) v); scores = set sc r (score_of sc r) }) =
           rw (h, join) at g
           in
           made-refused (sym (ap (λ (x : Store). x.answer) e))
       go (inr h) =
-          let e : ◌≡◌ {A = Store} (record { answer = Refused k; cells = t'; scores = sc' }) (record { answer = Refused 11; cells = t; scores = sc }) = rw (h, join) at g in
+          let e : ◌≡◌ {A = Store} (record { answer = Err a; cells = t'; scores = sc' }) (record { answer = Err PathSize; cells = t; scores = sc }) = rw (h, join) at g in
           (record { number = refused-number (ap (λ (x : Store). x.answer) e); cells = ap (λ (x : Store). x.cells) e; scores = ap (λ (x : Store). x.scores) e }, ltb-false (trees_of t r) most h)
 
 module _ (index targets : List ℕ) (source : ℕ) where
@@ -127,7 +129,7 @@ module _ (index targets : List ℕ) (source : ℕ) where
     pub held-recovered : (path k e : ℕ) → path < n → 0 < k → k ≤ count_of t path → e < length targets
         → Held index targets source (put_cells t n (recovered_row index t sc targets path k e)) (set sc n (score_of sc path)) (n + 1)
     held-recovered path k e K pos low h =
-        held-pushed ((cut_of t k path).parent - 1) (recovered_row index t sc targets path k e) (recovered-fresh index targets t sc n path k e H.table I K pos low h)
+        held-pushed (cut_of t k path).parent (recovered_row index t sc targets path k e) (recovered-fresh index targets t sc n path k e H.table I K pos low h)
 
     -- the earlier paths stay, whatever the new record is
     pub pushed-view : (f : SearchInput) (ends : ℕ → Ends) (bs : List Branches) (row : PathRecord) (r : ℕ) → r < n

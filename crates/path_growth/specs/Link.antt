@@ -1,12 +1,8 @@
 -- Edge numbers and the definition's edges: the chain, the vertices and the end of a path over `Ends` are those over numbers.
 use Rattle.std.specs.Prelude.{◌≡◌, ◌⊎◌, Bool, false, ◌||◌, eqb, take}
-use Rattle.std.proofs.Math.Path.{refl, ap}
-use Rattle.std.proofs.Common.{sym, ◌∙◌, inl, inr, arith}
-use Rattle.std.proofs.Math.Bool.{true}
-use mathlib.Core.List.{List, [], ◌∷◌, ◌++◌, map, append-nil, map-append}
+use Rattle.std.proofs.Common.{sym, ◌∙◌, inl, inr, arith, refl, ap, true, List, [], ◌∷◌, ◌++◌, map, append-nil, ℕ, zero, suc, ◌<◌, length, get_or}
+use Rattle.std.proofs.lemmas.List.{map-append}
 use Rattle.std.proofs.Math.Option.{none, some}
-use Prim.Native.Nat.{ℕ, zero, suc, ◌<◌}
-use Rattle.std.proofs.Math.ListN.{length, get_or}
 use Rattle.laws.specs.Lists.{any, tally}
 use Rattle.laws.specs.BoolLaws.{both_ways, or_right}
 use Rattle.definition.specs.Threading.{Ends, Edge, eq_ends}

@@ -1,13 +1,9 @@
 -- A record as the definition's path, and what each function's tables say of it: the start path, an extension, a joined tree, a closed path, a recovered
 -- path, the repeat rule. `bs` are the active trees of the path, which another table holds.
-use Rattle.std.specs.Prelude.{◌≡◌, Bool, false, not, ◌||◌, cond, ℕ, suc, ◌+◌, ◌-◌, ◌<◌, ◌≤◌, length, set, Float}
-use Rattle.std.proofs.Math.Path.{refl, ap}
-use Rattle.std.proofs.Common.{sym, ◌∙◌, add-one, arith, le-leb}
-use mathlib.Core.List.{List, [], ◌∷◌, ◌++◌, map}
+use Rattle.std.specs.Prelude.{◌≡◌, Bool, false, not, ◌||◌, cond, ℕ, suc, ◌+◌, ◌<◌, ◌≤◌, length, set, Float}
+use Rattle.std.proofs.Common.{sym, ◌∙◌, add-one, arith, le-leb, refl, ap, List, [], ◌∷◌, ◌++◌, map, take, get_or-set_same}
 use Rattle.std.proofs.lemmas.Bool.{lt-leb}
-use Rattle.std.proofs.Math.ListN.{take}
 use Rattle.std.proofs.lemmas.List.{length-map}
-use Rattle.std.proofs.Math.Seq.{get_or-set_same}
 use Rattle.std.specs.Float.Ieee.{nan}
 use Rattle.laws.specs.Lists.{keep, is_some, is_empty}
 use Rattle.definition.specs.Refusal.{ok, refused}
@@ -170,7 +166,7 @@ module _ (f : SearchInput) (ends : ℕ → Ends) (index targets : List ℕ) wher
     recovered-view t sc n path k e T I K pos low h =
         let row = recovered_row index t sc targets path k e in
         let u = put_cells t n row in
-        let P = pushed index targets t sc n ((cut_of t k path).parent - 1) row (recovered-fresh index targets t sc n path k e T I K pos low h) in
+        let P = pushed index targets t sc n (cut_of t k path).parent row (recovered-fresh index targets t sc n path k e T I K pos low h) in
         let es : edges index targets u n ≡ take k (edges index targets t path) ++ e ∷ [] = P.is ∙ recovered-piece index targets t sc n path k e T I K pos low h in
         let a : map ends (edges index targets u n) ≡ take k (map ends (edges index targets t path)) ++ ends e ∷ [] =
         ap (λ x. map ends x) es ∙ recovered-same f index targets ends A k (edges index targets t path) e
@@ -190,7 +186,7 @@ module _ (f : SearchInput) (ends : ℕ → Ends) (index targets : List ℕ) wher
         → length (take k (map ends (edges index targets t path)) ++ ends e ∷ []) ≡ k + 1
     recovered-length t sc n path k e T I K pos low h =
         let row = recovered_row index t sc targets path k e in
-        let P = pushed index targets t sc n ((cut_of t k path).parent - 1) row (recovered-fresh index targets t sc n path k e T I K pos low h) in
+        let P = pushed index targets t sc n (cut_of t k path).parent row (recovered-fresh index targets t sc n path k e T I K pos low h) in
         ap (λ (x : List Ends). length x) (sym (ap (λ x. map ends x) (P.is ∙ recovered-piece index targets t sc n path k e T I K pos low h) ∙ recovered-same f index targets ends A k (edges index targets t path) e))
         ∙ length-map (edges index targets (put_cells t n row) n) ends
         ∙ sym (P.table.rows n (omega arith)).count

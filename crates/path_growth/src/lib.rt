@@ -1,34 +1,17 @@
 // Paths are made: the start path, an extension, a closed path, a recovered path; and a tree joins a path that is taken.
 #![tactic(auto)]
 
-ghost use Rattle.std.specs.Prelude.{◌≡◌, ◌+◌, ◌-◌, ◌<◌, ◌≤◌, length};
+ghost use Rattle.std.specs.Prelude.{◌≡◌, ◌+◌, ◌<◌, ◌≤◌, length};
 ghost use Rattle.path_store.specs.Walk.{after};
 ghost use Rattle.path_store.specs.Cells.{Inside, Stored, count_of, end_of};
 ghost use Rattle.path_edges.specs.Path.{Table};
 ghost use Rattle.path_growth.specs.Cut.{before, owner_of, cut_of, Links};
 ghost use Rattle.path_growth.specs.Extend.{Ends};
-ghost use Rattle.path_growth.specs.Grow.{path_refusal, start_row, Following, Growable, Grown, extended_row, closed_row, recovered_row, Joined};
+ghost use Rattle.path_growth.specs.Grow.{start_row, Following, Growable, Grown, extended_row, closed_row, recovered_row, Joined};
 
-use path_store::chains::{at, chain_from, walk, wide};
-use path_store::records::{PathRecord, path_at, path_put};
-use refusals::PATH_SIZE;
-
-// The number of the path that was made, or a refusal.
-#[derive(Clone, Copy)]
-pub enum PathAnswer {
-    Made(u32),
-    Refused(u32),
-}
-
-// The number of a refusal, 0 for none.
-pub fn path_refusal(r: PathAnswer) -> u32
-    ensures { result ≡ path_refusal r }
-{
-    match r {
-        PathAnswer::Made(_) => 0,
-        PathAnswer::Refused(n) => n,
-    }
-}
+use path_store::chains::Chains;
+use path_store::records::{PathRecord, Paths, path_put};
+use refusals::Refusal;
 
 // A taken path, the length of the chain after it, and the vertex that the chain leads to.
 #[derive(Clone, Copy)]
@@ -47,7 +30,7 @@ pub struct Extension {
     pub trees: u32,
 }
 
-// A front of a path's edges: those of the path with this number + 1, then a chain of this length.
+// A front of a path's edges: those of the path `parent`, an ancestor or the path itself, and then a chain of this length.
 #[derive(Clone, Copy)]
 pub struct Cut {
     pub parent: u32,
@@ -76,26 +59,19 @@ pub fn start_path(paths: &mut [u32], scores: &mut [f64], source: u32)
 }
 
 // The chain after a path.
-pub fn follow_chain(
-    paths: &[u32],
-    scores: &[f64],
-    index: &[u32],
-    targets: &[u32],
-    path: u32,
-) -> Taken
-    requires { Table index.now targets.now paths.now scores.now (path + 1) }
-    ensures { Following index.now targets.now paths.now path result }
+pub fn follow_chain(paths: Paths, chains: Chains, path: u32) -> Taken
+    requires { Table chains.index.now chains.targets.now paths.records.now paths.scores.now (path + 1) }
+    ensures { Following chains.entry.index.now chains.entry.targets.now paths.entry.records.now path result }
 {
-    let row = path_at(paths, scores, path);
-    let c = chain_from(index, targets, row.end);
+    let c = chains.chain_from(paths.at(path).end);
     Taken {
-        path: path,
+        path,
         chain: c.steps as u32,
         vertex: c.vertex,
     }
 }
 
-// The taken path with its chain and an edge more becomes the record n; more edges than the maximum is 11. (extend_with_edges)
+// The taken path with its chain and an edge more becomes the record n; more edges than the maximum is PathSize. (extend_with_edges)
 pub fn extend_path(
     paths: &mut [u32],
     scores: &mut [f64],
@@ -104,14 +80,17 @@ pub fn extend_path(
     taken: Taken,
     x: Extension,
     most: u32,
-) -> PathAnswer
+) -> Result<u32, Refusal>
     requires { Growable paths.old scores.old n taken.path × (x.edge < length targets.now) × (x.edge + 1 < 4294967296) × (x.trees < 2147483648) }
     ensures { Grown paths.old scores.old n (extended_row paths.old targets.now taken x) most result paths.new scores.new }
 {
-    let parent = path_at(paths, scores, taken.path);
-    let k = wide(parent.edges) + wide(taken.chain) + 1;
-    if k > wide(most) {
-        return PathAnswer::Refused(PATH_SIZE);
+    let held = Paths {
+        records: paths,
+        scores,
+    };
+    let k = held.at(taken.path).edges as usize + taken.chain as usize + 1;
+    if k > most as usize {
+        return Err(Refusal::PathSize);
     }
     let row = PathRecord {
         score: x.score,
@@ -119,7 +98,7 @@ pub fn extend_path(
         chain: taken.chain,
         edge: x.edge + 1,
         edges: k as u32,
-        end: at(targets, x.edge),
+        end: targets[x.edge as usize],
         fork: taken.vertex,
         since: x.since,
         joined: 0,
@@ -127,24 +106,28 @@ pub fn extend_path(
         recovered: false,
     };
     path_put(paths, scores, n, row);
-    PathAnswer::Made(n)
+    Ok(n)
 }
 
-// The taken path with its chain becomes the record n: a closed path, with the score of the path.
+// The taken path with its chain becomes the record n: a closed path, with the score of the path; more edges than the maximum is PathSize.
 pub fn close_path(
     paths: &mut [u32],
     scores: &mut [f64],
     n: u32,
     taken: Taken,
     most: u32,
-) -> PathAnswer
+) -> Result<u32, Refusal>
     requires { Growable paths.old scores.old n taken.path }
     ensures { Grown paths.old scores.old n (closed_row paths.old scores.old taken) most result paths.new scores.new }
 {
-    let parent = path_at(paths, scores, taken.path);
-    let k = wide(parent.edges) + wide(taken.chain);
-    if k > wide(most) {
-        return PathAnswer::Refused(PATH_SIZE);
+    let held = Paths {
+        records: paths,
+        scores,
+    };
+    let parent = held.at(taken.path);
+    let k = parent.edges as usize + taken.chain as usize;
+    if k > most as usize {
+        return Err(Refusal::PathSize);
     }
     let row = PathRecord {
         score: parent.score,
@@ -160,127 +143,124 @@ pub fn close_path(
         recovered: false,
     };
     path_put(paths, scores, n, row);
-    PathAnswer::Made(n)
+    Ok(n)
 }
 
 // The count of edges before the path's own piece.
-fn edges_before(paths: &[u32], scores: &[f64], path: u32) -> u32
-    requires { Links paths.now scores.now (path + 1) }
-    ensures { result ≡ before paths.now path }
+fn edges_before(paths: Paths, path: u32) -> u32
+    requires { Links paths.records.now paths.scores.now (path + 1) }
+    ensures { result ≡ before paths.entry.records.now path }
 {
-    let row = path_at(paths, scores, path);
-    if row.parent == 0 {
-        return 0;
+    match paths.at(path).above() {
+        Some(p) => paths.at(p).edges,
+        None => 0,
     }
-    let parent = path_at(paths, scores, row.parent - 1);
-    parent.edges
 }
 
-// The ancestor whose own piece holds the path's edge k - 1.
-fn cut_owner(paths: &[u32], scores: &[f64], path: u32, k: u32) -> u32
-    requires { Links paths.now scores.now (path + 1) × (0 < k) }
-    ensures { result ≡ owner_of paths.now k path }
+// The path, or the ancestor of it, whose own piece holds the path's edge k - 1.
+fn cut_owner(paths: Paths, path: u32, k: u32) -> u32
+    requires { Links paths.records.now paths.scores.now (path + 1) × (0 < k) }
+    ensures { result ≡ owner_of paths.entry.records.now k path }
 {
     let mut r = path;
-    let mut q = edges_before(paths, scores, r);
-    while k <= q {
-        let row = path_at(paths, scores, r);
-        r = row.parent - 1;
-        q = edges_before(paths, scores, r);
+    while k <= edges_before(paths, r) {
+        r = paths.at(r).parent - 1;
     }
     r
 }
 
-// The first k edges of a path, as an ancestor and a front of the chain after it.
-pub fn cut_path(paths: &[u32], scores: &[f64], path: u32, k: u32) -> Cut
-    requires { Links paths.now scores.now (path + 1) × (0 < k) × (k ≤ count_of paths.now path) × (path + 1 < 4294967296) }
-    ensures { result ≡ cut_of paths.now k path }
+// The first k edges of a path, as one of its ancestors, or itself, and a front of the chain after that.
+pub fn cut_path(paths: Paths, path: u32, k: u32) -> Cut
+    requires { Links paths.records.now paths.scores.now (path + 1) × (0 < k) × (k ≤ count_of paths.records.now path) }
+    ensures { result ≡ cut_of paths.entry.records.now k path }
 {
-    let a = cut_owner(paths, scores, path, k);
-    let own = path_at(paths, scores, a);
-    let parent = path_at(paths, scores, own.parent - 1);
-    let j = k - parent.edges;
-    if j <= own.chain {
-        return Cut {
-            parent: own.parent,
-            chain: j,
-        };
+    let owner = cut_owner(paths, path, k);
+    let own = paths.at(owner);
+    let parent = own.parent - 1;
+    let chain = k - paths.at(parent).edges;
+    if chain <= own.chain {
+        return Cut { parent, chain };
     }
     Cut {
-        parent: a + 1,
+        parent: owner,
         chain: 0,
     }
 }
 
 // The vertex that a cut leads to.
-fn cut_end(paths: &[u32], scores: &[f64], index: &[u32], targets: &[u32], cut: Cut) -> u32
-    requires { Ends index.now targets.now paths.now scores.now cut }
-    ensures { result ≡ after index.now targets.now (end_of paths.now (cut.parent - 1)) cut.chain }
+fn cut_end(paths: Paths, chains: Chains, cut: Cut) -> u32
+    requires { Ends chains.index.now chains.targets.now paths.records.now paths.scores.now cut }
+    ensures { result ≡ after chains.entry.index.now chains.entry.targets.now (end_of paths.entry.records.now cut.parent) cut.chain }
 {
-    let parent = path_at(paths, scores, cut.parent - 1);
-    walk(index, targets, parent.end, wide(cut.chain))
+    chains.walk(paths.at(cut.parent).end, cut.chain as usize)
 }
 
-// The first k edges of a path and then the edge e become the record n, with the whole score of the path; more edges than the maximum is 11.
+// The first k edges of a path and then the edge e become the record n, with the whole score of the path; more edges than the maximum is PathSize.
 // (enqueue_next_pivotal_edge)
 pub fn recover_path(
     paths: &mut [u32],
     scores: &mut [f64],
-    index: &[u32],
-    targets: &[u32],
+    chains: Chains,
     n: u32,
     path: u32,
     k: u32,
     e: u32,
     most: u32,
-) -> PathAnswer
-    requires { Growable paths.old scores.old n path × Table index.now targets.now paths.old scores.old (path + 1) × (0 < k) × (k ≤ count_of paths.old path) × (e < length targets.now) × (e + 1 < 4294967296) }
-    ensures { Grown paths.old scores.old n (recovered_row index.now paths.old scores.old targets.now path k e) most result paths.new scores.new }
+) -> Result<u32, Refusal>
+    requires { Growable paths.old scores.old n path × Table chains.index.now chains.targets.now paths.old scores.old (path + 1) × (0 < k) × (k ≤ count_of paths.old path) × (e < length chains.targets.now) × (e + 1 < 4294967296) }
+    ensures { Grown paths.old scores.old n (recovered_row chains.entry.index.now paths.old scores.old chains.entry.targets.now path k e) most result paths.new scores.new }
 {
     if k >= most {
-        return PathAnswer::Refused(PATH_SIZE);
+        return Err(Refusal::PathSize);
     }
-    let best = path_at(paths, scores, path);
-    let cut = cut_path(paths, scores, path, k);
+    let held = Paths {
+        records: paths,
+        scores,
+    };
+    let best = held.at(path);
+    let cut = cut_path(held, path, k);
     let row = PathRecord {
         score: best.score,
-        parent: cut.parent,
+        parent: cut.parent + 1,
         chain: cut.chain,
         edge: e + 1,
         edges: k + 1,
-        end: at(targets, e),
-        fork: cut_end(paths, scores, index, targets, cut),
+        end: chains.targets[e as usize],
+        fork: cut_end(held, chains, cut),
         since: 0,
         joined: 0,
         trees: 0,
         recovered: true,
     };
     path_put(paths, scores, n, row);
-    PathAnswer::Made(n)
+    Ok(n)
 }
 
-// The tree at the vertex v joins the path; more active trees than the maximum is 11. (add_junction_tree)
-pub fn join_tree(paths: &mut [u32], scores: &mut [f64], path: u32, v: u32, most: u32) -> PathAnswer
+// The tree at the vertex v joins the path; more active trees than the maximum is PathSize. (add_junction_tree)
+pub fn join_tree(
+    paths: &mut [u32],
+    scores: &mut [f64],
+    path: u32,
+    v: u32,
+    most: u32,
+) -> Result<u32, Refusal>
     requires { Inside paths.old scores.old path × (v + 1 < 4294967296) × (most ≤ 65536) }
     ensures { Joined paths.old scores.old path v most result paths.new scores.new }
 {
-    let row = path_at(paths, scores, path);
+    let held = Paths {
+        records: paths,
+        scores,
+    };
+    let row = held.at(path);
     if row.trees >= most {
-        return PathAnswer::Refused(PATH_SIZE);
+        return Err(Refusal::PathSize);
     }
     let with = PathRecord {
-        score: row.score,
-        parent: row.parent,
-        chain: row.chain,
-        edge: row.edge,
-        edges: row.edges,
-        end: row.end,
-        fork: row.fork,
         since: 0,
         joined: v + 1,
         trees: row.trees + 1,
-        recovered: row.recovered,
+        ..row
     };
     path_put(paths, scores, path, with);
-    PathAnswer::Made(path)
+    Ok(path)
 }

@@ -1,9 +1,7 @@
 -- The heap's list, read as paths, is the definition's list of waiting paths: a push is the definition's `wait`, a pop takes the head.
 -- `view` is how a record number gives a path.
 use Rattle.std.specs.Prelude.{◌≡◌, ℕ, ◌+◌, ◌<◌, get_or, Float}
-use Rattle.std.proofs.Math.Path.{ap}
-use Rattle.std.proofs.Common.{◌∙◌}
-use mathlib.Core.List.{List, map}
+use Rattle.std.proofs.Common.{◌∙◌, ap, List, map}
 use Rattle.std.specs.Float.{nan}
 use Rattle.laws.specs.ListLaws.{all-mono}
 use Rattle.laws.specs.Sorting.{insert-map}

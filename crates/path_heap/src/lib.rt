@@ -1,4 +1,5 @@
 // The waiting paths: a binary heap of record numbers, by their scores.
+// In a lent slice, since std's BinaryHeap allocates; n stands beside it, since a push needs the places behind the n.
 #![tactic(auto)]
 
 ghost use Rattle.std.specs.Prelude.{◌≡◌, ℕ, ◌+◌, ◌-◌, ◌*◌, ◌<◌, ◌≤◌, length};
@@ -11,10 +12,9 @@ fn leads(scores: &[f64], a: u32, b: u32) -> bool
     requires { Known scores.now a × Known scores.now b }
     ensures { result ≡ leads scores.now a b }
 {
-    let i = a as usize;
-    let j = b as usize;
-    let x = scores[i];
-    let y = scores[j];
+    let x = scores[a as usize];
+    let y = scores[b as usize];
+    // Tried, and slower, since they compile without a jump: (y, a) < (x, b), three times; if x == y { a < b } else { y < x }, a seventh of a search.
     if y < x {
         return true;
     }
@@ -46,6 +46,7 @@ fn raise(queue: &mut [u32], n: usize, scores: &[f64], hole: usize, path: u32)
     ensures { Raised (leads scores.now) (Known scores.now) queue.old n hole path queue.new }
 {
     let mut i = hole;
+    // The heap lies in a lent slice, since there is no heap memory for std's `BinaryHeap`; i halves.
     while i > 0 {
         let p = (i - 1) / 2;
         let q = queue[p];
@@ -65,6 +66,7 @@ fn sink_hole(queue: &mut [u32], m: usize, scores: &[f64]) -> usize
     ensures { Sunk (leads scores.now) (Known scores.now) queue.old m queue.new result × (m ≤ 2 * result + 1) }
 {
     let mut i: usize = 0;
+    // i goes to one of the two places below it.
     while 2 * i + 1 < m {
         let c = child(queue, m, scores, i);
         queue[i] = queue[c];

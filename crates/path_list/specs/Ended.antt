@@ -1,10 +1,7 @@
 -- What the end of a search gives the list: the closed paths are among the records, none takes the symbolic edge, and the tables show the graph built.
-use Rattle.std.specs.Prelude.{◌≡◌, ◌⊎◌, length, get_or, take, Float}
-use Rattle.std.proofs.Common.{sym, ◌∙◌, inl, inr, get_or-take, length-take-le}
+use Rattle.std.specs.Prelude.{◌≡◌, ◌⊎◌, length, get_or, take, Float, List, [], ◌∷◌, ◌++◌, map, ℕ, zero, suc, ◌+◌, ◌*◌, ◌^◌, ◌<◌, ◌≤◌}
+use Rattle.std.proofs.Common.{sym, ◌∙◌, inl, inr, get_or-take, length-take-le, arith}
 use Rattle.std.proofs.Math.Path.{ap}
-use mathlib.Core.List.{List, [], ◌∷◌, ◌++◌, map}
-use Prim.Native.Nat.{ℕ, zero, suc, ◌+◌, ◌*◌, ◌^◌, ◌<◌, ◌≤◌}
-use native.Mathlib.Omega.{arith}
 use Rattle.laws.specs.ListLaws.{All, nil, cons}
 use Rattle.laws.specs.Sorting.{same_or}
 use Rattle.definition.specs.Limits.{Sample}
@@ -20,7 +17,7 @@ use Rattle.assembly.specs.Moves.{kmers-same}
 use Rattle.junction_tree_graph.specs.Built.{BuiltAt}
 use Rattle.path_edges.specs.Path.{Table}
 use Rattle.closed_paths.specs.Recover.{all-at, edges-in}
-use Rattle.search_state.specs.declared.Setting.{Setting}
+use Rattle.search_state.specs.Settings.{Setting}
 use Rattle.search_state.specs.declared.Progress.{Progress}
 use Rattle.search_state.specs.Ground.{name_of, Ground}
 use Rattle.search_state.specs.State.{closed_record, Records, Holds}

@@ -1,10 +1,7 @@
 -- Rows of a slice, each `stride` places after the one before: written one after the other, and read back.
-use Rattle.std.specs.Prelude.{◌≡◌, ◌⊎◌}
+use Rattle.std.specs.Prelude.{◌≡◌, ◌⊎◌, List, [], ◌∷◌, ◌++◌, ℕ, zero, suc, ◌+◌, ◌*◌, ◌<◌, ◌≤◌}
 use Rattle.std.proofs.Math.Path.{refl, sym, ap}
-use Rattle.std.proofs.Common.{◌∙◌, inl, inr, mul-le-mul_right, add-one, length-drop, take-append-drop, drop_at}
-use mathlib.Core.List.{List, [], ◌∷◌, ◌++◌, append_assoc}
-use Prim.Native.Nat.{ℕ, zero, suc, ◌+◌, ◌*◌, ◌<◌, ◌≤◌}
-use native.Mathlib.Omega.{arith}
+use Rattle.std.proofs.Common.{◌∙◌, inl, inr, mul-le-mul_right, add-one, length-drop, take-append-drop, drop_at, append_assoc, arith}
 use Rattle.std.proofs.Math.ListN.{length, take, drop}
 use Rattle.std.proofs.lemmas.List.Edits.{sets}
 use Rattle.std.proofs.Math.Seq.{sets-eq, length-sets, take-append_seam, length-take-le}
@@ -128,7 +125,3 @@ module _ (stride : ℕ) (row : ℕ → List ℕ) (old : List ℕ) where
   pub laid-read : (i j : ℕ) (out : List ℕ) → Laid stride row old i out → j < i → ((j : ℕ) → j < i → length (row j) ≤ stride) → i * stride ≤ length old
       → take (length (row j)) (drop (j * stride) out) ≡ row j
   laid-read i j out L l s r = ap (λ (x : List ℕ). take (length (row j)) (drop (j * stride) x)) L.is ∙ read i j l s r
-
-  -- the loop ends at n
-  pub laid_end : (i n : ℕ) (out : List ℕ) → i ≤ n → n ≤ i → Laid stride row old i out → Laid stride row old n out
-  laid_end i n out h k L = let z : i ≡ n = omega arith in rw z at L

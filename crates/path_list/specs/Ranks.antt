@@ -1,6 +1,6 @@
 -- The order of the list over the tables: which of two closed paths stands above the other, and their numbers sorted by insertion.
 use Rattle.std.specs.Prelude.{◌≡◌, refl, Bool, not, ◌&&◌, ◌||◌, List, [], ◌∷◌, ◌++◌, map, ℕ, zero, suc, ◌+◌, ◌-◌, ◌*◌, ◌<◌, ◌≤◌, length, get_or, set, take, drop, Float}
-use Rattle.std.proofs.Common.{sym, ap, ◌∙◌, append_assoc, arith, length-append, length-drop, length-set, take-append-drop, take_at, drop_at, length-take-le, take_all}
+use Rattle.std.proofs.Common.{sym, ap, ◌∙◌, append_assoc, arith, length-append, length-drop, length-set, take-append-drop, take_at, drop_at, length-take-le}
 use Rattle.std.proofs.Math.Bool.{true, false}
 use Rattle.std.proofs.lemmas.List.{set_at, get_or_at}
 use Rattle.std.proofs.Math.Seq.{split_at, drop-length}
@@ -9,10 +9,11 @@ use Rattle.laws.specs.ListLaws.{All, nil, cons, all_append}
 use Rattle.laws.specs.Numbers.{compare_list, is_gt}
 use Rattle.laws.specs.Insertion.{insert, sorted, insert-past, insert-here, all-sorted}
 use Rattle.laws.specs.Sorting.{insert-nil}
-use Rattle.graph_kmers.specs.Paths.{end_base, Spells}
+use Rattle.samples.specs.Handed.{text_of}
+use Rattle.graph_kmers.specs.Paths.{end_base, Spells, spells-cut}
 use Rattle.path_store.specs.Cells.{count_of, score_of, Inside}
 use Rattle.search_state.specs.State.{up_from}
-use Rattle.path_list.specs.Laid.{row_low}
+use Rattle.path_list.specs.declared.lists.Lists as code
 use Rattle.path_list.specs.Walked.{record_at}
 
 -- ---- the tables
@@ -31,6 +32,10 @@ pub record Lists : Type 0 where
 
 abbrev pub lists : List ℕ → List ℕ → List ℕ → List ℕ → List Float → List ℕ → List ℕ → ℕ → ℕ → Lists
 lists text vs es t sc closed walks k most = record { text = text; vs = vs; es = es; t = t; sc = sc; closed = closed; walks = walks; k = k; most = most }
+
+-- the code's slices as these lists
+abbrev pub lists_of : code.Lists → Lists
+lists_of x = lists (text_of x.text) x.vertices.now x.edges.now x.paths.records.now x.paths.scores.now x.closed.now x.walks.now x.k x.most
 
 abbrev pub score_at : Lists → ℕ → Float
 score_at l i = score_of l.sc (record_at l.closed i)
@@ -62,19 +67,9 @@ pub record Ready (l : Lists) (count : ℕ) : Type 0 where
   pub spells : (i : ℕ) → i < count → Spells l.k l.text l.vs l.es (drop (i * l.most) l.walks) (count_at l i)
   pub few : count ≤ 128
 
--- the edges written out from the path i on, as the code hands them on
-abbrev pub part_at : Lists → ℕ → List ℕ
-part_at l i = take (length l.walks - i * l.most) (drop (i * l.most) l.walks)
-
-pub part-is : (l : Lists) (i : ℕ) → part_at l i ≡ drop (i * l.most) l.walks
-part-is l i = take_all (length l.walks - i * l.most) (drop (i * l.most) l.walks) (let z = length-drop (i * l.most) l.walks in omega arith)
-
 module _ (l : Lists) (count : ℕ) (R : Ready l count) where
-  pub ready-spells : (i n : ℕ) → i < count → n ≡ count_at l i → Spells l.k l.text l.vs l.es (part_at l i) n
-  ready-spells i n h e = rw (e, part-is l i) (R.spells i h)
-
-  pub ready-row : (i : ℕ) → i < count → i * l.most ≤ length l.walks
-  ready-row i h = let a = row_low i count l.most h in let b = R.walks-room in omega arith
+  pub ready-spells : (i : ℕ) (w : List ℕ) → i < count → w ≡ walk_at l i → Spells l.k l.text l.vs l.es w (length w)
+  ready-spells i w h e = rw e (spells-cut (R.spells i h))
 
   module _ (i j : ℕ) (a b : Float) (p : a ≡ score_at l i) (q : b ≡ score_at l j) where
     pub above-higher : lt b a ≡ true → true ≡ above_at l i j
@@ -88,14 +83,14 @@ module _ (l : Lists) (count : ℕ) (R : Ready l count) where
         let f : lt (score_at l i) (score_at l j) ≡ true = rw (p, q) at k in
         rw (e, f)
 
-    pub above-tails : lt b a ≡ false → lt a b ≡ false → (n m : ℕ) → n ≡ count_at l i → m ≡ count_at l j → (r : Bool)
-        → r ≡ is_gt (compare_list (map (end_base l.k l.text l.vs l.es) (take n (part_at l i))) (map (end_base l.k l.text l.vs l.es) (take m (part_at l j))))
+    pub above-tails : lt b a ≡ false → lt a b ≡ false → (v w : List ℕ) → v ≡ walk_at l i → w ≡ walk_at l j → (r : Bool)
+        → r ≡ is_gt (compare_list (map (end_base l.k l.text l.vs l.es) v) (map (end_base l.k l.text l.vs l.es) w))
         → r ≡ above_at l i j
     unfolding above_at
-    above-tails h k n m en em r g =
+    above-tails h k v w ev ew r g =
         let e : lt (score_at l j) (score_at l i) ≡ false = rw (p, q) at h in
         let f : lt (score_at l i) (score_at l j) ≡ false = rw (p, q) at k in
-        let d : r ≡ is_gt (compare_list (tail_at l i) (tail_at l j)) = rw (en, em, part-is l i, part-is l j) at g in
+        let d : r ≡ is_gt (compare_list (tail_at l i) (tail_at l j)) = rw (ev, ew) at g in
         rw (e, f) d
 
 -- ---- insertion
@@ -103,14 +98,6 @@ module _ (l : Lists) (count : ℕ) (R : Ready l count) where
 -- a number below a bound, by another name
 pub low-as : {m n k : ℕ} → m ≡ n → n < k → m < k
 low-as e h = omega arith
-
-pub not-true : (b : Bool) → not b ≡ true → b ≡ false
-not-true true e = sym e
-not-true false e = refl
-
-pub not-false : (b : Bool) → not b ≡ false → b ≡ true
-not-false true e = refl
-not-false false e = sym e
 
 -- the places from a to count
 abbrev pub between : ℕ → ℕ → List ℕ → List ℕ
@@ -200,12 +187,6 @@ module _ (above : ℕ → ℕ → Bool) (count x : ℕ) (old : List ℕ) where
         ∙ set_at (W.before ++ W.front) W.hole (W.rest ++ W.after) y (j - 1) front-place
         ∙ sym (split y (W.rest ++ W.after))
 
-    pub inserting-room : Inserts count x old → j - 1 < length rank
-    inserting-room I = let a = I.room in let b = W.size in let d = W.at_j in let e = W.at-end in omega arith
-
-    pub inserting-low : (0 < j) × (j ≤ count)
-    inserting-low = let d = W.at_j in let e = W.at-end in (omega arith, omega arith)
-
     -- x is stored: it stands where `insert` puts it
     stored : (e : insert above x W.rest ≡ x ∷ W.rest) → between x count (set rank (j - 1) x) ≡ insert above x (between (x + 1) count old)
     stored e =
@@ -230,8 +211,10 @@ module _ (above : ℕ → ℕ → Bool) (count x : ℕ) (old : List ℕ) where
     resize y = length-set rank (j - 1) y ∙ W.size
 
     -- none is left
-    pub inserting-end : count ≤ j → Inserted above count x old (set rank (j - 1) x)
-    inserting-end h = record { is = stored (go W.rest (let a = W.at-end in omega arith)); size = resize x }
+    pub inserting-end : count ≤ j → Inserted above count x old (set rank (count - 1) x)
+    inserting-end h =
+        let z : count - 1 ≡ j - 1 = (let a = W.at-end in omega arith) in
+        rw z (record { is = stored (go W.rest (let a = W.at-end in omega arith)); size = resize x })
       where
         go : (rest : List ℕ) → length rest ≡ 0 → insert above x rest ≡ x ∷ rest
         go [] e = insert-nil above x
@@ -350,6 +333,3 @@ module _ (above : ℕ → ℕ → Bool) (count : ℕ) where
               ∙ sym (sorted_more above y (count - x))
               ∙ ap (λ n. sorted above (up_from y n)) (sym s);
         }
-
-  pub ranked-end : (x : ℕ) (rank : List ℕ) → x ≤ 0 → Ranked above count x rank → Ranked above count 0 rank
-  ranked-end x rank h W = let z : x ≡ 0 = omega arith in rw z at W

@@ -1,8 +1,7 @@
 -- The rows of the list in the order of the ranks: what the columns hold, and the bases and origins laid out row by row.
-use Rattle.std.specs.Prelude.{◌≡◌, refl, ◌⊎◌, ℕ, ◌+◌, ◌-◌, ◌*◌, ◌<◌, ◌≤◌, get_or, set, Float}
-use Rattle.std.proofs.Common.{sym, subst, ◌∙◌, inl, inr, add-one, arith, length-set, length-drop, length-append, get_or-set_same, get_or-set_other, get_or-append-add, get_or-drop, length-take-le}
+use Rattle.std.specs.Prelude.{◌≡◌, refl, ◌⊎◌, ℕ, ◌+◌, ◌-◌, ◌*◌, ◌<◌, ◌≤◌, get_or, set, Float, List, ◌++◌, map}
+use Rattle.std.proofs.Common.{sym, subst, ◌∙◌, inl, inr, add-one, arith, length-set, length-drop, length-append, get_or-set_same, get_or-set_other, get_or-append-add, get_or-drop, get_or-take, length-take-le, append_assoc}
 use Rattle.std.proofs.Math.Path.{ap}
-use mathlib.Core.List.{List, ◌++◌, append_assoc, map}
 use Rattle.std.proofs.Math.Decide.{dec_lt}
 use Rattle.std.proofs.Math.ListN.{length, take, drop, get_or-append}
 use Rattle.std.proofs.lemmas.List.{length-map}
@@ -17,7 +16,7 @@ use Rattle.graph_kmers.specs.Paths.{Spells, bases_of, bases-length}
 use Rattle.path_store.specs.Cells.{count_of, score_of, Inside}
 use Rattle.path_list.specs.Laid.{Laid, row_low, laid_next, laid-sets}
 use Rattle.path_list.specs.Walked.{record_at}
-use Rattle.path_list.specs.Ranks.{Lists, Ready, count_at, walk_at, part_at, part-is, ready-row}
+use Rattle.path_list.specs.Ranks.{Lists, Ready, count_at, walk_at, ready-spells}
 
 -- `count` ranks, each the number of a closed path
 pub record Placed (count : ℕ) (rank : List ℕ) : Type 0 where
@@ -30,12 +29,19 @@ pub record Known (t : List ℕ) (sc : List Float) (closed : List ℕ) (count : �
   pub closed-room : count ≤ length closed
   pub inside : (i : ℕ) → i < count → Inside t sc (record_at closed i)
 
-module _ (count : ℕ) (rank : List ℕ) (P : Placed count rank) (t : List ℕ) (sc : List Float) (closed : List ℕ) (K : Known t sc closed count) (r : ℕ) (h : r < count) where
-  pub known_at : get_or rank r 0 < length closed
-  known_at = let a = P.known r h in let b = K.closed-room in omega arith
+-- ... and their edges, written out
+pub record Kept (l : Lists) (count : ℕ) : Type 0 where
+  pub records : Known l.t l.sc l.closed count
+  pub short : (i : ℕ) → i < count → count_at l i ≤ l.most
+  pub walks-room : count * l.most ≤ length l.walks
 
-  pub known-inside : (q : ℕ) → q ≡ record_at closed (get_or rank r 0) → Inside t sc q
-  known-inside q e = rw e (K.inside (get_or rank r 0) (P.known r h))
+module _ (l : Lists) (count : ℕ) (K : Kept l count) (i : ℕ) (h : i < count) where
+  -- the row of the path i ends within the slice, and its edges within the row
+  pub kept-room : (i * l.most ≤ length l.walks) × (i * l.most + count_at l i ≤ length l.walks)
+  kept-room = let a = row_low i count l.most h in let b = K.walks-room in let c = K.short i h in (omega arith, omega arith)
+
+  pub kept-length : length (walk_at l i) ≡ count_at l i
+  kept-length = length-take-le (count_at l i) (drop (i * l.most) l.walks) (let a = kept-room in let b = length-drop (i * l.most) l.walks in omega arith)
 
 -- ---- the columns
 
@@ -118,9 +124,6 @@ pub record Columns (t : List ℕ) (sc : List Float) (closed rank : List ℕ) (co
   pub edges_are : es ≡ written_at 0 (rows (edges_row t closed rank) count) es₀
 
 module _ (t : List ℕ) (sc : List Float) (closed rank : List ℕ) (count : ℕ) where
-  pub columns-start : (ss : List Float) (cs es : List ℕ) → ColumnsTo t sc closed rank count 0 ss cs es ss cs es
-  columns-start ss cs es = record { low = omega arith; scores = column-start nan _ ss; closings = column-start 0 _ cs; edges = column-start 0 _ es }
-
   module _ (i : ℕ) (ss₀ : List Float) (cs₀ es₀ : List ℕ) (ss : List Float) (cs es : List ℕ) (C : ColumnsTo t sc closed rank count i ss₀ cs₀ es₀ ss cs es) where
     pub columns-next : i < count → count ≤ length ss₀ → count ≤ length cs₀ → count ≤ length es₀ → (x : Float) (y z : ℕ) → x ≡ score_of sc (record_at closed (get_or rank i 0)) → y ≡ get_or rank i 0 + 1
         → z ≡ count_of t (record_at closed (get_or rank i 0)) → ColumnsTo t sc closed rank count (i + 1) ss₀ cs₀ es₀ (set ss i x) (set cs i y) (set es i z)
@@ -154,10 +157,10 @@ module _ (l : Lists) (count : ℕ) (R : Ready l count) (rank : List ℕ) (P : Pl
   pub ready-known : Known l.t l.sc l.closed count
   ready-known = record { closed-room = R.closed-room; inside = R.inside }
 
-  module _ (r : ℕ) (h : r < count) where
-    pub spell-row : (i : ℕ) → i ≡ get_or rank r 0 → i * l.most ≤ length l.walks
-    spell-row i e = rw e (ready-row l count R (get_or rank r 0) (P.known r h))
+  pub ready-kept : Kept l count
+  ready-kept = record { records = ready-known; short = R.short; walks-room = R.walks-room }
 
+  module _ (r : ℕ) (h : r < count) where
     pub row-bases : length (bases_at l rank r) ≡ l.k + count_at l (get_or rank r 0)
     row-bases = bases-length (R.spells (get_or rank r 0) (P.known r h))
 
@@ -167,23 +170,26 @@ module _ (l : Lists) (count : ℕ) (R : Ready l count) (rank : List ℕ) (P : Pl
     pub bases-room : (size : ℕ) → count * (l.k + l.most) ≤ size → r * (l.k + l.most) + (l.k + l.most) ≤ size
     bases-room size k = let a = row_low r count (l.k + l.most) h in omega arith
 
-    pub bases-asks : (i n size : ℕ) → i ≡ get_or rank r 0 → n ≡ count_at l (get_or rank r 0) → count * (l.k + l.most) ≤ size
-        → Spells l.k l.text l.vs l.es (part_at l i) n × (r * (l.k + l.most) + (l.k + n) ≤ size)
-    bases-asks i n size e f k =
+    pub bases-asks : (w : List ℕ) (size : ℕ) → w ≡ walk_at l (get_or rank r 0) → count * (l.k + l.most) ≤ size
+        → Spells l.k l.text l.vs l.es w (length w) × (r * (l.k + l.most) + (l.k + length w) ≤ size)
+    bases-asks w size e k =
         let a = bases-room size k in
         let b = R.short (get_or rank r 0) (P.known r h) in
-        (rw (e, f, part-is l (get_or rank r 0)) (R.spells (get_or rank r 0) (P.known r h)), omega arith)
+        let c = kept-length l count ready-kept (get_or rank r 0) (P.known r h) in
+        let d = ap (λ (x : List ℕ). length x) e in
+        (ready-spells l count R (get_or rank r 0) w (P.known r h) e, omega arith)
 
-    pub bases-next : (old out out' : List ℕ) (i n : ℕ) → i ≡ get_or rank r 0 → n ≡ count_at l (get_or rank r 0) → count * (l.k + l.most) ≤ length old
+    pub bases-next : (old out out' w : List ℕ) → w ≡ walk_at l (get_or rank r 0) → count * (l.k + l.most) ≤ length old
         → Laid (l.k + l.most) (bases_at l rank) old r out
-        → out' ≡ paste out (r * (l.k + l.most)) (bases_of l.k l.text l.vs l.es (take n (part_at l i))) (l.k + n)
+        → out' ≡ paste out (r * (l.k + l.most)) (bases_of l.k l.text l.vs l.es w) (l.k + length w)
         → Laid (l.k + l.most) (bases_at l rank) old (r + 1) out'
     unfolding written_at
-    bases-next old out out' i n e f k L w =
+    bases-next old out out' w e k L g =
         let stride = l.k + l.most in
         let a = bases-room (length old) k in
         let b = row_fits in
-        let q : out' ≡ paste out (r * (l.k + l.most)) (bases_at l rank r) (l.k + count_at l (get_or rank r 0)) = rw (e, f, part-is l (get_or rank r 0)) at w in
+        let c = kept-length l count ready-kept (get_or rank r 0) (P.known r h) in
+        let q : out' ≡ paste out (r * (l.k + l.most)) (bases_at l rank r) (l.k + count_at l (get_or rank r 0)) = rw (e, c) at g in
         let s : take (l.k + count_at l (get_or rank r 0)) (bases_at l rank r) ≡ bases_at l rank r =
         take_all (l.k + count_at l (get_or rank r 0)) (bases_at l rank r) (let z = row-bases in omega arith)
         in
@@ -208,17 +214,7 @@ fields_at es t closed walks most j rank r =
     map (λ e. edge_field es e j) (take (count_of t (record_at closed (get_or rank r 0))) (drop (get_or rank r 0 * most) walks))
 
 module _ (es t : List ℕ) (sc : List Float) (closed walks : List ℕ) (most count : ℕ) (F : Filed es t sc closed walks most count) where
-  -- the edges from the row of the path i on, as the code hands them on
-  abbrev part : ℕ → List ℕ
-  part i = take (length walks - i * most) (drop (i * most) walks)
-
-  whole : (i : ℕ) → part i ≡ drop (i * most) walks
-  whole i = take_all (length walks - i * most) (drop (i * most) walks) (let z = length-drop (i * most) walks in omega arith)
-
   module _ (rank : List ℕ) (P : Placed count rank) (r : ℕ) (h : r < count) where
-    pub filed-row : (i : ℕ) → i ≡ get_or rank r 0 → i * most ≤ length walks
-    filed-row i e = rw e (let a = row_low (get_or rank r 0) count most (P.known r h) in let b = F.walks-room in omega arith)
-
     in-walks : count_of t (record_at closed (get_or rank r 0)) ≤ length (drop (get_or rank r 0 * most) walks)
     in-walks =
         let a = row_low (get_or rank r 0) count most (P.known r h) in
@@ -230,23 +226,33 @@ module _ (es t : List ℕ) (sc : List Float) (closed walks : List ℕ) (most cou
     pub filed-room : (size : ℕ) → count * most ≤ size → r * most + most ≤ size
     filed-room size k = let a = row_low r count most h in omega arith
 
-    pub filed-asks : (j i n size : ℕ) → i ≡ get_or rank r 0 → n ≡ count_of t (record_at closed (get_or rank r 0)) → IsEdgeField j → count * most ≤ size
-        → (n ≤ length (part i)) × ((x : ℕ) → x < n → edge_cell (get_or (part i) x 0) j < length es) × (r * most + n ≤ size)
-    filed-asks j i n size e f l k =
+    -- the edges of row r
+    abbrev edges_at : List ℕ
+    edges_at = take (count_of t (record_at closed (get_or rank r 0))) (drop (get_or rank r 0 * most) walks)
+
+    long : length edges_at ≡ count_of t (record_at closed (get_or rank r 0))
+    long = length-take-le (count_of t (record_at closed (get_or rank r 0))) (drop (get_or rank r 0 * most) walks) in-walks
+
+    pub filed-asks : (j : ℕ) (w : List ℕ) (size : ℕ) → w ≡ edges_at → IsEdgeField j → count * most ≤ size
+        → ((x : ℕ) → x < length w → edge_cell (get_or w x 0) j < length es) × (r * most + length w ≤ size)
+    filed-asks j w size e l k =
         let a = filed-room size k in
         let b = F.short (get_or rank r 0) (P.known r h) in
-        rw (e, f, whole (get_or rank r 0))
-        (in-walks, (λ x m. (let z = F.edge-room (get_or rank r 0) x (P.known r h) m in omega arith)), omega arith)
+        let c = long in
+        rw e (
+          (λ x m. rw (get_or-take (count_of t (record_at closed (get_or rank r 0))) (drop (get_or rank r 0 * most) walks) x 0 (omega arith))
+              (let z = F.edge-room (get_or rank r 0) x (P.known r h) (omega arith) in omega arith)),
+          omega arith,
+        )
 
-    pub filed-next : (j : ℕ) (old out out' : List ℕ) (i n : ℕ) → i ≡ get_or rank r 0 → n ≡ count_of t (record_at closed (get_or rank r 0)) → count * most ≤ length old
-        → Laid most (fields_at es t closed walks most j rank) old r out → out' ≡ sets out (r * most) (map (λ e. edge_field es e j) (take n (part i)))
+    pub filed-next : (j : ℕ) (old out out' w : List ℕ) → w ≡ edges_at → count * most ≤ length old
+        → Laid most (fields_at es t closed walks most j rank) old r out → out' ≡ sets out (r * most) (map (λ e. edge_field es e j) w)
         → Laid most (fields_at es t closed walks most j rank) old (r + 1) out'
-    filed-next j old out out' i n e f k L w =
+    filed-next j old out out' w e k L g =
         let a = filed-room (length old) k in
         let b = F.short (get_or rank r 0) (P.known r h) in
         let c : length (fields_at es t closed walks most j rank r) ≡ count_of t (record_at closed (get_or rank r 0)) =
-        length-map (take (count_of t (record_at closed (get_or rank r 0))) (drop (get_or rank r 0 * most) walks)) (λ e. edge_field es e j)
-        ∙ length-take-le (count_of t (record_at closed (get_or rank r 0))) (drop (get_or rank r 0 * most) walks) in-walks
+        length-map edges_at (λ e. edge_field es e j) ∙ long
         in
-        let q : out' ≡ sets out (r * most) (fields_at es t closed walks most j rank r) = rw (e, f, whole (get_or rank r 0)) at w in
+        let q : out' ≡ sets out (r * most) (fields_at es t closed walks most j rank r) = rw e at g in
         laid-sets most (fields_at es t closed walks most j rank) old r out out' L (omega arith) q

@@ -1,14 +1,11 @@
 -- The list as the definition has it: what the columns and the laid out rows hold is `list_order` of the closed paths' rows.
-use Rattle.std.specs.Prelude.{◌≡◌, Bool, false, take, drop, Float}
+use Rattle.std.specs.Prelude.{◌≡◌, Bool, false, take, drop, Float, List, [], ◌∷◌, ◌++◌, map, ℕ, zero, suc, ◌+◌, ◌-◌, ◌<◌, ◌≤◌}
 use Rattle.std.proofs.Math.Path.{refl, sym, ap}
-use Rattle.std.proofs.Common.{◌∙◌, drop-cons, take-suc, get_or-take}
-use mathlib.Core.List.{List, [], ◌∷◌, ◌++◌, map, map-append}
+use Rattle.std.proofs.Common.{◌∙◌, drop-cons, take-suc, get_or-take, arith, eq-eqb}
 use Rattle.std.proofs.Math.Option.{some}
-use Prim.Native.Nat.{ℕ, zero, suc, ◌+◌, ◌-◌, ◌<◌, ◌≤◌}
-use native.Mathlib.Omega.{arith}
 use Rattle.std.proofs.Math.ListN.{length, get_or, length-map}
 use Rattle.std.proofs.Math.Seq.{length-take-le}
-use borrow.Author.Tests.{eq-eqb}
+use Rattle.std.proofs.lemmas.List.{map-append}
 use Rattle.laws.specs.Lists.{find}
 use Rattle.laws.specs.ListLaws.{All, nil, cons, all-mono}
 use Rattle.laws.specs.Rows.{rows, rows_more, rows_same, rows_none}

@@ -3,7 +3,7 @@ use Rattle.std.specs.Prelude.{◌≡◌, List, ℕ, ◌+◌, ◌*◌, ◌<◌, �
 use Rattle.std.proofs.Common.{ap, ◌∙◌, arith}
 use Rattle.std.proofs.lemmas.List.Edits.{sets}
 use Rattle.path_store.specs.Cells.{count_of, Inside}
-use Rattle.path_edges.specs.Path.{Table, edges, inside, table-front}
+use Rattle.path_edges.specs.Path.{Table, edges, inside}
 use Rattle.path_list.specs.Laid.{Laid, laid-sets, laid-read, row_low}
 
 -- the record of the closed path i
@@ -40,13 +40,6 @@ module _ (index targets t : List ℕ) (sc : List Float) (closed : List ℕ) (cou
 
     pub walk_inside : Inside t sc (record_at closed i)
     walk_inside = inside index targets t sc W.records W.table (record_at closed i) (W.known i h)
-
-    pub walk-asks : (m : ℕ) → m ≡ room → (r : ℕ) → r ≡ record_at closed i → Table index targets t sc (r + 1) × (i * most + count_of t r ≤ m)
-    walk-asks m e r k =
-        let a = row_in in
-        let b = W.short i h in
-        let n = W.known i h in
-        rw k (table-front index targets t sc W.records (record_at closed i + 1) W.table (omega arith), omega arith)
 
   pub walked_next : (i : ℕ) (old walks walks' : List ℕ) → i < count → length old ≡ room → Walked index targets t closed most i old walks
       → walks' ≡ sets walks (i * most) (walk_of index targets t closed i) → Walked index targets t closed most (i + 1) old walks'

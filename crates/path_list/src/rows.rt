@@ -1,105 +1,62 @@
 // The rows of the list: scores, closing numbers and edge counts as columns, and beside them the bases and the origins.
-ghost use Rattle.std.specs.Prelude.{◌++◌, ◌+◌, ◌*◌, ◌<◌, ◌≤◌, length};
+ghost use Rattle.std.specs.Prelude.{◌+◌, ◌*◌, ◌≤◌, length};
 ghost use Rattle.assembly.specs.Fields.{IsEdgeField};
 ghost use Rattle.path_list.specs.Laid.{Laid};
-ghost use Rattle.path_list.specs.Ranks.{lists, Ready};
+ghost use Rattle.path_list.specs.Ranks.{lists_of, Ready};
 ghost use Rattle.path_list.specs.Rows.{Placed, Known, Columns, Filed, bases_at, fields_at};
 
-use assembly::wide;
+use crate::lists::Lists;
 use closed_paths::writing::write_field;
 use graph_kmers::path_bases;
-use path_store::chains::at;
-use path_store::records::path_at;
 use tables::EDGE;
 
 // Row r tells of the closed path whose number stands at rank r. Closings are numbered from 1.
 pub fn write_columns(
-    paths: &[u32],
-    scores: &[f64],
-    closed: &[u32],
+    lists: Lists,
     rank: &[u16],
-    count: usize,
     row_scores: &mut [f64],
     row_closings: &mut [u32],
     row_edges: &mut [u32],
 )
-    requires { Placed count rank.now × Known paths.now scores.now closed.now count × (count ≤ length row_scores.old) × (count ≤ length row_closings.old) × (count ≤ length row_edges.old) }
-    ensures { Columns paths.now scores.now closed.now rank.now count row_scores.old row_closings.old row_edges.old row_scores.new row_closings.new row_edges.new }
+    requires { Placed lists.count rank.now × Known lists.paths.records.now lists.paths.scores.now lists.closed.now lists.count × (lists.count ≤ length row_scores.old) × (lists.count ≤ length row_closings.old) × (lists.count ≤ length row_edges.old) }
+    ensures { Columns lists.entry.paths.records.now lists.entry.paths.scores.now lists.entry.closed.now rank.now lists.entry.count row_scores.old row_closings.old row_edges.old row_scores.new row_closings.new row_edges.new }
 {
-    let mut r: usize = 0;
-    while r < count {
-        let i = rank[r] as u32;
-        let row = path_at(paths, scores, at(closed, i));
+    for r in 0..lists.count {
+        let i = rank[r];
+        let row = lists.row(usize::from(i));
         row_scores[r] = row.score;
-        row_closings[r] = i + 1;
+        row_closings[r] = u32::from(i) + 1;
         row_edges[r] = row.edges;
-        r += 1;
     }
 }
 
 // The bases of row r from place r * (k + most) on.
-pub fn write_spellings(
-    reference: &[u8],
-    bases: &[u8],
-    vertices: &[u32],
-    edges: &[u32],
-    paths: &[u32],
-    scores: &[f64],
-    closed: &[u32],
-    walks: &[u32],
-    rank: &[u16],
-    k: usize,
-    most: usize,
-    count: usize,
-    out: &mut [u8],
-)
-    requires { Placed count rank.now × Ready (lists (reference.now ++ bases.now) vertices.now edges.now paths.now scores.now closed.now walks.now k most) count × (count * (k + most) ≤ length out.old) }
-    ensures { Laid (k + most) (bases_at (lists (reference.now ++ bases.now) vertices.now edges.now paths.now scores.now closed.now walks.now k most) rank.now) out.old count out.new }
+pub fn write_spellings(lists: Lists, rank: &[u16], out: &mut [u8])
+    requires { Placed lists.count rank.now × Ready (lists_of lists) lists.count × (lists.count * (lists.k + lists.most) ≤ length out.old) }
+    ensures { Laid (lists.entry.k + lists.entry.most) (bases_at (lists_of lists.entry) rank.now) out.old lists.entry.count out.new }
 {
-    let mut r: usize = 0;
-    while r < count {
-        let i = rank[r] as u32;
-        let row = path_at(paths, scores, at(closed, i));
-        let p = wide(i) * most;
-        let from = r * (k + most);
+    for r in 0..lists.count {
+        let walk = lists.walk(usize::from(rank[r]));
+        let from = r * (lists.k + lists.most);
         path_bases(
-            reference,
-            bases,
-            vertices,
-            edges,
-            k,
-            &walks[p..],
-            wide(row.edges),
+            lists.text,
+            lists.vertices,
+            lists.edges,
+            lists.k,
+            walk,
             out,
             from,
         );
-        r += 1;
     }
 }
 
 // A field of each edge of row r, from place r * most on: the sequences or the places of the origins.
-pub fn write_origins(
-    edges: &[u32],
-    paths: &[u32],
-    scores: &[f64],
-    closed: &[u32],
-    walks: &[u32],
-    rank: &[u16],
-    most: usize,
-    count: usize,
-    field: usize,
-    out: &mut [u32],
-)
-    requires { Placed count rank.now × Filed edges.now paths.now scores.now closed.now walks.now most count × (IsEdgeField field) × (count * most ≤ length out.old) }
-    ensures { Laid most (fields_at edges.now paths.now closed.now walks.now most field rank.now) out.old count out.new }
+pub fn write_origins(lists: Lists, rank: &[u16], field: usize, out: &mut [u32])
+    requires { Placed lists.count rank.now × Filed lists.edges.now lists.paths.records.now lists.paths.scores.now lists.closed.now lists.walks.now lists.most lists.count × (IsEdgeField field) × (lists.count * lists.most ≤ length out.old) }
+    ensures { Laid lists.entry.most (fields_at lists.entry.edges.now lists.entry.paths.records.now lists.entry.closed.now lists.entry.walks.now lists.entry.most field rank.now) out.old lists.entry.count out.new }
 {
-    let mut r: usize = 0;
-    while r < count {
-        let i = rank[r] as u32;
-        let row = path_at(paths, scores, at(closed, i));
-        let p = wide(i) * most;
-        let from = r * most;
-        write_field(&walks[p..], wide(row.edges), edges, EDGE, field, out, from);
-        r += 1;
+    for r in 0..lists.count {
+        let walk = lists.walk(usize::from(rank[r]));
+        write_field(walk, lists.edges, EDGE, field, out, r * lists.most);
     }
 }

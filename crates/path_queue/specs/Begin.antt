@@ -1,9 +1,8 @@
 -- The start: record 0 is the start path, which waits, and the pivotal edges are listed where recovery is asked for.
-use Rattle.std.specs.Prelude.{◌≡◌, refl, Bool, true, false, ℕ, ◌+◌, ◌<◌, ◌≤◌, ltb, pos, length, get_or, take, set, Float}
-use Rattle.std.proofs.Math.Path.{sym, ap}
-use Rattle.std.proofs.Common.{◌∙◌, arith, lt-ltb, length-set, get_or-set_same, get_or-set_other}
-use mathlib.Core.List.{List, [], ◌∷◌, map}
-use Rattle.std.proofs.Math.Decide.{ℕ_discrete}
+use Rattle.std.specs.Prelude.{◌≡◌, refl, Bool, true, false, List, [], ◌∷◌, ◌++◌, map, ℕ, ◌+◌, ◌<◌, ◌≤◌, ltb, pos, length, get_or, replicate, take, drop, Float}
+use Rattle.std.proofs.Common.{sym, ap, ◌∙◌, arith, lt-ltb, length-set, get_or-set_same, length-take-le}
+use Rattle.std.proofs.lemmas.List.{length-replicate, get_or-replicate}
+use Rattle.std.proofs.Math.ListN.{get_or-append}
 use Rattle.std.specs.Float.{nan, fin}
 use Rattle.std.specs.Float.Ieee.{is_nan}
 use Rattle.laws.specs.ListLaws.{All, nil, all-mono, keep_all}
@@ -11,7 +10,7 @@ use Rattle.laws.specs.Sorting.{insert-nil}
 use Rattle.definition.specs.Threading.{Ends}
 use Rattle.definition.specs.Score.{column_scoring}
 use Rattle.definition.specs.Search.{SearchInput, Path, ends_of, pivotal_edges, first_state}
-use Rattle.pivotal_edges.specs.Turns.{Pivots, Pivoted}
+use Rattle.pivotal_edges.specs.Turns.{Pivoted}
 use Rattle.theorems.proofs.Tables.{Once}
 use Rattle.pivotal_edges.specs.Once.{edges-once}
 use Rattle.closed_paths.specs.Pivots.{pivotal-distinct, pivotal-forks}
@@ -21,7 +20,7 @@ use Rattle.path_growth.specs.View.{start-view}
 use Rattle.path_growth.specs.Held.{held_start}
 use Rattle.closed_paths.specs.Cross.{unvisited, Distinct, Fork}
 use Rattle.path_heap.specs.Heap.{Pushable, Pushed, waiting, ahead_of, waiting_none, pushed-all}
-use Rattle.search_state.specs.declared.Setting.{Setting}
+use Rattle.search_state.specs.Settings.{Setting}
 use Rattle.search_state.specs.declared.Progress.{Progress}
 use Rattle.search_state.specs.Ground.{name_of, Ground}
 use Rattle.search_state.specs.State.{path_of, Records, Idle, Holds}
@@ -31,24 +30,12 @@ use Rattle.search_state.specs.State.{path_of, Records, Idle, Holds}
 abbrev pub MarksSet : ℕ → ℕ → List ℕ → Type 0
 MarksSet n x m = (i : ℕ) → i < n → get_or m i 0 ≡ x
 
-pub record Setting-marks (m₀ : List ℕ) (n x : ℕ) (m : List ℕ) (i : ℕ) : Type 0 where
-  pub size : length m ≡ length m₀
-  pub low : i ≤ n
-  pub done : MarksSet i x m
-
-pub marks-start : (m : List ℕ) (n x : ℕ) → Setting-marks m n x m 0
-marks-start m n x = record { size = refl; low = omega arith; done = λ i h. absurd (omega arith) }
-
-pub marks-next : (m₀ : List ℕ) (n x : ℕ) (m : List ℕ) (i : ℕ) → n ≤ length m₀ → Setting-marks m₀ n x m i → i < n → Setting-marks m₀ n x (set m i x) (i + 1)
-marks-next m₀ n x m i r S h =
-    record { size = length-set m i x ∙ S.size; low = omega arith; done = λ j l. go j l (ℕ_discrete j i) }
-  where
-    go : (j : ℕ) → j < i + 1 → Dec (j ≡ i) → get_or (set m i x) j 0 ≡ x
-    go j l (yes e) = rw e (get_or-set_same m i x 0 (omega (arith, S.size)))
-    go j l (no d) = get_or-set_other m i j x 0 d ∙ S.done j (omega arith)
-
-pub marks-end : (m₀ : List ℕ) (n x : ℕ) (m : List ℕ) (i : ℕ) → Setting-marks m₀ n x m i → n ≤ i → MarksSet n x m
-marks-end m₀ n x m i S h j l = S.done j (omega arith)
+-- a slice whose first n places are filled
+pub marks-filled : (n x : ℕ) (m m' : List ℕ) → n ≤ length m → m' ≡ replicate (length (take n m)) x → MarksSet n x (m' ++ drop n m)
+marks-filled n x m m' l e i h =
+    let s : length (take n m) ≡ n = length-take-le n m l in
+    let k : length m' ≡ n = ap length e ∙ length-replicate (length (take n m)) x ∙ s in
+    get_or-append m' (drop n m) 0 i (omega arith) ∙ ap (λ y. get_or y i 0) e ∙ get_or-replicate (length (take n m)) i x 0 (omega arith)
 
 -- ---- the pivotal edges
 
@@ -82,16 +69,6 @@ pub record PivotalListed (g : Setting) (vs es order marks : List ℕ) (n : ℕ) 
 module _ {g : Setting} {vs es queue order marks : List ℕ} (L : ListsPivotal g vs es queue order marks) where
   pub no-pivotal : (recovery : Bool) → recovery ≡ false → PivotalListed g vs es order marks 0 recovery
   no-pivotal recovery e = rw e (record { room = omega arith; each = λ f x index targets B. record { is = refl; distinct = tt; known = nil; forks = nil } })
-
-  pub pivotal-asks : (clear : List ℕ) → length clear ≡ length marks → MarksSet g.edges 0 clear → Pivots vs es g.edges queue clear order
-  pivotal-asks clear l c =
-      record {
-        linked = L.based.on_ground.linked;
-        room-q = L.queue-room;
-        marks-in = omega (arith, L.marks-room);
-        clear = c;
-        room-o = L.order-room;
-      }
 
   pub some-pivotal : (clear queue' marks' order' marks'' : List ℕ) (n : ℕ) (recovery : Bool) → recovery ≡ true → length order' ≡ length order → Pivoted es g.edges queue clear order queue' marks' order' n
       → MarksSet g.edges 1 marks'' → PivotalListed g vs es order' marks'' n recovery

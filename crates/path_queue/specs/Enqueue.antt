@@ -1,13 +1,9 @@
 -- Where nothing waits, the next pivotal edge is tried: what the step says of the definition's state, and of its `recover`.
-use Rattle.std.proofs.Math.Path.{◌≡◌, sym, ap}
-use Rattle.std.specs.Prelude.{refl, ◌⊎◌, true, false, eqb, length, get_or, take, set, Float}
-use Rattle.std.proofs.Common.{subst, ◌∙◌, inl, inr, eq-eqb, ne_eqb, get_or-take, length-take-le}
-use mathlib.Core.List.{List, [], ◌∷◌, map}
-use Prim.Native.Nat.{ℕ, suc, ◌+◌, ◌-◌, ◌*◌, ◌/◌, ◌<◌, ◌≤◌}
+use Rattle.std.specs.Prelude.{◌≡◌, refl, ◌⊎◌, Option, Some, None, Result, Ok, Err, true, false, List, [], ◌∷◌, map, ℕ, ◌+◌, ◌-◌, ◌*◌, ◌/◌, ◌<◌, ◌≤◌, eqb, length, get_or, take, set, Float}
+use Rattle.std.proofs.Common.{sym, ap, subst, ◌∙◌, inl, inr, arith, eq-eqb, ne_eqb, get_or-take, get_or-set_same, get_or-set_other, length-take-le}
 use Rattle.std.proofs.Math.Decide.{ℕ_discrete}
-use native.Mathlib.Omega.{arith}
-use Rattle.std.proofs.Math.Seq.{get_or-set_same, get_or-set_other}
-use Rattle.std.specs.Float.Ieee.{nan, is_nan}
+use Rattle.std.specs.Float.{nan}
+use Rattle.std.specs.Float.Ieee.{is_nan}
 use Rattle.laws.specs.ListLaws.{All, nil, cons, all-mono}
 use Rattle.definition.specs.Threading.{Ends}
 use Rattle.definition.specs.Evidence.{Branches}
@@ -24,13 +20,13 @@ use Rattle.closed_paths.specs.Recover.{all-at, recover-none, recover-lost, recov
 use Rattle.path_heap.specs.Heap.{waiting, waiting_none}
 use Rattle.threading_node.specs.Take.{Wide}
 use Rattle.fork_offers.specs.Actives.{Actives}
-use Rattle.search_state.specs.declared.Setting.{Setting}
+use Rattle.refusals.specs.declared.Refusal.{Refusal}
+use Rattle.refusals.specs.Numbers.{number}
+use Rattle.search_state.specs.Settings.{Setting}
 use Rattle.search_state.specs.declared.Progress.{Progress}
 use Rattle.search_state.specs.Ground.{name_of, Ground}
 use Rattle.search_state.specs.State.{path_of, Records, Idle, Holds, up_from}
-use Rattle.path_queue.specs.declared.Recovery.{Recovery}
-use Rattle.path_queue.specs.declared.Recovery.TheVariants as recovery
-use Rattle.path_queue.specs.Next.{Marked, NextIs, left_from, left-hit, left_end}
+use Rattle.path_queue.specs.Next.{Marked, NextAt, left_from, left-hit}
 use Rattle.path_queue.specs.Recover.{kept, one_more, Lost, Recovered}
 use Rattle.path_queue.specs.Try.{TriesEdge, EdgeTried, best_for, best-at}
 
@@ -94,12 +90,12 @@ pub record Moved (p p' : Progress) : Type 0 where
   pub pushes : p'.pushes ≡ p.pushes
   pub mark : p'.mark ≡ p.mark
 
-abbrev pub Tried : List ℕ → List ℕ → List ℕ → List ℕ → List Float → List ℕ → List ℕ → List ℕ → Setting → Progress → List ℕ → List Float → Recovery → Type 0
-Tried es index targets t sc closed order marks g p t' sc' recovery.Ended =
+abbrev pub Tried : List ℕ → List ℕ → List ℕ → List ℕ → List Float → List ℕ → List ℕ → List ℕ → Setting → Progress → List ℕ → List Float → Result (Option Progress) Refusal → Type 0
+Tried es index targets t sc closed order marks g p t' sc' (Ok None) =
     (t' ≡ t) × (sc' ≡ sc) × ((A : Around) (s : State Float) → Resting A es index targets t sc closed order marks g p s → s.pivotal ≡ [])
-Tried es index targets t sc closed order marks g p t' sc' (recovery.Refused k) =
-    (A : Around) (s : State Float) (column : List Float) → Resting A es index targets t sc closed order marks g p s → Broken A es s column k
-Tried es index targets t sc closed order marks g p t' sc' (recovery.Made p') =
+Tried es index targets t sc closed order marks g p t' sc' (Err r) =
+    (A : Around) (s : State Float) (column : List Float) → Resting A es index targets t sc closed order marks g p s → Broken A es s column (number r)
+Tried es index targets t sc closed order marks g p t' sc' (Ok (Some p')) =
     Moved p p'
     × ((A : Around) (s : State Float) (column : List Float) → Resting A es index targets t sc closed order marks g p s → Remade A es index targets closed order marks g p s column t' sc' p')
 
@@ -261,12 +257,12 @@ module _ {A : Around} {es index targets t : List ℕ} {sc : List Float} {closed 
     best-source : best_for es index targets t sc closed p e ≡ best_of index targets A.f.source t sc (name_of es e).from (take p.closed closed)
     best-source = rw R.on_ground.source
 
-    gives_none : best_for es index targets t sc closed p e ≡ 0 → recover (column_scoring column) A.f (name_of es e) s ≡ made s []
+    gives_none : best_for es index targets t sc closed p e ≡ None → recover (column_scoring column) A.f (name_of es e) s ≡ made s []
     gives_none z =
         recover-none A.f (name_of es) index targets R.on_ground.agrees column A.closing t sc p.records R.holds.records.held.table e (take p.closed closed) s R.holds.closed_is
         (best_for es index targets t sc closed p e) best-source z
 
-    module _ (b : ℕ) (B : suc b ≡ best_for es index targets t sc closed p e) (l : b < p.records) where
+    module _ (b : ℕ) (B : Some b ≡ best_for es index targets t sc closed p e) (l : b < p.records) where
       gives-lost : kept index targets t b (edge_from es e) ≡ 0 → recover (column_scoring column) A.f (name_of es e) s ≡ made s []
       gives-lost z =
           recover-lost A.f (name_of es) index targets R.on_ground.agrees column A.closing t sc p.records R.holds.records.held.table e (take p.closed closed) s R.holds.closed_is
@@ -315,50 +311,46 @@ module _ {A : Around} {es index targets t : List ℕ} {sc : List Float} {closed 
       in
       omega arith
 
-  module _ {place : ℕ} (N : NextIs order marks p.pivotal p.next place) where
-    no_edge : p.pivotal ≤ place → s.pivotal ≡ []
-    no_edge h = R.holds.pivotal ∙ ap (λ l. map (name_of es) l) (N.same ∙ left_end marked place h)
+  module _ {place : ℕ} (N : NextAt order marks p.pivotal p.next place) where
+    next_edge : NextEdge es s
+    next_edge =
+        record {
+          edge = get_or order place 0;
+          rest = rest_from es order marks p place;
+          is = R.holds.pivotal ∙ ap (λ l. map (name_of es) l) (N.same ∙ left-hit marked place N.high N.live);
+        }
 
-    module _ (h : place < p.pivotal) where
-      next_edge : NextEdge es s
-      next_edge =
-          record {
-            edge = get_or order place 0;
-            rest = rest_from es order marks p place;
-            is = R.holds.pivotal ∙ ap (λ l. map (name_of es) l) (N.same ∙ left-hit marked place h (N.live h));
-          }
-
-      next-resting : Resting A es index targets t sc closed order marks g (next_at p place) (with_pivotal s (rest_from es order marks p place))
-      next-resting =
-          let H = R.holds in
-          record {
-            on_ground = R.on_ground;
-            holds =
-                record {
-                  records = H.records;
-                  heap = H.heap;
-                  idle = H.idle;
-                  once = H.once;
-                  waiting = sym (ap (λ q. map (path_of A.f es index targets A.bs t sc) q) (none-waiting R sc));
-                  closed-known = H.closed-known;
-                  closed_is = H.closed_is;
-                  closed-room = H.closed-room;
-                  pivotal = refl;
-                  pivotal-once = H.pivotal-once;
-                  pivotal-known = H.pivotal-known;
-                  pivotal-forks = H.pivotal-forks;
-                  order-room = H.order-room;
-                  marks-room = H.marks-room;
-                  next_low = omega arith;
-                  pushes = H.pushes;
-                  longest = H.longest;
-                  mark-fits = H.mark-fits;
-                  waiting-fits = H.waiting-fits;
-                  pushes-fit = H.pushes-fit;
-                };
-            none = R.none;
-            actives = R.actives;
-          }
+    next-resting : Resting A es index targets t sc closed order marks g (next_at p place) (with_pivotal s (rest_from es order marks p place))
+    next-resting =
+        let H = R.holds in
+        record {
+          on_ground = R.on_ground;
+          holds =
+              record {
+                records = H.records;
+                heap = H.heap;
+                idle = H.idle;
+                once = H.once;
+                waiting = sym (ap (λ q. map (path_of A.f es index targets A.bs t sc) q) (none-waiting R sc));
+                closed-known = H.closed-known;
+                closed_is = H.closed_is;
+                closed-room = H.closed-room;
+                pivotal = refl;
+                pivotal-once = H.pivotal-once;
+                pivotal-known = H.pivotal-known;
+                pivotal-forks = H.pivotal-forks;
+                order-room = H.order-room;
+                marks-room = H.marks-room;
+                next_low = omega (arith, N.high);
+                pushes = H.pushes;
+                longest = H.longest;
+                mark-fits = H.mark-fits;
+                waiting-fits = H.waiting-fits;
+                pushes-fit = H.pushes-fit;
+              };
+          none = R.none;
+          actives = R.actives;
+        }
 
 -- ---- the step
 
@@ -377,128 +369,123 @@ module _ {es index targets t : List ℕ} {sc : List Float} {closed order marks w
   inside : Inside t sc p.records
   inside = record { cells = omega (arith, T.paths); score = omega (arith, T.scores) }
 
-  module _ {place : ℕ} (N : NextIs order marks p.pivotal p.next place) where
-    pub step-ended : p.pivotal ≤ place → Tried es index targets t sc closed order marks g p t sc recovery.Ended
-    step-ended h = (refl, refl, λ A s R. no_edge R N h)
+  module _ {place : ℕ} (N : NextAt order marks p.pivotal p.next place) where
+    pub step-tries : TriesEdge es index targets t sc closed walks g (next_at p place) (get_or order place 0)
+    step-tries =
+        let G = T.resting.on_ground in
+        let H = T.resting.holds in
+        record {
+          f = T.around.f;
+          agrees = G.agrees;
+          source = G.source;
+          table = H.records.held.table;
+          closed-known = H.closed-known;
+          closed-room = H.closed-room;
+          numbers = H.records.number;
+          short = H.records.short;
+          walk-room = T.walk-room;
+          most-fits = G.most-fits;
+          room = inside;
+          fits = T.fits;
+          edge = edge-known T.resting place N.high;
+          row = omega (arith, edge-known T.resting place N.high, G.size, G.linked.room);
+        }
 
-    module _ (h : place < p.pivotal) where
-      pub step-tries : TriesEdge es index targets t sc closed walks g (next_at p place) (get_or order place 0)
-      step-tries =
-          let G = T.resting.on_ground in
-          let H = T.resting.holds in
-          record {
-            f = T.around.f;
-            agrees = G.agrees;
-            source = G.source;
-            table = H.records.held.table;
-            closed-known = H.closed-known;
-            closed-room = H.closed-room;
-            numbers = H.records.number;
-            short = H.records.short;
-            walk-room = T.walk-room;
-            most-fits = G.most-fits;
-            room = inside;
-            fits = T.fits;
-            edge = edge-known T.resting place h;
-            row = omega (arith, edge-known T.resting place h, G.size, G.linked.room);
-          }
+    -- the edge
+    abbrev e : ℕ
+    e = get_or order place 0
 
-      -- the edge, and the best closed path through its vertex
-      abbrev e : ℕ
-      e = get_or order place 0
+    -- nothing was made
+    lost : (A : Around) (s : State Float) (column : List Float) → Resting A es index targets t sc closed order marks g p s → (t' : List ℕ) (sc' : List Float) (p' : Progress)
+        → Lost t sc (next_at p place) t' sc' p'
+        → recover (column_scoring column) A.f (name_of es e) (with_pivotal s (rest_from es order marks p place)) ≡ made (with_pivotal s (rest_from es order marks p place)) []
+        → Remade A es index targets closed order marks g p s column t' sc' p'
+    unfolding next_edge
+    lost A s column R t' sc' p' L q =
+        rw (L.progress, L.cells, L.scores)
+        (record {
+          next = next_edge R N;
+          bs = A.bs;
+          gives = q ∙ ap (λ (l : List (Path Float)). made (with_pivotal s (rest_from es order marks p place)) l) (sym (none_from (path_of A.f es index targets A.bs t sc) p.records));
+          holds = (next-resting R N).holds;
+          new = λ d a c. absurd (omega arith);
+        })
 
-      abbrev best : ℕ
-      best = best_for es index targets t sc closed (next_at p place) (get_or order place 0)
+    lost-moved : (t' : List ℕ) (sc' : List Float) (p' : Progress) → Lost t sc (next_at p place) t' sc' p' → Moved p p'
+    lost-moved t' sc' p' L =
+        rw L.progress
+        (record { next = omega (arith, N.low); low = omega arith; high = omega arith; waiting = refl; closed = refl; pivotal = refl; pushes = refl; mark = refl })
 
+    -- the best closed path through its vertex, and how many edges of it are kept
+    module _ {best : ℕ} (B : best_for es index targets t sc closed (next_at p place) (get_or order place 0) ≡ Some best) where
       abbrev keeps : ℕ
-      keeps = kept index targets t (best_for es index targets t sc closed (next_at p place) (get_or order place 0) - 1) (edge_from es (get_or order place 0))
+      keeps = kept index targets t best (edge_from es (get_or order place 0))
 
-      best-low : 0 < best → best - 1 < p.records
-      best-low q = best-at step-tries (best - 1) (omega arith)
-
-      -- nothing was made
-      lost : (A : Around) (s : State Float) (column : List Float) → Resting A es index targets t sc closed order marks g p s → (t' : List ℕ) (sc' : List Float) (p' : Progress)
-          → Lost t sc (next_at p place) t' sc' p'
-          → recover (column_scoring column) A.f (name_of es e) (with_pivotal s (rest_from es order marks p place)) ≡ made (with_pivotal s (rest_from es order marks p place)) []
-          → Remade A es index targets closed order marks g p s column t' sc' p'
-      unfolding next_edge
-      lost A s column R t' sc' p' L q =
-          rw (L.progress, L.cells, L.scores)
-          (record {
-            next = next_edge R N h;
-            bs = A.bs;
-            gives = q ∙ ap (λ (l : List (Path Float)). made (with_pivotal s (rest_from es order marks p place)) l) (sym (none_from (path_of A.f es index targets A.bs t sc) p.records));
-            holds = (next-resting R N h).holds;
-            new = λ d a c. absurd (omega arith);
-          })
-
-      lost-moved : (t' : List ℕ) (sc' : List Float) (p' : Progress) → Lost t sc (next_at p place) t' sc' p' → Moved p p'
-      lost-moved t' sc' p' L =
-          rw L.progress
-          (record { next = omega (arith, N.low); low = omega arith; high = omega arith; waiting = refl; closed = refl; pivotal = refl; pushes = refl; mark = refl })
+      best-low : best < p.records
+      best-low = best-at step-tries best B
 
       -- a path was made
-      more : (A : Around) (s : State Float) (column : List Float) → Resting A es index targets t sc closed order marks g p s → (t' : List ℕ) (sc' : List Float) (p' : Progress) → 0 < best
-          → Recovered index targets t sc g (next_at p place) (best - 1) keeps e t' sc' p' → Remade A es index targets closed order marks g p s column t' sc' p'
+      more : (A : Around) (s : State Float) (column : List Float) → Resting A es index targets t sc closed order marks g p s → (t' : List ℕ) (sc' : List Float) (p' : Progress)
+          → Recovered index targets t sc g (next_at p place) best keeps e t' sc' p' → Remade A es index targets closed order marks g p s column t' sc' p'
       unfolding next_edge
-      more A s column R t' sc' p' pos L =
-          let S = next-resting R N h in
-          let l = best-low pos in
-          let E = edge-known R place h in
-          let B : suc (best - 1) ≡ best = omega arith in
-          let low = keeps_low S column e (best - 1) B l L.some in
-          let view = path_of A.f es index targets (with_none A.bs p.records) (put_cells t p.records (recovered_row index t sc targets (best - 1) keeps e)) (set sc p.records (score_of sc (best - 1))) in
-          let one : view_of A.f (name_of es) index targets [] (put_cells t p.records (recovered_row index t sc targets (best - 1) keeps e)) (set sc p.records (score_of sc (best - 1))) p.records ≡ view p.records =
-          ap (λ (y : List Branches). view_of A.f (name_of es) index targets y (put_cells t p.records (recovered_row index t sc targets (best - 1) keeps e)) (set sc p.records (score_of sc (best - 1))) p.records)
+      more A s column R t' sc' p' L =
+          let S = next-resting R N in
+          let E = edge-known R place N.high in
+          let low = keeps_low S column e best (sym B) best-low L.some in
+          let view = path_of A.f es index targets (with_none A.bs p.records) (put_cells t p.records (recovered_row index t sc targets best keeps e)) (set sc p.records (score_of sc best)) in
+          let one : view_of A.f (name_of es) index targets [] (put_cells t p.records (recovered_row index t sc targets best keeps e)) (set sc p.records (score_of sc best)) p.records ≡ view p.records =
+          ap (λ (y : List Branches). view_of A.f (name_of es) index targets y (put_cells t p.records (recovered_row index t sc targets best keeps e)) (set sc p.records (score_of sc best)) p.records)
           (sym (with-new A.bs p.records p.records refl))
           in
           rw (L.progress, L.cells, L.scores)
           (record {
-            next = next_edge R N h;
+            next = next_edge R N;
             bs = with_none A.bs p.records;
             gives =
-                gives_made S column e (best - 1) B l L.some inside E L.short
+                gives_made S column e best (sym B) best-low L.some inside E L.short
                 ∙ ap (λ (y : Path Float). made (with_pivotal s (rest_from es order marks p place)) (y ∷ [])) one
                 ∙ ap (λ (y : List (Path Float)). made (with_pivotal s (rest_from es order marks p place)) y) (sym (one_from view p.records));
-            holds = new-holds S inside (best - 1) keeps e l L.some low E L.short;
-            new = λ d a c. (let z : d ≡ p.records = omega arith in rw z (new-idle S inside (best - 1) keeps e l L.some low E L.short));
+            holds = new-holds S inside best keeps e best-low L.some low E L.short;
+            new = λ d a c. (let z : d ≡ p.records = omega arith in rw z (new-idle S inside best keeps e best-low L.some low E L.short));
           })
 
-      more-moved : (t' : List ℕ) (sc' : List Float) (p' : Progress) → Recovered index targets t sc g (next_at p place) (best - 1) keeps e t' sc' p' → Moved p p'
+      more-moved : (t' : List ℕ) (sc' : List Float) (p' : Progress) → Recovered index targets t sc g (next_at p place) best keeps e t' sc' p' → Moved p p'
       more-moved t' sc' p' L =
           rw L.progress
           (record { next = omega (arith, N.low); low = omega arith; high = omega arith; waiting = refl; closed = refl; pivotal = refl; pushes = refl; mark = refl })
 
-      made-number : {a c : Progress} → recovery.Made a ≡ recovery.Made c → a ≡ c
-      made-number q = cc
+    made-number : {a c : Progress} → ◌≡◌ {A = Result Progress Refusal} (Ok a) (Ok c) → a ≡ c
+    made-number q = cc
 
-      pub step-tried : (t' : List ℕ) (sc' : List Float) (r : Recovery) → EdgeTried es index targets t sc closed g (next_at p place) (get_or order place 0) t' sc' r
-          → Tried es index targets t sc closed order marks g p t' sc' r
-      unfolding next_edge
-      step-tried t' sc' recovery.Ended (inl q) = let u = q.1 in let z : ◌≡◌ {A = ℕ} 0 1 = cc in absurd (omega arith)
-      step-tried t' sc' recovery.Ended (inr q) = absurd q.1
-      step-tried t' sc' (recovery.Refused k) (inl q) = let u = q.1 in let z : ◌≡◌ {A = ℕ} 0 1 = cc in absurd (omega arith)
-      step-tried t' sc' (recovery.Refused k) (inr q) =
+    -- by the answer of the edge that was tried
+    pub step-refused : (t' : List ℕ) (sc' : List Float) (r : Refusal) → EdgeTried es index targets t sc closed g (next_at p place) (get_or order place 0) t' sc' (Err r)
+        → Tried es index targets t sc closed order marks g p t' sc' (Err r)
+    unfolding next_edge
+    step-refused t' sc' r (inl q) = let u = q.1 in let z : ◌≡◌ {A = ℕ} 0 1 = cc in absurd (omega arith)
+    step-refused t' sc' r (inr q) =
+        λ A s column R.
+        record {
+          next = next_edge R N;
+          gives =
+              gives-over (next-resting R N) column e q.path (sym q.best) (best-low q.best) q.left.some inside (edge-known R place N.high) q.left.over
+              ∙ ap broken (sym q.left.number);
+        }
+
+    pub step-made : (t' : List ℕ) (sc' : List Float) (p' : Progress) → EdgeTried es index targets t sc closed g (next_at p place) (get_or order place 0) t' sc' (Ok p')
+        → Tried es index targets t sc closed order marks g p t' sc' (Ok (Some p'))
+    step-made t' sc' p' (inl q) =
+        let L : Lost t sc (next_at p place) t' sc' p' = record { progress = made-number q.1; cells = q.2.cells; scores = q.2.scores } in
+        (lost-moved t' sc' p' L, λ A s column R. lost A s column R t' sc' p' L (gives_none (next-resting R N) column e q.0))
+    step-made t' sc' p' (inr q) = go q.left
+      where
+        go : ((kept index targets t q.path (edge_from es e) ≡ 0) × Lost t sc (next_at p place) t' sc' p') ⊎ Recovered index targets t sc g (next_at p place) q.path (kept index targets t q.path (edge_from es e)) e t' sc' p'
+            → Tried es index targets t sc closed order marks g p t' sc' (Ok (Some p'))
+        go (inl L) = (
+          lost-moved t' sc' p' L.1,
           λ A s column R.
-          record {
-            next = next_edge R N h;
-            gives =
-                gives-over (next-resting R N h) column e (best - 1) (let u = q.0 in omega arith) (best-low q.0) q.1.some inside (edge-known R place h) q.1.over
-                ∙ ap broken (sym q.1.number);
-          }
-      step-tried t' sc' (recovery.Made p') (inl q) =
-          let L : Lost t sc (next_at p place) t' sc' p' = record { progress = made-number q.1; cells = q.2.cells; scores = q.2.scores } in
-          (lost-moved t' sc' p' L, λ A s column R. lost A s column R t' sc' p' L (gives_none (next-resting R N h) column e q.0))
-      step-tried t' sc' (recovery.Made p') (inr q) = go q.1
-        where
-          go : ((keeps ≡ 0) × Lost t sc (next_at p place) t' sc' p') ⊎ Recovered index targets t sc g (next_at p place) (best - 1) keeps e t' sc' p'
-              → Tried es index targets t sc closed order marks g p t' sc' (recovery.Made p')
-          go (inl L) = (
-            lost-moved t' sc' p' L.1,
-            λ A s column R.
-                lost A s column R t' sc' p' L.1 (gives-lost (next-resting R N h) column e (best - 1) (let u = q.0 in omega arith) (best-low q.0) L.0),
-          )
-          go (inr L) = (more-moved t' sc' p' L, λ A s column R. more A s column R t' sc' p' q.0 L)
+              lost A s column R t' sc' p' L.1 (gives-lost (next-resting R N) column e q.path (sym q.best) (best-low q.best) L.0),
+        )
+        go (inr L) = (more-moved q.best t' sc' p' L, λ A s column R. more q.best A s column R t' sc' p' L)
 
 -- ---- the definition's `advance`, by the answer
 

@@ -1,5 +1,5 @@
--- The next pivotal edge: the first from a place on whose mark is not 0.
-use Rattle.std.specs.Prelude.{◌≡◌, refl, List, [], ◌∷◌, ℕ, suc, ◌+◌, ◌<◌, ◌≤◌, length, get_or, take, drop}
+-- The next pivotal edge: the first from a place on whose mark is not 0, if there is one.
+use Rattle.std.specs.Prelude.{◌≡◌, refl, Option, Some, None, List, [], ◌∷◌, ℕ, suc, ◌+◌, ◌<◌, ◌≤◌, length, get_or, take, drop}
 use Rattle.std.proofs.Common.{sym, ap, ◌∙◌, add-one, arith, lt-ltb, le-ltb, drop_of_length-le, drop-cons, get_or-take, length-take-le}
 use Rattle.laws.specs.ListLaws.{All}
 use Rattle.closed_paths.specs.Cross.{unvisited}
@@ -14,11 +14,16 @@ pub record Marked (order marks : List ℕ) (n : ℕ) : Type 0 where
 abbrev pub left_from : List ℕ → List ℕ → ℕ → ℕ → List ℕ
 left_from order marks n i = unvisited (drop i (take n order)) marks
 
-pub record NextIs (order marks : List ℕ) (n next r : ℕ) : Type 0 where
-  pub low : next ≤ r
-  pub high : r ≤ n
-  pub same : left_from order marks n next ≡ left_from order marks n r
-  pub live : r < n → 0 < get_or marks (get_or order r 0) 0
+-- the place i is the first that is still marked
+pub record NextAt (order marks : List ℕ) (n next i : ℕ) : Type 0 where
+  pub low : next ≤ i
+  pub high : i < n
+  pub same : left_from order marks n next ≡ left_from order marks n i
+  pub live : 0 < get_or marks (get_or order i 0) 0
+
+abbrev pub NextIs : List ℕ → List ℕ → ℕ → ℕ → Option ℕ → Type 0
+NextIs order marks n next (Some i) = NextAt order marks n next i
+NextIs order marks n next None = left_from order marks n next ≡ []
 
 pub record Scanning (order marks : List ℕ) (n next i : ℕ) : Type 0 where
   pub low : next ≤ i
@@ -51,22 +56,15 @@ module _ {order marks : List ℕ} {n : ℕ} (M : Marked order marks n) where
   left-miss : (i : ℕ) → i < n → get_or marks (get_or order i 0) 0 ≡ 0 → left_from order marks n i ≡ left_from order marks n (i + 1)
   left-miss i h k = ap (λ l. unvisited l marks) (split i h) ∙ (rw (le-ltb 0 (get_or marks (get_or order i 0) 0) (omega arith)))
 
-  pub left_end : (i : ℕ) → n ≤ i → left_from order marks n i ≡ []
+  left_end : (i : ℕ) → n ≤ i → left_from order marks n i ≡ []
   left_end i h = ap (λ l. unvisited l marks) (drop_of_length-le (take n order) {i = i} (omega (arith, full)))
 
   module _ {next i : ℕ} (S : Scanning order marks n next i) where
-    pub scan-hit : (e : ℕ) → i < n → e ≡ get_or order i 0 → (get_or marks e 0 ≡ 0 → ⊥) → NextIs order marks n next i
-    scan-hit e h q k =
-        record {
-          low = S.low;
-          high = S.high;
-          same = S.same;
-          live = λ l. (let z : get_or marks e 0 ≡ get_or marks (get_or order i 0) 0 = ap (λ x. get_or marks x 0) q in omega arith);
-        }
+    pub scan-hit : i < n → (get_or marks (get_or order i 0) 0 ≡ 0 → ⊥) → NextAt order marks n next i
+    scan-hit h k = record { low = S.low; high = h; same = S.same; live = omega arith }
 
-    pub scan-next : (e : ℕ) → i < n → e ≡ get_or order i 0 → get_or marks e 0 ≡ 0 → Scanning order marks n next (i + 1)
-    scan-next e h q k =
-        record { low = omega (arith, S.low); high = omega arith; same = S.same ∙ left-miss i h (ap (λ x. get_or marks x 0) (sym q) ∙ k) }
+    pub scan-next : i < n → get_or marks (get_or order i 0) 0 ≡ 0 → Scanning order marks n next (i + 1)
+    scan-next h k = record { low = omega (arith, S.low); high = omega arith; same = S.same ∙ left-miss i h k }
 
-    pub scan-end : n ≤ i → NextIs order marks n next i
-    scan-end h = record { low = S.low; high = S.high; same = S.same; live = λ l. absurd (omega arith) }
+    pub scan-end : n ≤ i → left_from order marks n next ≡ []
+    scan-end h = S.same ∙ left_end i h

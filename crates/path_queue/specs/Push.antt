@@ -1,22 +1,17 @@
 -- Paths that were made join those that wait, as the definition's `push_all`: in the order of their records, as many as the maximum allows.
-use Rattle.std.specs.Prelude.{◌≡◌, ◌≢◌, Float}
-use Rattle.std.proofs.Math.Path.{refl, sym, ap}
-use Rattle.std.proofs.Common.{◌∙◌, lt-ltb, le-ltb}
-use mathlib.Core.List.{List, [], ◌∷◌, map}
-use Prim.Native.Nat.{ℕ, suc, ◌+◌, ◌-◌, ◌<◌, ◌≤◌, max}
-use Rattle.std.proofs.Math.Numerals.{add-one}
-use native.Mathlib.Omega.{arith}
-use Rattle.std.proofs.Math.ListN.{length, length-map}
+use Rattle.std.specs.Prelude.{◌≡◌, ◌≢◌, refl, Result, Ok, Err, List, [], ◌∷◌, map, ℕ, suc, ◌+◌, ◌-◌, ◌<◌, ◌≤◌, max, length, Float}
+use Rattle.std.proofs.Common.{sym, ap, ◌∙◌, add-one, arith, lt-ltb, le-ltb}
+use Rattle.std.proofs.Math.ListN.{length-map}
 use Rattle.laws.specs.Heaps.{nth}
 use Rattle.definition.specs.Score.{column_scoring}
 use Rattle.definition.specs.Search.{Path, State, Turn, more, full, wait, push, push_all}
 use Rattle.path_heap.specs.First.{Known}
 use Rattle.path_heap.specs.Heap.{Pushable, Pushed, waiting, ahead_of, waiting-length, waiting-all, pushed-all}
 use Rattle.path_heap.proofs.Link.{pushed-view}
-use Rattle.search_state.specs.declared.Setting.{Setting}
+use Rattle.search_state.specs.Settings.{Setting}
 use Rattle.search_state.specs.declared.Progress.{Progress}
-use Rattle.search_state.specs.declared.Step.{Step}
-use Rattle.search_state.specs.declared.Step.TheVariants.{On, Refused}
+use Rattle.refusals.specs.declared.Refusal.{Refusal}
+use Rattle.refusals.specs.Numbers.{number}
 use Rattle.search_state.specs.State.{Idle, up_from}
 use Rattle.path_queue.specs.Scene.{Scene, Stands, path_in, distinct-insert}
 
@@ -64,9 +59,9 @@ pub record Joined (sc : List Float) (queue : List ℕ) (g : Setting) (p : Progre
   pub each : (G : Scene) (s : State Float) (column : List Float) → Ready G g sc queue p path s
       → Ready G g sc queue' (pushed_once p) (path + 1) (push (column_scoring column) (path_in G sc path) s)
 
-abbrev pub OnePushed : List Float → List ℕ → Setting → Progress → ℕ → List ℕ → Step → Type 0
-OnePushed sc queue g p path queue' (On p') = Joined sc queue g p path queue' p'
-OnePushed sc queue g p path queue' (Refused k) = (k ≡ 12) × (g.pushes ≤ p.pushes)
+abbrev pub OnePushed : List Float → List ℕ → Setting → Progress → ℕ → List ℕ → Result Progress Refusal → Type 0
+OnePushed sc queue g p path queue' (Ok p') = Joined sc queue g p path queue' p'
+OnePushed sc queue g p path queue' (Err r) = (number r ≡ 12) × (g.pushes ≤ p.pushes)
 
 module _ {sc : List Float} {queue : List ℕ} {g : Setting} {p : Progress} {path : ℕ} (A : OnePushes sc queue g p path) where
   known : Known sc path
@@ -79,10 +74,6 @@ module _ {sc : List Float} {queue : List ℕ} {g : Setting} {p : Progress} {path
   one-heap h =
       let H = A.asks.ready.holds in
       record { heap = H.heap; free = omega (arith, A.asks.room, H.waiting-fits, H.mark-fits); known = known; later = A.asks.ready.later }
-
-  -- and the counts fit
-  pub one-fits : p.pushes < g.pushes → (p.waiting + 1 ≤ length queue) × (p.pushes + 1 ≤ length queue)
-  one-fits h = let H = A.asks.ready.holds in omega (arith, A.asks.room, H.waiting-fits, H.mark-fits)
 
   module _ (h : p.pushes < g.pushes) {queue' : List ℕ} (P : Pushed sc queue p.waiting path queue') where
     one_each : (G : Scene) (s : State Float) (column : List Float) → Ready G g sc queue p path s
@@ -132,7 +123,7 @@ module _ {sc : List Float} {queue : List ℕ} {g : Setting} {p : Progress} {path
 
     pub one-joined : (m : ℕ) → m ≡ max p.mark (p.waiting + 1)
         → OnePushed sc queue g p path queue'
-        (On (record { records = p.records; waiting = p.waiting + 1; closed = p.closed; next = p.next; pivotal = p.pivotal; pushes = p.pushes + 1; mark = m }))
+        (Ok (record { records = p.records; waiting = p.waiting + 1; closed = p.closed; next = p.next; pivotal = p.pivotal; pushes = p.pushes + 1; mark = m }))
     one-joined m e = record { free = h; is = rw e; each = one_each }
 
 -- ---- all of them
@@ -177,9 +168,9 @@ pub record Pushed-all (sc : List Float) (queue : List ℕ) (g : Setting) (p : Pr
   pub counted : Counted p p' (p.records - from)
   pub each : (G : Scene) (s : State Float) (column : List Float) → Ready G g sc queue p from s → More (pushes_from column G g sc p from s) G g sc queue' p'
 
-abbrev pub AllPushed : List Float → List ℕ → Setting → Progress → ℕ → List ℕ → Step → Type 0
-AllPushed sc queue g p from queue' (On p') = Pushed-all sc queue g p from queue' p'
-AllPushed sc queue g p from queue' (Refused k) = Filled sc queue g p from k
+abbrev pub AllPushed : List Float → List ℕ → Setting → Progress → ℕ → List ℕ → Result Progress Refusal → Type 0
+AllPushed sc queue g p from queue' (Ok p') = Pushed-all sc queue g p from queue' p'
+AllPushed sc queue g p from queue' (Err r) = Filled sc queue g p from (number r)
 
 -- ---- `push_all`, a path at a time
 
@@ -266,11 +257,11 @@ module _ {sc : List Float} {queue₀ : List ℕ} {g : Setting} {p₀ : Progress}
         })
 
     -- by the answer of the push
-    pub pushing-refused : (r : Step) (k : ℕ) (queue' : List ℕ) → r ≡ Refused k → path < p₀.records → OnePushed sc queue g p path queue' r
+    pub pushing-refused : (r : Result Progress Refusal) (a : Refusal) (queue' : List ℕ) → r ≡ Err a → path < p₀.records → OnePushed sc queue g p path queue' r
         → AllPushed sc queue₀ g p₀ from queue' r
-    pushing-refused r k queue' e h o = rw e (pushing-full k h (rw e at o))
+    pushing-refused r a queue' e h o = rw e (pushing-full (number a) h (rw e at o))
 
-    pub pushing-on : (r : Step) (p' : Progress) (queue' : List ℕ) → r ≡ On p' → path < p₀.records → length queue' ≡ length queue → OnePushed sc queue g p path queue' r
+    pub pushing-on : (r : Result Progress Refusal) (p' : Progress) (queue' : List ℕ) → r ≡ Ok p' → path < p₀.records → length queue' ≡ length queue → OnePushed sc queue g p path queue' r
         → Pushing sc queue₀ g p₀ from queue' p' (path + 1)
     pushing-on r p' queue' e h l o = pushing-next h l (rw e at o)
 

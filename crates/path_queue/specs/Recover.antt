@@ -1,21 +1,18 @@
 -- Where a path is split, and the record that is made of its front and an edge.
-use Rattle.std.specs.Prelude.{◌≡◌, refl, ◌⊎◌, List, ℕ, ◌+◌, ◌<◌, ◌≤◌, length, get_or, take, set, Float}
-use Rattle.std.proofs.Common.{sym, ap, ◌∙◌, inl, inr, arith, get_or-take}
+use Rattle.std.specs.Prelude.{◌≡◌, refl, ◌⊎◌, Result, Ok, Err, List, ℕ, ◌+◌, ◌<◌, ◌≤◌, length, get_or, take, set, Float}
+use Rattle.std.proofs.Common.{ap, ◌∙◌, inr, arith}
 use Rattle.std.proofs.lemmas.List.Edits.{sets}
-use Rattle.std.proofs.Math.Seq.{length-sets}
 use Rattle.laws.specs.Stores.{take-sets}
-use Rattle.path_growth.specs.declared.PathAnswer.{PathAnswer}
-use Rattle.path_growth.specs.declared.PathAnswer.TheVariants as answer
+use Rattle.refusals.specs.declared.Refusal.{Refusal}
+use Rattle.refusals.specs.Numbers.{number}
 use Rattle.path_store.specs.Cells.{count_of, score_of, Inside, put_cells}
 use Rattle.path_edges.specs.Path.{Table, edges, table-front}
-use Rattle.path_growth.specs.Grow.{path_refusal, Growable, Grown, recovered_row}
+use Rattle.path_growth.specs.Grow.{Growable, Grown, recovered_row}
 use Rattle.path_growth.specs.Held.{grown-made, grown-refused}
 use Rattle.closed_paths.specs.Split.{split_at}
 use Rattle.closed_paths.specs.Recover.{edges-in, all-at, split-low}
-use Rattle.search_state.specs.declared.Setting.{Setting}
+use Rattle.search_state.specs.Settings.{Setting}
 use Rattle.search_state.specs.declared.Progress.{Progress}
-use Rattle.path_queue.specs.declared.Recovery.{Recovery}
-use Rattle.path_queue.specs.declared.Recovery.TheVariants as recovery
 
 -- ---- where a path is split
 
@@ -24,32 +21,15 @@ pub record Splits (index targets t : List ℕ) (sc : List Float) (walks : List �
   pub room : count_of t path ≤ length walks
 
 module _ {index targets t : List ℕ} {sc : List Float} {walks : List ℕ} {path : ℕ} (S : Splits index targets t sc walks path) where
-  pub split-inside : Inside t sc path
-  split-inside = record { cells = omega (arith, S.table.room); score = omega (arith, S.table.scored) }
-
   count-is : count_of t path ≡ length (edges index targets t path)
   count-is = (S.table.rows path (omega arith)).count
-
-  pub split-room : 0 + count_of t path ≤ length walks
-  split-room = omega (arith, S.room)
 
   module _ (n : ℕ) (walks' : List ℕ) (e : n ≡ count_of t path) (w : walks' ≡ sets walks 0 (edges index targets t path)) where
     written : take n walks' ≡ edges index targets t path
     written = rw (e, w, count-is) (take-sets walks (edges index targets t path) (omega (arith, S.room, count-is)))
 
-    size : length walks' ≡ length walks
-    size = ap (λ (l : List ℕ). length l) w ∙ length-sets walks 0 (edges index targets t path)
-
-    pub split-asks : (n ≤ length walks') × ((i : ℕ) → i < n → get_or walks' i 0 < length targets) × (length targets < 4294967295)
-    split-asks = (
-      omega (arith, S.room, size),
-      (λ i h.
-          (let k = all-at (λ d. d < length targets) (edges index targets t path) (edges-in index targets t sc (path + 1) S.table path (omega arith)) i (omega (arith, count-is)) in
-          let r : get_or (take n walks') i 0 ≡ get_or walks' i 0 = get_or-take n walks' i 0 h in
-          let q : get_or (take n walks') i 0 ≡ get_or (edges index targets t path) i 0 = ap (λ (l : List ℕ). get_or l i 0) written in
-          omega arith)),
-      S.table.graph.small,
-    )
+    pub split-asks : (i : ℕ) → i < length (take n walks') → get_or (take n walks') i 0 < length targets
+    split-asks = rw written (λ i h. all-at (λ d. d < length targets) (edges index targets t path) (edges-in index targets t sc (path + 1) S.table path (omega arith)) i h)
 
     pub split-is : (v k : ℕ) → k ≡ split_at targets v (take n walks') → k ≡ split_at targets v (edges index targets t path)
     split-is v k h = h ∙ ap (λ l. split_at targets v l) written
@@ -93,24 +73,13 @@ pub record Long (g : Setting) (k n : ℕ) : Type 0 where
   pub some : 0 < k
   pub over : g.most < k + 1
 
-abbrev pub Left : List ℕ → List ℕ → List ℕ → List Float → Setting → Progress → ℕ → ℕ → ℕ → List ℕ → List Float → Recovery → Type 0
-Left index targets t sc g p path v e t' sc' recovery.Ended = ⊥
-Left index targets t sc g p path v e t' sc' (recovery.Made p') =
+abbrev pub Left : List ℕ → List ℕ → List ℕ → List Float → Setting → Progress → ℕ → ℕ → ℕ → List ℕ → List Float → Result Progress Refusal → Type 0
+Left index targets t sc g p path v e t' sc' (Ok p') =
     ((kept index targets t path v ≡ 0) × Lost t sc p t' sc' p') ⊎ Recovered index targets t sc g p path (kept index targets t path v) e t' sc' p'
-Left index targets t sc g p path v e t' sc' (recovery.Refused n) = Long g (kept index targets t path v) n
+Left index targets t sc g p path v e t' sc' (Err r) = Long g (kept index targets t path v) (number r)
 
 module _ {index targets t : List ℕ} {sc : List Float} {walks : List ℕ} {g : Setting} {p : Progress} {path e : ℕ} (L : Leaves index targets t sc walks g p path e) where
-  pub leave-splits : Splits index targets t sc walks path
-  leave-splits =
-      record {
-        table = table-front index targets t sc p.records (path + 1) L.table (omega (arith, L.known));
-        room = omega (arith, L.short, L.walk-room);
-      }
-
   module _ (v k : ℕ) (K : k ≡ kept index targets t path v) where
-    pub leave_none : k ≡ 0 → Left index targets t sc g p path v e t sc (recovery.Made p)
-    leave_none z = inl (sym K ∙ z, record { progress = refl; cells = refl; scores = refl })
-
     module _ (h : k ≡ 0 → ⊥) where
       low : k ≤ count_of t path
       low = omega (arith, split-low targets v (edges index targets t path) k K (omega arith), (L.table.rows path L.known).count)
@@ -123,17 +92,17 @@ module _ {index targets t : List ℕ} {sc : List Float} {walks : List ℕ} {g : 
       leave-asks c q =
           (record { room = L.room; known = L.known }, table-front index targets t sc p.records (path + 1) L.table (omega (arith, L.known)), omega arith, omega (arith, low), L.edge, omega (arith, L.edge, L.table.graph.small))
 
-      module _ (c : ℕ) (q : c ≡ k) (t' : List ℕ) (sc' : List Float) (r : PathAnswer)
+      module _ (c : ℕ) (q : c ≡ k) (t' : List ℕ) (sc' : List Float) (r : Result ℕ Refusal)
           (G : Grown t sc p.records (recovered_row index t sc targets path c e) g.most r t' sc') where
         same : c ≡ kept index targets t path v
         same = q ∙ K
 
-        pub leave-over : (n : ℕ) → r ≡ answer.Refused n → (j : ℕ) → j ≡ path_refusal r → Left index targets t sc g p path v e t' sc' (recovery.Refused j)
-        leave-over n E j d =
-            let R = grown-refused t sc p.records (recovered_row index t sc targets path c e) g.most t' sc' n (rw E at G) in
-            record { number = d ∙ ap path_refusal E ∙ R.0.number; some = omega (arith, same); over = omega (arith, same, R.1) }
+        pub leave-over : (a : Refusal) → r ≡ Err a → Left index targets t sc g p path v e t' sc' (Err a)
+        leave-over a E =
+            let R = grown-refused t sc p.records (recovered_row index t sc targets path c e) g.most t' sc' a (rw E at G) in
+            record { number = R.0.number; some = omega (arith, same); over = omega (arith, same, R.1) }
 
-        pub leave-made : (n : ℕ) → r ≡ answer.Made n → Left index targets t sc g p path v e t' sc' (recovery.Made (one_more p))
+        pub leave-made : (n : ℕ) → r ≡ Ok n → Left index targets t sc g p path v e t' sc' (Ok (one_more p))
         leave-made n E =
             let R = grown-made t sc p.records (recovered_row index t sc targets path c e) g.most t' sc' n (rw E at G) in
             inr

@@ -6,7 +6,7 @@ use Rattle.laws.specs.Insertion.{insert, insert-past, insert-here, all_insert}
 use Rattle.definition.specs.Evidence.{Branches}
 use Rattle.definition.specs.Search.{SearchInput, Path, State}
 use Rattle.closed_paths.specs.Cross.{Distinct}
-use Rattle.search_state.specs.declared.Setting.{Setting}
+use Rattle.search_state.specs.Settings.{Setting}
 use Rattle.search_state.specs.declared.Progress.{Progress}
 use Rattle.search_state.specs.State.{path_of, Holds}
 

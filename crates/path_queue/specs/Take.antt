@@ -5,7 +5,7 @@ use Rattle.laws.specs.ListLaws.{all-mono}
 use Rattle.definition.specs.Search.{Path, State}
 use Rattle.closed_paths.specs.Cross.{Distinct}
 use Rattle.path_heap.specs.Heap.{Popped, waiting, popped-first, popped-all}
-use Rattle.search_state.specs.declared.Setting.{Setting}
+use Rattle.search_state.specs.Settings.{Setting}
 use Rattle.search_state.specs.declared.Progress.{Progress}
 use Rattle.search_state.specs.State.{Idle, Apart}
 use Rattle.path_queue.specs.declared.Taking.{Taking}

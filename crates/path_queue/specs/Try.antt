@@ -1,7 +1,8 @@
 -- The edge e is tried: the best closed path through its vertex, and what is made of it.
-use Rattle.std.specs.Prelude.{◌≡◌, refl, ◌⊎◌, Bool, true, false, List, [], map, ℕ, suc, ◌+◌, ◌-◌, ◌<◌, ◌≤◌, eqb, length, get_or, take, Float}
-use Rattle.std.proofs.Common.{sym, ap, subst, ◌∙◌, inl, inr, arith, get_or-take, length-take-le}
-use Rattle.std.proofs.Math.Option.{Option, none, some}
+use Rattle.std.specs.Prelude.{◌≡◌, refl, ◌⊎◌, Result, Ok, Option, Some, None, Bool, true, false, List, [], map, ℕ, ◌+◌, ◌<◌, ◌≤◌, eqb, length, get_or, take, Float}
+use Rattle.std.proofs.Common.{sym, ap, subst, ◌∙◌, arith, get_or-take, length-take-le}
+use Rattle.std.proofs.Math.Option.{none, some}
+use Rattle.std.proofs.Math.Option as math
 use Rattle.std.specs.Float.Ieee.{is_nan}
 use Rattle.laws.specs.Lists.{any, keep}
 use Rattle.laws.specs.ListLaws.{All, nil, cons, all_keep, all_map}
@@ -11,13 +12,12 @@ use Rattle.assembly.specs.Fields.{HasEdge, edge_from}
 use Rattle.path_store.specs.Cells.{count_of, score_of, Inside}
 use Rattle.path_edges.specs.Path.{Table, table-front}
 use Rattle.path_growth.specs.Link.{Agrees}
-use Rattle.closed_paths.specs.Best.{best_of, ClosedIn, closed_at, found_at, best-greatest}
+use Rattle.closed_paths.specs.Best.{best_of, ClosedIn, closed-front, closed_at, found_at, best-greatest}
 use Rattle.closed_paths.specs.Recover.{all-at}
-use Rattle.search_state.specs.declared.Setting.{Setting}
+use Rattle.search_state.specs.Settings.{Setting}
 use Rattle.search_state.specs.declared.Progress.{Progress}
 use Rattle.search_state.specs.Ground.{name_of}
-use Rattle.path_queue.specs.declared.Recovery.{Recovery}
-use Rattle.path_queue.specs.declared.Recovery.TheVariants as recovery
+use Rattle.refusals.specs.declared.Refusal.{Refusal}
 use Rattle.path_queue.specs.Recover.{Leaves, Lost, Left}
 
 pub record TriesEdge (es index targets t : List ℕ) (sc : List Float) (closed walks : List ℕ) (g : Setting) (p : Progress) (e : ℕ) : Type 0 where
@@ -36,14 +36,20 @@ pub record TriesEdge (es index targets t : List ℕ) (sc : List Float) (closed w
   pub edge : e < length targets
   pub row : HasEdge es e
 
--- the number + 1 of the best closed path through the vertex that e leaves
-abbrev pub best_for : List ℕ → List ℕ → List ℕ → List ℕ → List Float → List ℕ → Progress → ℕ → ℕ
+-- the best closed path through the vertex that e leaves
+abbrev pub best_for : List ℕ → List ℕ → List ℕ → List ℕ → List Float → List ℕ → Progress → ℕ → Option ℕ
 best_for es index targets t sc closed p e = best_of index targets 0 t sc (edge_from es e) (take p.closed closed)
 
-abbrev pub EdgeTried : List ℕ → List ℕ → List ℕ → List ℕ → List Float → List ℕ → Setting → Progress → ℕ → List ℕ → List Float → Recovery → Type 0
+-- the best closed path goes on by the edge, if it can
+pub record GoesOn (es index targets t : List ℕ) (sc : List Float) (closed : List ℕ) (g : Setting) (p : Progress) (e : ℕ) (t' : List ℕ) (sc' : List Float) (r : Result Progress Refusal) : Type 0 where
+  pub path : ℕ
+  pub best : best_for es index targets t sc closed p e ≡ Some path
+  pub left : Left index targets t sc g p path (edge_from es e) e t' sc' r
+
+abbrev pub EdgeTried : List ℕ → List ℕ → List ℕ → List ℕ → List Float → List ℕ → Setting → Progress → ℕ → List ℕ → List Float → Result Progress Refusal → Type 0
 EdgeTried es index targets t sc closed g p e t' sc' r =
-    ((best_for es index targets t sc closed p e ≡ 0) × (r ≡ recovery.Made p) × Lost t sc p t' sc' p)
-    ⊎ ((0 < best_for es index targets t sc closed p e) × Left index targets t sc g p (best_for es index targets t sc closed p e - 1) (edge_from es e) e t' sc' r)
+    ((best_for es index targets t sc closed p e ≡ None) × (r ≡ Ok p) × Lost t sc p t' sc' p)
+    ⊎ GoesOn es index targets t sc closed g p e t' sc' r
 
 -- what holds of all closed paths holds of the greatest
 all-greatest : (𝓢 : Scoring Float) {P : Closed Float → Type 0} {cs : List (Closed Float)} (b : Closed Float) → All P cs → greatest 𝓢 cs ≡ some b → P b
@@ -51,7 +57,7 @@ unfolding greatest
 all-greatest 𝓢 b nil t = let z : ◌≡◌ {A = ℕ} 0 1 = cc in absurd (omega arith)
 all-greatest 𝓢 {P} b (cons {x = c} {xs = cs} p ps) t = go (greatest 𝓢 cs) refl (λ d. all-greatest 𝓢 d ps)
   where
-    go : (o : Option (Closed Float)) → greatest 𝓢 cs ≡ o → ((d : Closed Float) → greatest 𝓢 cs ≡ some d → P d) → P b
+    go : (o : math.Option (Closed Float)) → greatest 𝓢 cs ≡ o → ((d : Closed Float) → greatest 𝓢 cs ≡ some d → P d) → P b
     go none e ih = let h : some c ≡ some b = rw (e, greatest) at t in let same : c ≡ b = cc in subst P same p
     go (some d) e ih = pick (𝓢.less d.score c.score) refl
       where
@@ -60,33 +66,24 @@ all-greatest 𝓢 {P} b (cons {x = c} {xs = cs} p ps) t = go (greatest 𝓢 cs) 
         pick false u = let h : some d ≡ some b = rw (e, greatest, u) at t in let same : d ≡ b = cc in subst P same (ih d e)
 
 module _ {es index targets t : List ℕ} {sc : List Float} {closed walks : List ℕ} {g : Setting} {p : Progress} {e : ℕ} (T : TriesEdge es index targets t sc closed walks g p e) where
-  pub edge_row : (i : ℕ) → i ≡ e → HasEdge es i
-  edge_row i h = rw h T.row
-
-  pub edge-from-is : (i v : ℕ) → i ≡ e → v ≡ edge_from es i → v ≡ edge_from es e
-  edge-from-is i v h k = k ∙ ap (λ x. edge_from es x) h
-
   closed-low : (i : ℕ) → i < p.closed → get_or closed i 0 < p.records
   closed-low i h =
       let a = all-at (λ r. r < p.records) (take p.closed closed) T.closed-known i (omega (arith, length-take-le p.closed closed T.closed-room)) in
       omega (arith, get_or-take p.closed closed i 0 h)
 
-  pub try-closed : (v : ℕ) → ClosedIn index targets 0 t sc v closed p.closed
+  pub try-closed : (v : ℕ) → ClosedIn index targets 0 t sc v (take p.closed closed)
   try-closed v =
-      record {
-        room = T.closed-room;
-        tables = λ i h. table-front index targets t sc p.records (get_or closed i 0 + 1) T.table (omega (arith, closed-low i h));
-        small = λ i h. omega (arith, closed-low i h, T.fits);
-        numbers = λ i h. T.numbers (get_or closed i 0) (closed-low i h);
-      }
+      closed-front index targets 0 t sc v closed p.closed T.closed-room
+      (λ i h. table-front index targets t sc p.records (get_or closed i 0 + 1) T.table (omega (arith, closed-low i h)))
+      (λ i h. T.numbers (get_or closed i 0) (closed-low i h))
 
   -- the best closed path is one of the records: by the definition's greatest, where each closed path's number is its record's
-  pub best-at : (b : ℕ) → best_for es index targets t sc closed p e ≡ suc b → b < p.records
+  pub best-at : (b : ℕ) → best_for es index targets t sc closed p e ≡ Some b → b < p.records
   best-at b h =
       let v = edge_from es e in
       let cs = take p.closed closed in
       let at = closed_at T.f (name_of es) index targets T.agrees [] (λ r. r) t sc v in
-      let j : best_of index targets T.f.source t sc v cs ≡ suc b = rw T.source h in
+      let j : best_of index targets T.f.source t sc v cs ≡ Some b = rw T.source h in
       let k : greatest (column_scoring []) (keep (λ c. any (eqb v) (vertices_from T.f.source c.edges)) (map at cs)) ≡ some (at b) =
       best-greatest T.f (name_of es) index targets T.agrees [] (λ r. r) t sc v cs
       ∙ ap (λ x. found_at T.f (name_of es) index targets T.agrees [] (λ r. r) t sc v x) j
@@ -94,29 +91,23 @@ module _ {es index targets t : List ℕ} {sc : List Float} {closed walks : List 
       all-greatest (column_scoring []) {P = λ c. c.closing < p.records} (at b)
       (all_keep (λ c. any (eqb v) (vertices_from T.f.source c.edges)) (all_map at (λ r l. l) T.closed-known)) k
 
-  module _ (v best : ℕ) (v-is : v ≡ edge_from es e) (B : best ≡ best_of index targets 0 t sc v (take p.closed closed)) where
+  module _ (v : ℕ) (best : Option ℕ) (v-is : v ≡ edge_from es e) (B : best ≡ best_of index targets 0 t sc v (take p.closed closed)) where
     best-is : best ≡ best_for es index targets t sc closed p e
     best-is = B ∙ ap (λ x. best_of index targets 0 t sc x (take p.closed closed)) v-is
 
-    pub try-none : best ≡ 0 → EdgeTried es index targets t sc closed g p e t sc (recovery.Made p)
-    try-none z = inl (sym best-is ∙ z, refl, record { progress = refl; cells = refl; scores = refl })
+    module _ (b : ℕ) (h : best ≡ Some b) where
+      low : b < p.records
+      low = best-at b (sym best-is ∙ h)
 
-    module _ (h : best ≡ 0 → ⊥) where
-      low : best - 1 < p.records
-      low = best-at (best - 1) (omega (arith, best-is))
-
-      pub try-leaves : Leaves index targets t sc walks g p (best - 1) e
+      pub try-leaves : Leaves index targets t sc walks g p b e
       try-leaves =
           record {
             table = T.table;
             known = low;
-            short = T.short (best - 1) low;
+            short = T.short b low;
             walk-room = T.walk-room;
             most-fits = T.most-fits;
             room = T.room;
             fits = T.fits;
             edge = T.edge;
           }
-
-      pub try-left : (t' : List ℕ) (sc' : List Float) (r : Recovery) → Left index targets t sc g p (best - 1) v e t' sc' r → EdgeTried es index targets t sc closed g p e t' sc' r
-      try-left t' sc' r L = inr (omega (arith, best-is), rw (← best-is, ← v-is) L)

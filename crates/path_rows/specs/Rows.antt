@@ -1,9 +1,7 @@
 -- What the writer of the rows leaves behind: the definition's rows from place 0 on, and the rest of the lent slice as it was.
 use Rattle.std.specs.Prelude.{◌≡◌, false, ℕ, zero, suc, ◌+◌, ◌≤◌, ◌<◌, get_or, set, take, drop, Float}
-use Rattle.std.proofs.Math.Path.{refl}
-use Rattle.std.proofs.Common.{sym, ap, ◌∙◌, arith, length-set}
-use mathlib.Core.List.{List, [], ◌∷◌, ◌++◌, append_assoc, map}
-use Rattle.std.proofs.Math.ListN.{length, length-map}
+use Rattle.std.proofs.Common.{sym, ap, ◌∙◌, arith, length-set, refl, List, [], ◌∷◌, ◌++◌, append_assoc, map, length}
+use Rattle.std.proofs.lemmas.List.{length-map}
 use Rattle.std.proofs.lemmas.List.Edits.{sets}
 use Rattle.std.proofs.Math.Seq.{sets-eq}
 use Rattle.std.specs.Float.{nan}

@@ -16,17 +16,17 @@ pub struct PathRow {
     pub is_ref: bool,
 }
 
-// The first n rows are those of the three columns; the others stay. Field by field, so that the bytes behind the flag, which are no field's, stay too.
+// The first n rows are those of the three columns; the others stay, so that n beside the slices is as plain as slices cut at n. Field by field, so that the
+// bytes behind the flag, which are no field's, stay too.
 pub fn write_rows(rows: &mut [PathRow], n: usize, scores: &[f64], closings: &[u32], edges: &[u32])
     requires { (n ≤ length rows.old) × (n ≤ length scores.now) × (n ≤ length closings.now) × (n ≤ length edges.now) }
     ensures { Filled scores.now closings.now edges.now n rows.old rows.new }
 {
-    let mut i = 0;
-    while i < n {
-        rows[i].score = scores[i];
-        rows[i].closing = closings[i];
-        rows[i].edges = edges[i];
-        rows[i].is_ref = false;
-        i = i + 1;
+    for i in 0..n {
+        let row = &mut rows[i];
+        row.score = scores[i];
+        row.closing = closings[i];
+        row.edges = edges[i];
+        row.is_ref = false;
     }
 }

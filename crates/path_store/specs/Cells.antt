@@ -1,8 +1,8 @@
 -- The record of a path in two slices: nine numbers and a score. Cell 0 has the parent's number + 1, 1 the length of the chain, 2 the last edge + 1,
 -- 3 the count of edges, 4 the last vertex, 5 the vertex that the chain leads to, 6 the decisions since guidance, 7 the joined tree's vertex + 1, 8 twice
 -- the number of active trees, with 1 more for a recovered path.
-use Rattle.std.specs.Prelude.{◌≡◌, ◌≢◌, Bool, true, false, cond, List, [], ◌∷◌, ℕ, ◌+◌, ◌-◌, ◌*◌, ◌/◌, ◌%◌, ◌<◌, ◌≤◌, eqb, length, get_or, set, Float}
-use Rattle.std.proofs.Common.{ap, ◌∙◌, arith, eq-eqb, ne_eqb, get_or-set_same}
+use Rattle.std.specs.Prelude.{◌≡◌, ◌≢◌, Bool, true, false, cond, Option, Some, None, List, [], ◌∷◌, ℕ, zero, suc, ◌+◌, ◌-◌, ◌*◌, ◌/◌, ◌%◌, ◌<◌, ◌≤◌, eqb, length, get_or, set, Float}
+use Rattle.std.proofs.Common.{refl, ap, ◌∙◌, arith, eq-eqb, ne_eqb, get_or-set_same}
 use Rattle.std.specs.Float.{nan}
 use Rattle.laws.specs.Records.{field, put_from, length-put_from, put_from-row, put_from-at}
 use Rattle.tables.specs.Widths.{path_numbers}
@@ -55,6 +55,19 @@ score_of sc r = get_or sc r nan
 
 -- ---- what the functions say
 
+-- the number that a number + 1 stands for; 0 stands for none
+abbrev pub numbered : ℕ → Option ℕ
+numbered zero = None
+numbered (suc n) = Some n
+
+pub numbered-none : (n : ℕ) → numbered n ≡ None → n ≡ 0
+numbered-none zero h = refl
+numbered-none (suc n) h = cc
+
+pub numbered-some : (n p : ℕ) → numbered n ≡ Some p → n ≡ suc p
+numbered-some zero p h = cc
+numbered-some (suc n) p h = cc
+
 pub record Inside (t : List ℕ) (sc : List Float) (r : ℕ) : Type 0 where
   pub cells : r * 9 + 9 ≤ length t
   pub score : r < length sc
@@ -86,11 +99,6 @@ put_cells t r row = put_from t 9 r 0 (cells_of row)
 pub record Stored (t : List ℕ) (sc : List Float) (r : ℕ) (row : PathRecord) (t' : List ℕ) (sc' : List Float) : Type 0 where
   pub cells : t' ≡ put_cells t r row
   pub scores : sc' ≡ set sc r row.score
-
--- the marks as the code makes them
-pub put-marks : (t : List ℕ) (r : ℕ) (row : PathRecord) (b : ℕ) → b ≡ cond row.recovered 1 0
-    → put_from t 9 r 0 (row.parent ∷ row.chain ∷ row.edge ∷ row.edges ∷ row.end ∷ row.fork ∷ row.since ∷ row.joined ∷ (row.trees * 2 + b) ∷ []) ≡ put_cells t r row
-put-marks t r row b e = rw e
 
 -- ---- the record that was put is read, and any other stays
 pub put-length : (t : List ℕ) (r : ℕ) (row : PathRecord) → length (put_cells t r row) ≡ length t

@@ -1,10 +1,6 @@
 -- The loops over chains: what each keeps, and a law for each of its ways.
 use Rattle.std.specs.Prelude.{◌≡◌, refl, true, false, cond, List, eqb, get_or, set}
-use Rattle.std.proofs.Math.Path.{sym}
-use Rattle.std.proofs.Common.{ap, ◌∙◌, add-one, length-set}
-use Prim.Native.Nat.{ℕ, zero, suc, ◌+◌, ◌-◌, ◌<◌, ◌≤◌}
-use native.Mathlib.Omega.{arith}
-use Rattle.std.proofs.Math.ListN.{length}
+use Rattle.std.proofs.Common.{ap, ◌∙◌, add-one, length-set, sym, ℕ, zero, suc, ◌+◌, ◌-◌, ◌<◌, ◌≤◌, arith, length}
 use Rattle.std.proofs.lemmas.List.Edits.{sets}
 use Rattle.laws.specs.Lists.{any}
 use Rattle.path_store.specs.Walk.{hits, chain, chain_from, run, after, Runs, Graph, sole, next, run-zero, run_more, run_length, run-snoc, after-zero, after_more, runs-zero, runs-more, runs-now, runs-next, next_low, chain-end, chain-had, chain-on, chain-out, chain-plain, any-nil, hits-nil, hits-le, hits-step, any-hit, any-miss}
@@ -37,9 +33,6 @@ module _ (index targets : List ℕ) where
   plain-start v limit h = record { low = omega arith; runs = runs-zero index targets v; at = sym (after-zero index targets v); fits = h }
 
   module _ (v limit u i : ℕ) (p : Plainly v limit u i) where
-    pub plain-stop : get_or index u 0 ≡ 0 → Plain v limit i
-    plain-stop h = record { low = p.low; runs = p.runs; stops = λ _. rw p.at at h }
-
     pub plain-next : Graph index targets → i < limit → (get_or index u 0 ≡ 0 → ⊥) → Plainly v limit (next index targets u) (i + 1)
     plain-next g l h =
         let pos : 0 < get_or index u 0 = omega arith in
@@ -50,17 +43,11 @@ module _ (index targets : List ℕ) where
           fits = next_low index targets g u pos;
         }
 
-    pub plain_end : limit ≤ i → Plain v limit i
-    plain_end h = record { low = p.low; runs = p.runs; stops = λ l. absurd (omega arith) }
-
   -- ---- among_chain
   pub record Among (v n e u left : ℕ) : Type 0 where
     pub runs : Runs index targets u left
     pub fits : u < length index
     pub is : any (eqb e) (run index targets u left) ≡ any (eqb e) (run index targets v n)
-
-  pub among-start : (v n e : ℕ) → v < length index → Runs index targets v n → Among v n e v n
-  among-start v n e h r = record { runs = r; fits = h; is = refl }
 
   module _ (v n e u left : ℕ) (p : Among v n e u left) where
     pub among-hit : 0 < left → e ≡ sole index u → true ≡ any (eqb e) (run index targets v n)
@@ -133,9 +120,6 @@ module _ (index targets : List ℕ) where
     pub fits : u < length index
     pub is : n + hits targets v (run index targets u left) ≡ hits targets v (run index targets s c)
 
-  pub counting-start : (s c v : ℕ) → s < length index → Runs index targets s c → Counting s c v s c 0
-  counting-start s c v h r = record { runs = r; fits = h; is = omega arith }
-
   module _ (s c v u left n : ℕ) (p : Counting s c v u left n) where
     pub counting-next : (w d : ℕ) → Graph index targets → 0 < left → w ≡ next index targets u → d ≡ cond (eqb v w) 1 0 → Counting s c v w (left - 1) (n + d)
     counting-next w d g l e h' =
@@ -167,9 +151,6 @@ module _ (index targets : List ℕ) where
     pub runs : Runs index targets u left
     pub fits : u < length index
     pub is : sets out at (run index targets u left) ≡ sets out₀ at₀ (run index targets s c)
-
-  pub writing_start : (out : List ℕ) (at s c : ℕ) → s < length index → Runs index targets s c → at + c ≤ length out → Writing out at s c out at s c
-  writing_start out at s c h r l = record { size = refl; room = l; runs = r; fits = h; is = refl }
 
   module _ (out₀ : List ℕ) (at₀ s c : ℕ) (out : List ℕ) (at u left : ℕ) (p : Writing out₀ at₀ s c out at u left) where
     pub writing-next : (e : ℕ) → Graph index targets → 0 < left → e ≡ sole index u → Writing out₀ at₀ s c (set out at e) (at + 1) (next index targets u) (left - 1)

@@ -1,12 +1,9 @@
 -- Chains of single edges, over numbers. `index`: at a vertex 0 where a chain stops, else the number + 1 of its sole out-edge. `targets`: at an edge its
 -- target.
 use Rattle.std.specs.Prelude.{◌≡◌, ◌⊎◌, Bool, true, false, ◌||◌, cond, eqb, length}
-use Rattle.std.proofs.Math.Path.{refl, sym, ap}
-use Rattle.std.proofs.Common.{◌∙◌, inl, inr, add-one, eqb-true, eq-eqb, ne_eqb}
-use mathlib.Core.List.{List, [], ◌∷◌, ◌++◌, map, append_assoc, append-nil, map-append}
-use Prim.Native.Nat.{ℕ, zero, suc, ◌+◌, ◌-◌, ◌<◌, ◌≤◌}
-use native.Mathlib.Omega.{arith}
-use Rattle.std.proofs.Math.ListN.{get_or, length-map}
+use Rattle.std.proofs.Common.{◌∙◌, inl, inr, add-one, eqb-true, eq-eqb, ne_eqb, refl, sym, ap, List, [], ◌∷◌, ◌++◌, map, append_assoc, append-nil, ℕ, zero, suc, ◌+◌, ◌-◌, ◌<◌, ◌≤◌, arith, get_or}
+use Rattle.std.proofs.lemmas.List.{map-append, length-map}
+use Rattle.std.specs.Int.{from_bool}
 use Rattle.laws.specs.Lists.{any, tally}
 use Rattle.laws.specs.BoolLaws.{Bool-cases, both_ways, or_split, or_right}
 
@@ -58,6 +55,11 @@ pub record Graph (index targets : List ℕ) : Type 0 where
   pub near : (v : ℕ) → get_or index v 0 ≤ length targets
   pub far : (e : ℕ) → e < length targets → get_or targets e 0 < length index
   pub small : length targets < 4294967295
+
+-- a bit as a number, as the code makes it
+pub bit-is : (b : Bool) → from_bool b ≡ cond b 1 0
+bit-is true = refl
+bit-is false = refl
 
 pub any_append : (p : ℕ → Bool) (a b : List ℕ) → any p (a ++ b) ≡ true → (any p a ≡ true) ⊎ (any p b ≡ true)
 any_append p [] b h = inr h

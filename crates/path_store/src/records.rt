@@ -1,6 +1,6 @@
-// The record of a path: a struct by value, read from the lent slices by `path_at` and written by `path_put`.
-ghost use Rattle.std.specs.Prelude.{◌≡◌, cond, ◌<◌, ◌≤◌};
-ghost use Rattle.path_store.specs.Cells.{path_at, Inside, Stored};
+// The record of a path: a struct by value, read from the lent slices by `Paths::at` and written by `path_put`.
+ghost use Rattle.std.specs.Prelude.{◌≡◌, ◌<◌};
+ghost use Rattle.path_store.specs.Cells.{numbered, path_at, Inside, Stored};
 
 use tables::PATH;
 
@@ -42,36 +42,51 @@ pub struct PathRecord {
     pub recovered: bool,
 }
 
-// 1 for true, 0 for false.
-fn bit(b: bool) -> u32
-    ensures { (result ≡ cond b 1 0) × (result ≤ 1) }
-{
-    if b {
-        return 1;
+impl PathRecord {
+    // The parent's number; the start path has none.
+    pub fn above(self) -> Option<u32>
+        ensures { result ≡ numbered self.parent }
+    {
+        self.parent.checked_sub(1)
     }
-    0
+
+    // The last edge; a path that ends with its chain has none.
+    pub fn last(self) -> Option<u32>
+        ensures { result ≡ numbered self.edge }
+    {
+        self.edge.checked_sub(1)
+    }
 }
 
-// The record r.
-pub fn path_at(paths: &[u32], scores: &[f64], r: u32) -> PathRecord
-    requires { Inside paths.now scores.now r }
-    ensures { result ≡ path_at paths.now scores.now r }
-{
-    let i = r as usize;
-    let at = i * PATH;
-    let marks = paths[at + MARKS];
-    PathRecord {
-        score: scores[i],
-        parent: paths[at + PARENT],
-        chain: paths[at + CHAIN],
-        edge: paths[at + LAST],
-        edges: paths[at + EDGES],
-        end: paths[at + END],
-        fork: paths[at + FORK],
-        since: paths[at + SINCE],
-        joined: paths[at + JOINED],
-        trees: marks / 2,
-        recovered: marks % 2 == 1,
+// The records of the paths, and beside them their scores.
+#[derive(Clone, Copy)]
+pub struct Paths<'r, 's> {
+    pub records: &'r [u32],
+    pub scores: &'s [f64],
+}
+
+impl<'r, 's> Paths<'r, 's> {
+    // The record r.
+    pub fn at(self, r: u32) -> PathRecord
+        requires { Inside self.records.now self.scores.now r }
+        ensures { result ≡ path_at self.entry.records.now self.entry.scores.now r }
+    {
+        let i = r as usize;
+        let at = i * PATH;
+        let marks = self.records[at + MARKS];
+        PathRecord {
+            score: self.scores[i],
+            parent: self.records[at + PARENT],
+            chain: self.records[at + CHAIN],
+            edge: self.records[at + LAST],
+            edges: self.records[at + EDGES],
+            end: self.records[at + END],
+            fork: self.records[at + FORK],
+            since: self.records[at + SINCE],
+            joined: self.records[at + JOINED],
+            trees: marks / 2,
+            recovered: marks % 2 == 1,
+        }
     }
 }
 
@@ -82,7 +97,7 @@ pub fn path_put(paths: &mut [u32], scores: &mut [f64], r: u32, row: PathRecord)
 {
     let i = r as usize;
     let at = i * PATH;
-    let marks = row.trees * 2 + bit(row.recovered);
+    let marks = row.trees * 2 + u32::from(row.recovered);
     scores[i] = row.score;
     paths[at + PARENT] = row.parent;
     paths[at + CHAIN] = row.chain;

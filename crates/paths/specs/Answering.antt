@@ -1,5 +1,5 @@
 -- The lines written from the columns of the call for the list are those that the definition prints.
-use Rattle.std.specs.Prelude.{◌≡◌, false, not, take, Float}
+use Rattle.std.specs.Prelude.{◌≡◌, false, not, Float}
 use Rattle.std.proofs.Math.Path.{refl, ap, subst}
 use Rattle.std.proofs.Common.{sym, ◌∙◌, mul-le-mul}
 use mathlib.Core.List.{List, [], ◌∷◌, ◌++◌}
@@ -20,26 +20,18 @@ use Rattle.theorems.proofs.Late.{no_zero}
 use Rattle.list_lent.specs.Lent.{told_of, lent_of}
 use Rattle.list_work.specs.Outcome.{Outputs, Tables, outputs_after, written_list, summary}
 use Rattle.list_call.specs.Within.{lengths_of, Called}
-use Rattle.list_interface.specs.Handed.{input_for}
 use Rattle.list_interface.specs.declared.ListAnswer.{ListAnswer}
-use Rattle.list_interface.specs.declared.Settings as call
 use Rattle.paths_output.specs.Listing.{Columns, Held, one_more, lines_from, list-prints, list-most}
 use Rattle.paths_output.specs.Lines.{refused-most}
-use Rattle.text_form.specs.Parts.{part}
 use Rattle.paths_text.specs.Rows.{Sized, held-listed}
 use Rattle.paths_text.specs.Sources.{Ready}
 use Rattle.paths_text.specs.Program.{prints-answer, answer-lent, input-is}
 use Rattle.paths_output.specs.Written.{Wrote}
-use Rattle.paths_text.specs.declared.column.Column.{Column}
-use Rattle.paths_text.specs.declared.column.Column.TheVariants as L
+use Rattle.std.specs.Prelude.{Ok}
 use Rattle.paths_text.specs.declared.source.Source.{Source}
-use Rattle.paths_input.specs.Columns.{column_read}
-use Rattle.paths_input.specs.Asked.{settings_of}
 use Rattle.paths_input.specs.Checking.{CheckSays, check-fine}
-use Rattle.paths_input.specs.declared.Checked.{Checked}
-use Rattle.paths_input.specs.declared.Checked.TheVariants as C
 use Rattle.paths.specs.Printing.{Shown, shown-wrote, Answered}
-use Rattle.paths.specs.Asking.{Accepted, accepted, input_here, Lends, slices-long, called-for}
+use Rattle.paths.specs.Asking.{Accepted, accepted, input_here, Lends, slices-long}
 
 -- ---- the lines of an answer over its columns
 
@@ -185,13 +177,12 @@ module _ (T E : List ℕ) (s : Source) (c : List Float) (o o' : Outputs) (w w' :
   pub lines-answer : lines_of o'.scores o'.closings o'.edges o'.bases k a ≡ printed_of (answer i [] [])
   lines-answer = lines_are ∙ ap printed_of (answer-lent i (told_of i) (lent_of (lengths_of 8 o w)) (slices-long s T E c o w lent asked k_most))
 
--- ---- the call over the arrays, with the settings made
+-- ---- the call over the arrays
 
-module _ (T E : List ℕ) (s : Source) (c : List Float) (g : call.Settings) (o o' : Outputs) (w w' : Tables) (a : ListAnswer) (e : g ≡ settings_of s.settings)
-    (h : Called (input_for g (part s.reference s.past T) (take s.ends E) (part s.bases s.qualities T) (part s.qualities s.end T) c) 8 a o o' w w')
-    (lent : Lends o w) (x : Accepted T E s) where
+module _ (T E : List ℕ) (s : Source) (c : List Float) (handed : Input) (o o' : Outputs) (w w' : Tables) (a : ListAnswer) (e : handed ≡ input_here s T E c)
+    (h : Called handed 8 a o o' w w') (lent : Lends o w) (x : Accepted T E s) where
   called : Called (input_here s T E c) 8 a o o' w w'
-  called = called-for g s T E c a o o' w w' e h
+  called = subst (λ (i : Input). Called i 8 a o o' w w') e h
 
   pub columns-here : length o'.scores ≡ length o.scores → length o'.closings ≡ length o.closings → length o'.edges ≡ length o.edges
       → length o'.bases ≡ length o.bases → a.refusal ≤ 0 → Columns o'.scores o'.closings o'.edges o'.bases s.settings.k a.paths
@@ -203,21 +194,20 @@ module _ (T E : List ℕ) (s : Source) (c : List Float) (g : call.Settings) (o o
 
 -- ---- all of it
 
-module _ (input : Option (List ℕ)) (T E : List ℕ) (r : Checked) (q : CheckSays (with input text_of) T E r) (s : Source) (f : r ≡ C.Fine s) where
+module _ (input : Option (List ℕ)) (T E : List ℕ) (s : Source) (q : CheckSays (with input text_of) T E (Ok s)) where
   fine : (t : Text) × (with input text_of ≡ some t) × (0 ≡ first_broken (text_rules t)) × Ready T E s t
-  fine = check-fine T E r (with input text_of) s q f
+  fine = check-fine T E (with input text_of) s q
 
   pub fine-accepted : Accepted T E s
   fine-accepted = accepted fine.0 fine.3 fine.2
 
-  pub answer-shown : (entries : Column) (c : List Float) (m : ℕ) → entries ≡ L.Entries m → (new : List ℕ) (u : ℕ)
-      → Shown new (printed_of (answer (input_here s T E (take m c)) [] [])) u → Answered input (column_read entries c) new u
+  pub answer-shown : (c : List Float) (new : List ℕ) (u : ℕ) → Shown new (printed_of (answer (input_here s T E c) [] [])) u → Answered input (some c) new u
   unfolding graph_maxima search_maxima
-  answer-shown entries c m e new u x =
+  answer-shown c new u x =
       record {
         fits = x.fits;
         prints = λ file g. x.is
-            ∙ prints-answer input file fine.0 (take m c) fine.1 (g ∙ ap (λ (y : Column). column_read y c) e) fine.2
-            (answer (input_here s T E (take m c)) [] [])
-            (ap (λ (y : Input). answer y [] []) (input-is fine.0 fine.3.handed fine.2 (take m c)));
+            ∙ prints-answer input file fine.0 c fine.1 g fine.2
+            (answer (input_here s T E c) [] [])
+            (ap (λ (y : Input). answer y [] []) (input-is fine.0 fine.3.handed fine.2 c));
       }

@@ -1,7 +1,7 @@
 -- What the call for the list is asked: the parts of the text, the program's maxima, and slices as long as told.
 use Rattle.std.specs.Prelude.{◌≡◌, true, length, take, Float}
 use Rattle.std.proofs.Math.Path.{sym, ap}
-use Rattle.std.proofs.Common.{subst, ◌∙◌}
+use Rattle.std.proofs.Common.{◌∙◌}
 use mathlib.Core.List.{List, []}
 use Prim.Native.Nat.{ℕ, ◌+◌, ◌*◌, ◌≤◌, max}
 use Rattle.std.proofs.Math.Nat.{mul-le-mul}
@@ -16,9 +16,7 @@ use Rattle.list_interface.specs.Handed.{input_for}
 use Rattle.limits.specs.Long.{no_short, none-short}
 use Rattle.list_lent.specs.Lent.{told_of, lent_of}
 use Rattle.list_work.specs.Outcome.{Outputs, Tables}
-use Rattle.list_call.specs.Within.{lengths_of, Called}
-use Rattle.list_interface.specs.declared.ListAnswer.{ListAnswer}
-use Rattle.list_interface.specs.declared.Settings as call
+use Rattle.list_call.specs.Within.{lengths_of}
 use Rattle.text_form.specs.Numbers.{k-within}
 use Rattle.text_form.specs.Parts.{part}
 use Rattle.paths_text.specs.Sources.{Ready}
@@ -154,12 +152,3 @@ module _ {T E : List ℕ} {s : Source} (t : Text) (d : Ready T E s t) (z : 0 ≡
 
   pub accepted : Accepted T E s
   accepted = record { parted = parted-of d; k-few = k-most-here; asked-few = asked-most t d.handed z }
-
--- the call with the settings made is the call for the source
-pub called-for : (a : call.Settings) (s : Source) (T E : List ℕ) (c : List Float) (r : ListAnswer) (o o' : Outputs) (w w' : Tables) → a ≡ settings_of s.settings
-    → Called (input_for a (part s.reference s.past T) (take s.ends E) (part s.bases s.qualities T) (part s.qualities s.end T) c) 8 r o o' w w'
-    → Called (input_here s T E c) 8 r o o' w w'
-called-for a s T E c r o o' w w' e h =
-    subst
-    (λ (x : call.Settings). Called (input_for x (part s.reference s.past T) (take s.ends E) (part s.bases s.qualities T) (part s.qualities s.end T) c) 8 r o o' w w')
-    e h

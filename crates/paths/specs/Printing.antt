@@ -11,12 +11,11 @@ use Rattle.definition.specs.Text.{Text, text_of, column_of, with, text_rules, re
 use Rattle.paths_output.specs.Written.{Wrote}
 use Rattle.paths_output.specs.Lines.{refused-most}
 use Rattle.paths_text.specs.Program.{prints-no-text, prints-no-column, prints-refused}
-use Rattle.paths_text.specs.declared.column.Column.{Column}
-use Rattle.paths_text.specs.declared.column.Column.TheVariants as L
-use Rattle.paths_input.specs.Columns.{column_read, EntriesFit}
-use Rattle.paths_input.specs.Checking.{CheckSays, refusal_of, check-number}
-use Rattle.paths_input.specs.declared.Checked.{Checked}
-use Rattle.paths_input.specs.declared.Checked.TheVariants as C
+use Rattle.std.specs.Prelude.{Err}
+use Rattle.refusals.specs.declared.Refusal.{Refusal}
+use Rattle.refusals.specs.declared.Refusal.TheVariants.{Malformed}
+use Rattle.refusals.specs.Numbers.{number, number-positive}
+use Rattle.paths_input.specs.Checking.{CheckSays, check-number}
 
 -- ---- the buffer
 
@@ -40,10 +39,6 @@ refused-room n size h l = let m = refused-most n h in omega arith
 pub shown-refused : (old new : List ℕ) (n r : ℕ) → n < 4294967296 → Wrote old new 0 (refused_line n) r → Shown new (refused_line n) r
 shown-refused old new n r h w = shown-wrote old new (refused_line n) r (let m = refused-most n h in omega arith) w
 
--- where the number was handed on
-pub shown-as : {new : List ℕ} {n m r : ℕ} → n ≡ m → Shown new (refused_line n) r → Shown new (refused_line m) r
-shown-as {new} {n} {m} {r} e h = record { fits = h.fits; is = h.is ∙ ap refused_line e }
-
 -- what `answer` leaves: what the definition prints for the input, and for every file of that column
 pub record Answered (input : Option (List ℕ)) (column : Option (List Float)) (new : List ℕ) (r : ℕ) : Type 0 where
   pub fits : r ≤ 2491
@@ -62,31 +57,18 @@ answered-prints input file column new r a e = record { fits = a.fits; input = in
 
 -- ---- 14, and what is refused by the text alone
 
-module _ (input : Option (List ℕ)) (entries : Column) (c : List Float) (new : List ℕ) (r : ℕ) where
-  pub no-column : entries ≡ L.Malformed → Shown new (refused_line 14) r → Answered input (column_read entries c) new r
-  no-column e h =
-      record { fits = h.fits; prints = λ file f. h.is ∙ prints-no-column input file (f ∙ ap (λ (x : Column). column_read x c) e) }
+module _ (input : Option (List ℕ)) (new : List ℕ) (r : ℕ) (e : Refusal) (h : Shown new (refused_line (number e)) r) where
+  pub no-column : e ≡ Malformed → Answered input none new r
+  no-column m = record { fits = h.fits; prints = λ file f. h.is ∙ ap (λ (x : Refusal). refused_line (number x)) m ∙ prints-no-column input file f }
 
-  pub check-refused : (m k : ℕ) (T E : List ℕ) (x : Checked) → entries ≡ L.Entries m → CheckSays (with input text_of) T E x → x ≡ C.Refused k
-      → Shown new (refused_line (refusal_of x)) r → Answered input (column_read entries c) new r
-  check-refused m k T E x e q f h =
-      record {
-        fits = h.fits;
-        prints = λ file g. line ∙ go file (g ∙ ap (λ (y : Column). column_read y c) e) (check-number T E x (with input text_of) k q f);
-      }
+  pub check-refused : (T E : List ℕ) → CheckSays (with input text_of) T E (Err e) → (c : List Float) → Answered input (some c) new r
+  check-refused T E q c = record { fits = h.fits; prints = λ file g. h.is ∙ go file g (check-number T E (with input text_of) e q) }
     where
-      line : take r new ≡ refused_line k
-      line = h.is ∙ ap (λ (y : Checked). refused_line (refusal_of y)) f
-
-      go : (file : Option (List ℕ)) → with file column_of ≡ some (take m c)
-          → ((with input text_of ≡ none) × (k ≡ 14)) ⊎ ((t : Text) × (with input text_of ≡ some t) × (k ≡ first_broken (text_rules t)) × (0 < k))
-          → refused_line k ≡ printed input file
+      go : (file : Option (List ℕ)) → with file column_of ≡ some c
+          → ((with input text_of ≡ none) × (number e ≡ 14)) ⊎ ((t : Text) × (with input text_of ≡ some t) × (number e ≡ first_broken (text_rules t)))
+          → refused_line (number e) ≡ printed input file
       go file g (inl y) = ap refused_line y.1 ∙ prints-no-text input file y.0
-      go file g (inr y) = prints-refused input file y.0 (take m c) y.1 g k y.2 y.3
-
--- there is a place for each entry
-pub entries-within : (e : Column) (m size : ℕ) → EntriesFit e 512 → e ≡ L.Entries m → 512 ≤ size → m ≤ size
-entries-within e m size h f l = let k : m ≤ 512 = (rw f at h) in omega arith
+      go file g (inr y) = prints-refused input file y.0 c y.1 g (number e) y.2 (number-positive e)
 
 -- ---- an input or a file longer than the buffer prints what one prints that could not be read whole, so that one answer may stand for both
 

@@ -1,7 +1,10 @@
 // From what was read to what is printed: 14 before all others, then 1 to 5, then the call for the list, then the lines.
-ghost use Rattle.std.specs.Prelude.{◌≤◌, [], length};
+ghost use Rattle.std.specs.Prelude.{◌≡◌, ◌≤◌, [], length};
+ghost use Rattle.std.proofs.Math.Option.{some};
 ghost use Rattle.definition.specs.Listing as definition;
 ghost use Rattle.definition.specs.Text.{refused_line, printed_of};
+ghost use Rattle.refusals.specs.Numbers.{number};
+ghost use Rattle.list_interface.specs.Handed.{handed};
 ghost use Rattle.whole_input.specs.Readings.{Within, input_of};
 ghost use Rattle.paths_output.specs.Listing.{Columns};
 ghost use Rattle.paths_input.specs.Columns.{column_read, EntriesFit};
@@ -10,20 +13,20 @@ ghost use Rattle.paths.specs.Asking.{Accepted, input_here};
 ghost use Rattle.paths.specs.Answering.{lines_of};
 
 use list_call::list_columns;
-use list_interface::ListAnswer;
-use paths_input::{Checked, MALFORMED, check_input, refusal_of, settings_of};
+use list_interface::{Input, ListAnswer};
+use paths_input::{check_input, settings_of};
 use paths_output::listing::write_list;
 use paths_output::writing::write_refused;
-use paths_text::column::Column;
 use paths_text::source::Source;
-use whole_input::Reading;
+use refusals::Refusal;
+use samples::Text;
 
 // The line of a refusal.
-fn refuse(text: &mut [u8], number: u32) -> usize
+fn refuse(text: &mut [u8], refusal: Refusal) -> usize
     requires { 2491 ≤ length text.old }
-    ensures { Shown text.new (refused_line number) result }
+    ensures { Shown text.new (refused_line (number refusal)) result }
 {
-    write_refused(text, 0, number)
+    write_refused(text, 0, u32::from(refusal))
 }
 
 // The lines of the answer.
@@ -54,19 +57,29 @@ fn write_answer(
     )
 }
 
+// What the call for the list is handed: the parts of the text, the ends of the reads and the column.
+fn input_at<'a>(s: Source, text: &'a [u8], ends: &'a [u32], column: &'a [f64]) -> Input<'a>
+    requires { Accepted text.now ends.now s }
+    ensures { handed result ≡ input_here s text.now ends.now column.now }
+{
+    let parts = Text {
+        reference: &text[s.reference..s.past],
+        bases: &text[s.bases..s.qualities],
+    };
+    Input {
+        settings: settings_of(s.settings),
+        text: parts,
+        ends: &ends[..s.ends],
+        qualities: &text[s.qualities..s.end],
+        column,
+    }
+}
+
 // The lines of the list for the parts of the text, over fixed arrays. They are written over the text.
 fn list_lines(s: Source, text: &mut [u8], ends: &[u32], column: &[f64]) -> usize
     requires { (2491 ≤ length text.old) × Accepted text.old ends.now s }
     ensures { Shown text.new (printed_of (definition.answer (input_here s text.old ends.now column.now) [] [])) result }
 {
-    let settings = s.settings;
-    let a = settings_of(settings);
-    let reference = s.reference;
-    let past = s.past;
-    let bases = s.bases;
-    let qualities = s.qualities;
-    let end = s.end;
-    let count = s.ends;
     let mut row_scores = [0.0f64; 8];
     let mut row_closings = [0u32; 8];
     let mut row_edges = [0u32; 8];
@@ -86,14 +99,10 @@ fn list_lines(s: Source, text: &mut [u8], ends: &[u32], column: &[f64]) -> usize
     let mut w_order = [0u32; 256];
     let mut w_marks = [0u32; 256];
     let mut w_walks = [0u32; 1024];
+    let input = input_at(s, text, ends, column);
     let found = list_columns(
-        a,
+        input,
         8,
-        &text[reference..past],
-        &ends[..count],
-        &text[bases..qualities],
-        &text[qualities..end],
-        column,
         &mut row_scores,
         &mut row_closings,
         &mut row_edges,
@@ -117,7 +126,7 @@ fn list_lines(s: Source, text: &mut [u8], ends: &[u32], column: &[f64]) -> usize
     write_answer(
         text,
         found,
-        settings.k,
+        s.settings.k,
         &row_scores,
         &row_closings,
         &row_edges,
@@ -125,19 +134,30 @@ fn list_lines(s: Source, text: &mut [u8], ends: &[u32], column: &[f64]) -> usize
     )
 }
 
-// What is printed for the column, of which so many entries were read, and for standard input as it was read into `text`. It is written over the text.
-pub fn answer(entries: Column, reading: Reading, text: &mut [u8], column: &[f64]) -> usize
-    requires { Within reading (length text.old) × (2491 ≤ length text.old) × EntriesFit entries 512 × (512 ≤ length column.now) }
-    ensures { Answered (input_of reading text.old) (column_read entries column.now) text.new result }
+// What is printed for a column that was read and for standard input as it was read into `text`. It is written over the text.
+fn answer_text(read: Option<usize>, text: &mut [u8], column: &[f64]) -> usize
+    requires { Within read (length text.old) × (2491 ≤ length text.old) }
+    ensures { Answered (input_of read text.old) (some column.now) text.new result }
 {
-    let Column::Entries(m) = entries else {
-        return refuse(text, MALFORMED);
-    };
     let mut ends = [0u32; 512];
-    let checked = check_input(reading, text, &mut ends);
-    let Checked::Fine(s) = checked else {
-        let refusal = refusal_of(checked);
-        return refuse(text, refusal);
-    };
-    list_lines(s, text, &ends, &column[..m])
+    match check_input(read, text, &mut ends) {
+        Ok(s) => list_lines(s, text, &ends, column),
+        Err(refusal) => refuse(text, refusal),
+    }
+}
+
+// What is printed for the column, of which so many entries were read, and for standard input as it was read into `text`. It is written over the text.
+pub fn answer(
+    entries: Result<usize, Refusal>,
+    read: Option<usize>,
+    text: &mut [u8],
+    column: &[f64],
+) -> usize
+    requires { Within read (length text.old) × (2491 ≤ length text.old) × EntriesFit entries 512 × (512 ≤ length column.now) }
+    ensures { Answered (input_of read text.old) (column_read entries column.now) text.new result }
+{
+    match entries {
+        Ok(m) => answer_text(read, text, &column[..m]),
+        Err(refusal) => refuse(text, refusal),
+    }
 }

@@ -12,16 +12,13 @@ use paths_input::take_column;
 use std::fs;
 use std::io::Read;
 use std::rt::Files;
-use whole_input::{Reading, read_whole};
+use whole_input::read_whole;
 
 // The column file; one that is missing is answered like one that could not be read whole.
-fn read_file(files: &impl Files, bytes: &mut [u8]) -> Reading
+fn read_file(files: &impl Files, bytes: &mut [u8]) -> Option<usize>
     ensures { Within result (length bytes.new) }
 {
-    let opened = fs::open(files, "column.f64");
-    let Ok(mut file) = opened else {
-        return Reading::Partial;
-    };
+    let mut file = fs::open(files, "column.f64").ok()?;
     read_whole(&mut file, bytes)
 }
 
@@ -32,8 +29,8 @@ fn run<R: Read>(files: &impl Files, input: &mut R, text: &mut [u8], column: &mut
 {
     let file = read_file(files, text);
     let entries = take_column(file, text, column);
-    let reading = read_whole(input, text);
-    answer(entries, reading, text, column)
+    let read = read_whole(input, text);
+    answer(entries, read, text, column)
 }
 
 // Standard input is read without a buffer of its own.

@@ -110,9 +110,9 @@ pub hex_digit-low : (d : ℕ) → d ≤ 9 → 48 + d ≡ hex_digit d
 unfolding hex_digit
 hex_digit-low d h = rw (le-leb d 9 h)
 
-pub hex_digit-high : (d : ℕ) → 9 < d → 87 + d ≡ hex_digit d
+pub hex_digit-high : (d : ℕ) → 9 < d → 97 + (d - 10) ≡ hex_digit d
 unfolding hex_digit
-hex_digit-high d h = rw (lt-leb d 9 h)
+hex_digit-high d h = rw (lt-leb d 9 h) (omega arith)
 
 -- ---- what the writers of numbers ask and tell
 

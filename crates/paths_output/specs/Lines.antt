@@ -1,7 +1,6 @@
 -- The lines printed as the pieces that the writers make, and how long a line is at most.
 use Rattle.std.specs.Prelude.{◌≡◌, ℕ, ◌+◌, ◌<◌, ◌≤◌, length, Float}
-use Rattle.std.proofs.Common.{ap, arith, length-append}
-use mathlib.Core.List.{List, [], ◌∷◌, ◌++◌, append_assoc}
+use Rattle.std.proofs.Common.{ap, arith, length-append, List, [], ◌∷◌, ◌++◌, append_assoc}
 use Rattle.std.specs.Float.{binary64}
 use Rattle.std.specs.Float.Ieee.{to_bits}
 use Rattle.definition.specs.Text.{decimal, hexadecimal, path_line, first_line, refused_line, paths_word, pushes_word, refused_word}

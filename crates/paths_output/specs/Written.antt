@@ -1,12 +1,9 @@
 -- Text written into a slice, one piece behind the other.
-use Rattle.std.specs.Prelude.{◌≡◌, refl, ℕ, ◌+◌, ◌<◌, ◌≤◌, set, take, drop, get_or}
-use Rattle.std.proofs.Math.Path.{sym}
-use Rattle.std.proofs.Common.{ap, ◌∙◌, add-one, arith, length-append, length-set, take-suc, take_all, length-take-le}
-use mathlib.Core.List.{List, [], ◌∷◌, ◌++◌, append_assoc}
-use Rattle.std.proofs.Math.ListN.{length}
+use Rattle.std.specs.Prelude.{◌≡◌, refl, List, [], ◌∷◌, ◌++◌, ℕ, ◌+◌, ◌-◌, ◌<◌, ◌≤◌, length, set, take, drop}
+use Rattle.std.proofs.Common.{sym, ap, ◌∙◌, arith, append_assoc, length-append, drop-drop}
 use Rattle.std.proofs.lemmas.List.Edits.{sets, sets-eq}
 use Rattle.std.proofs.Math.Seq.{length-sets}
-use Rattle.laws.specs.Stores.{sets-append, sets_more}
+use Rattle.laws.specs.Stores.{sets-append}
 use Rattle.definition.specs.Calls.{written_at}
 
 module _ {A : Type 0} where
@@ -120,35 +117,9 @@ module _ {old mid : List ℕ} {at p : ℕ} {text : List ℕ} where
       b.wrote
       w)
 
--- ---- bytes copied one after the other: i of them stand there
+-- ---- bytes copied into a part of a slice
 
-pub record Copied (text old now : List ℕ) (at i : ℕ) : Type 0 where
-  pub is : now ≡ sets old at (take i text)
-  pub inside : i ≤ length text
-  pub same : length now ≡ length old
-
-pub copied-start : (text old : List ℕ) (at : ℕ) → Copied text old old at 0
-copied-start text old at = record { is = refl; inside = omega arith; same = refl }
-
-module _ {text old now : List ℕ} {at i : ℕ} (c : Copied text old now at i) where
-  pub copied_next : i < length text → Copied text old (set now (at + i) (get_or text i 0)) at (i + 1)
-  copied_next h =
-      let l = length-take-le i text (omega arith) in
-      let e : at + length (take i text) ≡ at + i = omega arith in
-      record {
-        is =
-            ap (λ (x : List ℕ). set x (at + i) (get_or text i 0)) c.is
-            ∙ sym (rw e at (sets_more old at (take i text) (get_or text i 0)))
-            ∙ ap (λ (x : List ℕ). sets old at x) (sym (take-suc text i 0 h))
-            ∙ ap (λ (n : ℕ). sets old at (take n text)) (sym (add-one i));
-        inside = omega arith;
-        same = length-set now (at + i) (get_or text i 0) ∙ c.same;
-      }
-
-  pub copied-end : at + length text ≤ length old → length text ≤ i → Wrote old now at text (at + i)
-  copied-end r h =
-      let e : i ≡ length text = (let k = c.inside in omega arith) in
-      record {
-        is = c.is ∙ ap (λ (x : List ℕ). sets old at x) (take_all i text h) ∙ sym (written-sets at text old r);
-        next = omega arith;
-      }
+pub copied : (at : ℕ) (text part old : List ℕ) → part ≡ text
+    → take at old ++ (part ++ drop (at + length text - at) (drop at old)) ≡ written_at at text old
+unfolding written_at
+copied at text part old e = let n : at + length text - at ≡ length text = omega arith in rw (e, n, drop-drop (length text) at old)

@@ -1,4 +1,5 @@
 // What an accepted list prints: the first line, and a line for each path.
+// The columns stay loose parameters: in one struct the proof did not close, since of a slice in a struct it is not known that its numbers are of 32 bits.
 ghost use Rattle.std.specs.Prelude.{◌++◌, ◌+◌, ◌≤◌, length};
 ghost use Rattle.definition.specs.Text.{first_line};
 ghost use Rattle.paths_output.specs.Written.{Wrote};
@@ -50,10 +51,8 @@ pub fn write_list(
         (first_line paths pushes ++ lines_from scores.now closings.now edges.now bases.now k 0 paths) result }
 {
     let mut at = write_first(out, 0, paths as u32, pushes);
-    let mut i: usize = 0;
-    while i < paths {
+    for i in 0..paths {
         at = write_row(out, at, scores, closings, edges, bases, k, i);
-        i += 1;
     }
     at
 }

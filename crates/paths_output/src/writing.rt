@@ -1,4 +1,5 @@
 // What is printed, written into a lent slice one piece behind the other. Each writer tells the place behind what it wrote.
+// Not by `write!`: it may fail, and std promises its text only where it did not, while these writers cannot fail.
 ghost use Rattle.std.specs.Prelude.{◌≡◌, not, [], ◌∷◌, ◌++◌, ◌+◌, ◌<◌, ◌≤◌, T, length};
 ghost use Rattle.std.specs.Float.Ieee.{is_nan};
 ghost use Rattle.definition.specs.Text.{decimal, hex_digit, hexadecimal, path_line, first_line, refused_line};
@@ -16,12 +17,9 @@ fn write_bytes(out: &mut [u8], at: usize, text: &[u8]) -> usize
     requires { at + length text.now ≤ length out.old }
     ensures { Wrote out.old out.new at text.now result }
 {
-    let mut i: usize = 0;
-    while i < text.len() {
-        out[at + i] = text[i];
-        i += 1;
-    }
-    at + i
+    let next = at + text.len();
+    out[at..next].copy_from_slice(text);
+    next
 }
 
 // The digits before the last one are those of a tenth.
@@ -30,10 +28,10 @@ fn write_decimal(out: &mut [u8], at: usize, n: u32) -> usize
     ensures { Wrote out.old out.new at (decimal n) result }
 {
     if n <= 9 {
-        return write_byte(out, at, 48 + n as u8);
+        return write_byte(out, at, b'0' + n as u8);
     }
     let next = write_decimal(out, at, n / 10);
-    write_byte(out, next, 48 + (n % 10) as u8)
+    write_byte(out, next, b'0' + (n % 10) as u8)
 }
 
 // 0 to 9, then a to f.
@@ -41,10 +39,10 @@ fn hex_digit(d: u8) -> u8
     requires { d < 16 }
     ensures { result ≡ hex_digit d }
 {
-    if d <= 9 {
-        return 48 + d;
+    match d {
+        0..=9 => b'0' + d,
+        _ => b'a' + (d - 10),
     }
-    87 + d
 }
 
 // The lowest digits of n, as many as are asked; those before the last one are those of a sixteenth.
@@ -101,7 +99,7 @@ pub fn write_path(
     requires { T (not (is_nan score)) × (at + length (path_line rank score closing edges bases.now) ≤ length out.old) }
     ensures { Wrote out.old out.new at (path_line rank score closing edges bases.now) result }
 {
-    let bits = f64::to_bits(score);
+    let bits = score.to_bits();
     let a = write_number(out, at, rank, b' ');
     let b = write_hexadecimal(out, a, 16, bits);
     let c = write_byte(out, b, b' ');

@@ -1,10 +1,7 @@
 -- The program's own refusals among 1 to 5, parted as the code checks them.
 use Rattle.std.specs.Prelude.{◌≡◌, Bool, ◌&&◌, List, [], ◌∷◌, ◌++◌, ℕ, ◌<◌, ◌≤◌, length}
-use Rattle.std.proofs.Math.Path.{refl}
-use Rattle.std.proofs.Common.{sym, ap, ◌∙◌, arith}
-use Rattle.std.proofs.Math.Bool.{true, false}
-use Rattle.std.proofs.Math.Dec.{leb, eqb}
-use borrow.Author.Tests.{le-leb, lt-leb}
+use Rattle.std.proofs.Common.{refl, sym, ap, ◌∙◌, arith, true, false, leb, eqb, le-leb}
+use borrow.Author.Tests.{lt-leb}
 use Rattle.laws.specs.Lists.{all, last_or}
 use Rattle.definition.specs.Refusal.{Rule, first_broken}
 use Rattle.definition.specs.Limits.{Sample, rising, ends_fit, reads_fit, sample_rules}
@@ -76,30 +73,34 @@ module _ {s : Settings} {reference ends bases qualities : List ℕ} {count : ℕ
     evens : all even_read t.reads ≡ true
     evens = sym d.even_is ∙ e
 
-    pub sample-is : L.sample_of s.k t.header.quality reference ends bases qualities ≡ sample_of t
+    pub sample-is : L.sample_of s.k s.quality reference ends bases qualities ≡ sample_of t
     unfolding sample_of
-    sample-is = let r = d.reads e h in rw (k-is, d.reference-is, r.0, r.1, r.2)
+    sample-is =
+        let r = d.reads e h in
+        let q : s.quality ≡ t.header.quality = ap (λ (x : Settings). x.quality) d.settings in
+        rw (k-is, q, d.reference-is, r.0, r.1, r.2)
 
-    module _ (n : ℕ) (f : (quality : ℕ) → n ≡ first_broken (sample_rules (L.sample_of s.k quality reference ends bases qualities))) where
+    module _ (n : ℕ) (f : n ≡ first_broken (sample_rules (L.sample_of s.k s.quality reference ends bases qualities))) where
       told : n ≡ first_broken (sample_rules (sample_of t))
-      told = f t.header.quality ∙ ap (λ (x : Sample). first_broken (sample_rules x)) sample-is
+      told = f ∙ ap (λ (x : Sample). first_broken (sample_rules x)) sample-is
 
       pub sample-refused : 0 < n → n ≡ first_broken (text_rules t)
       sample-refused k = first-broken (sample_rules (sample_of t)) (rule 5 (asked_within t.header.asked) ∷ []) n told k ∙ ap first_broken (sample-parts t evens)
 
+    module _ (f : 0 ≡ first_broken (sample_rules (L.sample_of s.k s.quality reference ends bases qualities))) where
       asked_is : asked_within t.header.asked ≡ leb s.asked 8
       asked_is = asked-within t.header.asked ∙ ap (λ (x : ℕ). leb x 8) (ap (λ (x : Settings). x.asked) (sym d.settings))
 
-      last : n ≤ 0 → first_broken (rule 5 (asked_within t.header.asked) ∷ []) ≡ first_broken (text_rules t)
-      last k =
-          first-hold (sample_rules (sample_of t)) (rule 5 (asked_within t.header.asked) ∷ []) n (sample-numbered (sample_of t)) told k
+      last : first_broken (rule 5 (asked_within t.header.asked) ∷ []) ≡ first_broken (text_rules t)
+      last =
+          first-hold (sample_rules (sample_of t)) (rule 5 (asked_within t.header.asked) ∷ []) (sample-numbered (sample_of t)) (told 0 f)
           ∙ ap first_broken (sample-parts t evens)
 
-      pub paths-refused : n ≤ 0 → 8 < s.asked → 5 ≡ first_broken (text_rules t)
-      paths-refused k l = broken 5 (asked_within t.header.asked) [] (asked_is ∙ lt-leb s.asked 8 l) ∙ last k
+      pub paths-refused : 8 < s.asked → 5 ≡ first_broken (text_rules t)
+      paths-refused l = broken 5 (asked_within t.header.asked) [] (asked_is ∙ lt-leb s.asked 8 l) ∙ last
 
-      pub text-accepted : n ≤ 0 → s.asked ≤ 8 → 0 ≡ first_broken (text_rules t)
-      text-accepted k l = all_hold ∙ holds 5 (asked_within t.header.asked) [] (asked_is ∙ le-leb s.asked 8 l) ∙ last k
+      pub text-accepted : s.asked ≤ 8 → 0 ≡ first_broken (text_rules t)
+      text-accepted l = all_hold ∙ holds 5 (asked_within t.header.asked) [] (asked_is ∙ le-leb s.asked 8 l) ∙ last
 
 -- 1 to 3, then 4
 module _ (k : ℕ) (reference : List ℕ) (rest : List Rule) where
@@ -109,6 +110,5 @@ module _ (k : ℕ) (reference : List ℕ) (rest : List Rule) where
   pub reference-fails : (n : ℕ) → n ≡ first_broken (reference_rules k reference) → 0 < n → n ≡ first_broken rules
   reference-fails n e h = first-broken (reference_rules k reference) (rule 4 false ∷ rest) n e h
 
-  pub fourth-fails : (n : ℕ) → n ≡ first_broken (reference_rules k reference) → n ≤ 0 → 4 ≡ first_broken rules
-  fourth-fails n e h =
-      broken 4 false rest refl ∙ first-hold (reference_rules k reference) (rule 4 false ∷ rest) n (reference-numbered k reference) e h
+  pub fourth-fails : 0 ≡ first_broken (reference_rules k reference) → 4 ≡ first_broken rules
+  fourth-fails e = broken 4 false rest refl ∙ first-hold (reference_rules k reference) (rule 4 false ∷ rest) (reference-numbered k reference) e

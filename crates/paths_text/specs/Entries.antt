@@ -1,22 +1,21 @@
 -- The column file decoded: numbers of eight bytes, and the floats that they are the patterns of.
-use Rattle.std.specs.Prelude.{◌≡◌, refl, Bool, true, false, not, ◌&&◌, List, [], ◌∷◌, ◌++◌, ℕ, zero, suc, ◌+◌, ◌*◌, ◌/◌, ◌%◌, ◌<◌, ◌≤◌, T, eqb, length, take, drop, get_or, set, Float}
-use Rattle.std.proofs.Common.{sym, ap, ◌∙◌, arith, add-one, zero-add, length-set, drop-cons, drop-drop, le-leb, eq-eqb, ne_eqb}
+use Rattle.std.specs.Prelude.{◌≡◌, refl, Bool, true, false, not, ◌&&◌, List, [], ◌∷◌, ◌++◌, ℕ, zero, suc, ◌+◌, ◌*◌, ◌/◌, ◌%◌, ◌<◌, ◌≤◌, T, eqb, Option as Maybe, Some, None, length, take, drop, get_or, set, Float}
+use Rattle.std.proofs.Common.{sym, ap, ◌∙◌, arith, add-one, zero-add, length-set, drop-cons, drop-drop, take_all, le-leb, eq-eqb, ne_eqb}
 use Rattle.std.proofs.Math.Option.{Option, none, some}
 use Rattle.std.proofs.lemmas.List.Edits.{sets}
+use Rattle.std.specs.Int.{w64, from_le_bytes}
 use Rattle.std.specs.Float.{nan, binary64}
-use Rattle.std.specs.Float.Ieee.{div, of_bits, of_fields, nan_bits}
+use Rattle.std.specs.Float.Ieee.{of_bits, of_fields, nan_bits}
 use Rattle.std.proofs.lemmas.Bool.{lt-leb}
 use Rattle.definition.specs.Text.{lowest_first, entries, column_of}
 use Rattle.laws.specs.Stores.{sets_more}
 use Rattle.definition.specs.Calls.{written_at}
 use Rattle.paths_output.specs.Written.{written-sets}
-use Rattle.paths_text.specs.declared.column.Column.{Column}
-use Rattle.paths_text.specs.declared.column.Column.TheVariants.{Entries, Malformed}
 
 -- what the definition reads is there, or the file is malformed and nothing is changed
-abbrev pub Decoded : Option (List Float) → List Float → List Float → Column → Type 0
-Decoded none old now r = (r ≡ Malformed) × (now ≡ old)
-Decoded (some es) old now r = (r ≡ Entries (length es)) × (now ≡ written_at 0 es old)
+abbrev pub Decoded : Option (List Float) → List Float → List Float → Maybe ℕ → Type 0
+Decoded none old now r = (r ≡ None) × (now ≡ old)
+Decoded (some es) old now r = (r ≡ Some (length es)) × (now ≡ written_at 0 es old)
 
 -- ---- a number of eight bytes
 
@@ -25,20 +24,18 @@ lowest_step : (n at next : ℕ) (bs : List ℕ) → at < length bs → next ≡ 
 unfolding lowest_first
 lowest_step n at next bs h e = rw (e, drop-cons bs at 0 h)
 
-pub word-is : (bs : List ℕ) (at a b c d e f g h : ℕ) → at + 8 ≤ length bs
-    → a ≡ get_or bs at 0 → b ≡ get_or bs (at + 1) 0 → c ≡ get_or bs (at + 2) 0 → d ≡ get_or bs (at + 3) 0
-    → e ≡ get_or bs (at + 4) 0 → f ≡ get_or bs (at + 5) 0 → g ≡ get_or bs (at + 6) 0 → h ≡ get_or bs (at + 7) 0
-    → ((((((h * 256 + g) * 256 + f) * 256 + e) * 256 + d) * 256 + c) * 256 + b) * 256 + a ≡ lowest_first (take 8 (drop at bs))
+pub word-is : (w : List ℕ) → length w ≡ 8 → from_le_bytes w64 w ≡ lowest_first w
 unfolding lowest_first
-word-is bs at a b c d e f g h l pa pb pc pd pe pf pg ph =
-    let s0 = lowest_step 7 at (at + 1) bs (omega arith) (omega arith) in
-    let s1 = lowest_step 6 (at + 1) (at + 2) bs (omega arith) (omega arith) in
-    let s2 = lowest_step 5 (at + 2) (at + 3) bs (omega arith) (omega arith) in
-    let s3 = lowest_step 4 (at + 3) (at + 4) bs (omega arith) (omega arith) in
-    let s4 = lowest_step 3 (at + 4) (at + 5) bs (omega arith) (omega arith) in
-    let s5 = lowest_step 2 (at + 5) (at + 6) bs (omega arith) (omega arith) in
-    let s6 = lowest_step 1 (at + 6) (at + 7) bs (omega arith) (omega arith) in
-    let s7 = lowest_step 0 (at + 7) (at + 8) bs (omega arith) (omega arith) in
+word-is w l =
+    let s0 = lowest_step 7 0 1 w (omega arith) (omega arith) in
+    let s1 = lowest_step 6 1 2 w (omega arith) (omega arith) in
+    let s2 = lowest_step 5 2 3 w (omega arith) (omega arith) in
+    let s3 = lowest_step 4 3 4 w (omega arith) (omega arith) in
+    let s4 = lowest_step 3 4 5 w (omega arith) (omega arith) in
+    let s5 = lowest_step 2 5 6 w (omega arith) (omega arith) in
+    let s6 = lowest_step 1 6 7 w (omega arith) (omega arith) in
+    let s7 = lowest_step 0 7 8 w (omega arith) (omega arith) in
+    let e : lowest_first (take 8 w) ≡ lowest_first w = ap lowest_first (take_all 8 w (omega arith)) in
     omega arith
 
 -- ---- the float of a pattern
@@ -60,9 +57,9 @@ unfolding of_bits of_fields
 nan-bits b h k = rw (h, ne_eqb (b % 4503599627370496) 0 k)
 
 -- the code's NaN
-pub zero_by_zero : div binary64 (of_bits binary64 0) (of_bits binary64 0) ≡ nan
-unfolding div of_bits
-zero_by_zero = refl
+pub the_nan : of_bits binary64 9221120237041090560 ≡ nan
+unfolding of_bits of_fields
+the_nan = refl
 
 -- ---- the entries
 
@@ -118,18 +115,18 @@ read_some : (bs : List ℕ) → length bs % 8 ≡ 0 → length bs ≤ 4096 → c
 unfolding column_of
 read_some bs e h = rw (eq-eqb (length bs % 8) 0 e, le-leb (length bs) 4096 h, column_of)
 
-pub column-ragged : (bs : List ℕ) (old : List Float) → (length bs % 8 ≡ 0 → ⊥) → Decoded (column_of bs) old old Malformed
+pub column-ragged : (bs : List ℕ) (old : List Float) → (length bs % 8 ≡ 0 → ⊥) → Decoded (column_of bs) old old None
 column-ragged bs old h = rw (ragged-none bs h) (refl, refl)
 
-pub column-long : (bs : List ℕ) (old : List Float) → length bs % 8 ≡ 0 → 4096 < length bs → Decoded (column_of bs) old old Malformed
+pub column-long : (bs : List ℕ) (old : List Float) → length bs % 8 ≡ 0 → 4096 < length bs → Decoded (column_of bs) old old None
 column-long bs old e h = rw (long-none bs e h) (refl, refl)
 
 pub column-read : (bs : List ℕ) (old now : List Float) (i : ℕ) → length bs % 8 ≡ 0 → length bs ≤ 4096 → 512 ≤ length old
-    → Decoding bs old now i → length bs / 8 ≤ i → Decoded (column_of bs) old now (Entries (length bs / 8))
+    → Decoding bs old now i → length bs / 8 ≤ i → Decoded (column_of bs) old now (Some (length bs / 8))
 column-read bs old now i e h r d k =
     let n : i ≡ length bs / 8 = (let z = d.inside in omega arith) in
     let l = length-entries (length bs / 8) bs in
     rw (read_some bs e h) (
-      ap (λ (m : ℕ). Entries m) (sym l),
+      ap (λ (m : ℕ). Some m) (sym l),
       d.is ∙ ap (λ (m : ℕ). sets old 0 (entries m bs)) n ∙ sym (written-sets 0 (entries (length bs / 8) bs) old (omega arith)),
     )

@@ -1,16 +1,11 @@
 -- The reads brought together one by one: what stands together, and what is left.
-use Rattle.std.specs.Prelude.{◌≡◌, refl, true, set, drop}
-use Rattle.std.proofs.Math.Path.{sym, ap}
-use Rattle.std.proofs.Common.{◌∙◌, length-append, drop_of_length-le}
-use mathlib.Core.List.{List, [], ◌∷◌, ◌++◌, append_assoc, append-nil}
+use Rattle.std.specs.Prelude.{◌≡◌, refl, true, set, drop, Option as Maybe, Some, None, IsSome}
+use Rattle.std.proofs.Common.{sym, ap, ◌∙◌, length-append, drop_of_length-le, List, [], ◌∷◌, ◌++◌, append_assoc, append-nil, ℕ, suc, ◌+◌, ◌-◌, ◌<◌, ◌≤◌, arith, length, eqb-true}
 use Rattle.std.proofs.Math.Option.{Option, none, some}
-use Prim.Native.Nat.{ℕ, suc, ◌+◌, ◌-◌, ◌<◌, ◌≤◌}
-use native.Mathlib.Omega.{arith}
 use Rattle.std.proofs.Math.Decide.{dec_lt}
-use Rattle.std.proofs.Math.ListN.{length, length-map}
+use Rattle.std.proofs.Math.ListN.{length-map}
 use Rattle.std.proofs.Math.Seq.{slice, length-slice}
 use Rattle.std.proofs.lemmas.List.Edits.{sets}
-use borrow.Author.Tests.{eqb-true}
 use Rattle.laws.specs.Lists.{all}
 use Rattle.laws.specs.ListLaws.{and_left, and_right}
 use Rattle.laws.specs.Stores.{sets_more}
@@ -20,8 +15,6 @@ use Rattle.paths_output.specs.Written.{written-sets, length-written, written-mor
 use Rattle.text_form.specs.Reads.{reads_from, read_at, PairAt, PairSays}
 use Rattle.paths_text.specs.Moves.{Joins, drop-written, written_over, slice-here}
 use Rattle.text_form.specs.declared.reads.Lines.{Lines}
-use Rattle.text_form.specs.declared.reads.Pair.{Pair}
-use Rattle.text_form.specs.declared.reads.Pair.TheVariants as P
 use Rattle.paths_text.specs.declared.gather.Gathering.{Gathering}
 
 -- what is asked: a text whose reads from place `from` on are even, and a place for the end of each
@@ -145,21 +138,16 @@ pub record Nexted (T E T' E' : List ℕ) (from : ℕ) (g g' : Gathering) : Type 
 
 module _ {T E : List ℕ} {from : ℕ} {g : Gathering} (n : Nexts T E from g) where
   -- the next two lines are there
-  pub next-there : {X : Type 0} (r : Pair) → PairSays T g.at r → r ≡ P.Malformed → X
-  next-there r q m =
-      let e : reads_from T g.at ≡ none = rw m at q in
-      let f : none ≡ some (n.read ∷ n.more) = sym e ∙ n.left in
+  pub next-there : (r : Maybe Lines) → PairSays T g.at r → IsSome r
+  next-there (Some l) q = refl
+  next-there None q =
+      let f : none ≡ some (n.read ∷ n.more) = sym q ∙ n.left in
       let z : ◌≡◌ {A = ℕ} 0 1 = cc in
       absurd (omega arith)
 
-  module _ (r : Pair) (l : Lines) (q : PairSays T g.at r) (m : r ≡ P.At l) where
-    pub next-pair : PairAt T g.at l
-    next-pair = rw m at q
-
+  module _ (l : Lines) (p : PairAt T g.at l) where
     pub next-joins : Joins T (from + g.bases) g.bases g.at l.bases l.qualities
-    next-joins =
-        let p = next-pair in
-        record { room = n.room; rising = p.rising; behind = p.behind; inside = p.inside; good = p.good }
+    next-joins = record { room = n.room; rising = p.rising; behind = p.behind; inside = p.inside; good = p.good }
 
 -- ---- all of it
 

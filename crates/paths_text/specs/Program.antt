@@ -1,13 +1,7 @@
 -- What the program prints, by what its parts answered.
 use Rattle.std.specs.Prelude.{◌≡◌, refl, Bool, true, ◌&&◌, length, Float}
-use Rattle.std.proofs.Math.Path.{sym, ap}
-use Rattle.std.proofs.Common.{◌∙◌}
-use mathlib.Core.List.{List, []}
+use Rattle.std.proofs.Common.{sym, ap, ◌∙◌, List, [], ℕ, zero, suc, ◌<◌, ◌≤◌, arith, leb, eqb, leb-true}
 use Rattle.std.proofs.Math.Option.{Option, none, some}
-use Prim.Native.Nat.{ℕ, zero, suc, ◌<◌, ◌≤◌}
-use native.Mathlib.Omega.{arith}
-use Rattle.std.proofs.Math.Dec.{leb, eqb}
-use borrow.Author.Tests.{leb-true}
 use Rattle.laws.specs.Lists.{all, last_or}
 use Rattle.laws.specs.ListLaws.{and_left, and_right}
 use Rattle.definition.specs.Refusal.{first_broken}
@@ -101,8 +95,7 @@ module _ {s : Settings} {reference ends bases qualities : List ℕ} {count : ℕ
       let a : s.asked ≡ size_of t.header.asked =
       asked_is ∙ asked-same t.header.asked (let e = asked_is in let h = asked-most in omega arith)
       in
-      let q : s.quality ≡ t.header.quality = ap (λ (x : Settings). x.quality) d.settings in
       let th : s.threshold ≡ t.header.threshold = ap (λ (x : Settings). x.threshold) d.settings in
       let r : s.recovery ≡ t.header.recovery = ap (λ (x : Settings). x.recovery) d.settings in
       let m = sample-is t d is-even are-few in
-      rw (q, a, th, r, m)
+      rw (m, a, th, r)

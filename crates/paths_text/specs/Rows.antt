@@ -1,13 +1,8 @@
 -- The rows of an accepted list, read back from the columns that the call for the list has written: what `write_list` prints of them is what the definition
 -- prints.
 use Rattle.std.specs.Prelude.{◌≡◌, take, drop, Float}
-use Rattle.std.proofs.Math.Path.{refl, sym, ap}
-use Rattle.std.proofs.Common.{◌∙◌}
-use mathlib.Core.List.{List, [], ◌∷◌, map}
-use Prim.Native.Nat.{ℕ, suc, ◌+◌, ◌*◌, ◌<◌, ◌≤◌}
-use Rattle.std.proofs.Math.Nat.{suc-mul}
-use native.Mathlib.Omega.{arith}
-use Rattle.std.proofs.Math.ListN.{length, get_or, length-map, get_or-append}
+use Rattle.std.proofs.Common.{refl, sym, ap, ◌∙◌, List, [], ◌∷◌, map, ℕ, suc, ◌+◌, ◌*◌, ◌<◌, ◌≤◌, suc-mul, arith, length, get_or}
+use Rattle.std.proofs.Math.ListN.{length-map, get_or-append}
 use Rattle.std.proofs.Math.Seq.{slice}
 use Rattle.std.specs.Float.{nan}
 use Rattle.laws.specs.ListLaws.{All, nil, cons}

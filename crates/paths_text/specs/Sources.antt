@@ -1,12 +1,7 @@
 -- The text read: its parts in the buffer are what the definition hands to the call for the list.
-use Rattle.std.specs.Prelude.{◌≡◌, true, false}
-use Rattle.std.proofs.Math.Path.{refl, sym, ap}
-use Rattle.std.proofs.Common.{◌∙◌, drop-drop}
-use mathlib.Core.List.{List, ◌++◌, append_assoc}
+use Rattle.std.specs.Prelude.{◌≡◌, true, false, Option as Maybe, Some, None}
+use Rattle.std.proofs.Common.{refl, sym, ap, ◌∙◌, drop-drop, List, ◌++◌, append_assoc, ℕ, ◌+◌, ◌<◌, ◌≤◌, arith, length, take, drop, length-append}
 use Rattle.std.proofs.Math.Option.{Option, none, some}
-use Prim.Native.Nat.{ℕ, ◌+◌, ◌<◌, ◌≤◌}
-use native.Mathlib.Omega.{arith}
-use Rattle.std.proofs.Math.ListN.{length, take, drop, length-append}
 use Rattle.std.proofs.Math.Seq.{slice, take-append_seam, drop-append_seam}
 use Rattle.laws.specs.ListLaws.{clash}
 use Rattle.definition.specs.Text.{Text, ReadLines, text_of, all_bases, all_qualities, ends_from}
@@ -17,11 +12,7 @@ use Rattle.paths_text.specs.Moves.{drop_here, slice-before}
 use Rattle.paths_text.specs.Gather.{Gathers, Gathered, length-ends}
 use Rattle.paths_text.specs.Checks.{Handed}
 use Rattle.text_form.specs.declared.reads.Layout.{Layout}
-use Rattle.text_form.specs.declared.reads.Form.{Form}
-use Rattle.text_form.specs.declared.reads.Form.TheVariants as F
 use Rattle.paths_text.specs.declared.source.Source.{Source}
-use Rattle.paths_text.specs.declared.source.Read.{Read}
-use Rattle.paths_text.specs.declared.source.Read.TheVariants as R
 
 abbrev pub ungathered : Layout → Source
 ungathered l =
@@ -63,34 +54,31 @@ pub record Ready (T E : List ℕ) (s : Source) (t : Text) : Type 0 where
   pub inside : s.end ≤ length T
   pub ends-inside : s.ends ≤ length E
 
-abbrev pub TextSays : Option Text → List ℕ → List ℕ → List ℕ → List ℕ → Read → Type 0
-TextSays none T T' E E' r = (r ≡ R.Malformed) × (T' ≡ T) × (E' ≡ E)
-TextSays (some t) T T' E E' r = (s : Source) × (r ≡ R.Source s) × Ready T' E' s t
+abbrev pub TextSays : Option Text → List ℕ → List ℕ → List ℕ → List ℕ → Maybe Source → Type 0
+TextSays none T T' E E' r = (r ≡ None) × (T' ≡ T) × (E' ≡ E)
+TextSays (some t) T T' E E' r = (s : Source) × (r ≡ Some s) × Ready T' E' s t
 
-form-none : (T : List ℕ) (f : Form) (o : Option Text) → FormSays T f o → f ≡ F.Malformed → o ≡ none
-form-none T f none q m = refl
-form-none T f (some t) q m =
-    let e : F.Read q.0 ≡ F.Malformed = sym q.1 ∙ m in
-    let z : ◌≡◌ {A = ℕ} 0 1 = cc in
-    absurd (omega arith)
+form-none : (T : List ℕ) (o : Option Text) → FormSays T None o → o ≡ none
+form-none T none q = refl
+form-none T (some t) q = let e : Some q.0 ≡ None = sym q.1 in let z : ◌≡◌ {A = ℕ} 0 1 = cc in absurd (omega arith)
 
-form-some : (T : List ℕ) (f : Form) (o : Option Text) (l : Layout) → FormSays T f o → f ≡ F.Read l → (t : Text) × (o ≡ some t) × Laid T l t
-form-some T f none l q m = let e : F.Read l ≡ F.Malformed = sym m ∙ q in let z : ◌≡◌ {A = ℕ} 0 1 = cc in absurd (omega arith)
-form-some T f (some t) l q m =
-    let e : F.Read l ≡ F.Read q.0 = sym m ∙ q.1 in
+form-some : (T : List ℕ) (o : Option Text) (l : Layout) → FormSays T (Some l) o → (t : Text) × (o ≡ some t) × Laid T l t
+form-some T none l q = let z : ◌≡◌ {A = ℕ} 0 1 = cc in absurd (omega arith)
+form-some T (some t) l q =
+    let e : Some l ≡ Some q.0 = q.1 in
     let g : l ≡ q.0 = cc in
     (t, refl, rw g q.2)
 
-module _ (T E : List ℕ) (f : Form) (q : FormSays T f (text_of T)) where
-  pub text-none : f ≡ F.Malformed → TextSays (text_of T) T T E E R.Malformed
-  text-none m = let e = form-none T f (text_of T) q m in rw e (refl, refl, refl)
+module _ (T E : List ℕ) where
+  pub text-none : FormSays T None (text_of T) → TextSays (text_of T) T T E E None
+  text-none q = let e = form-none T (text_of T) q in rw e (refl, refl, refl)
 
-  module _ (l : Layout) (m : f ≡ F.Read l) where
+  module _ (l : Layout) (q : FormSays T (Some l) (text_of T)) where
     said : (t : Text) × (text_of T ≡ some t) × Laid T l t
-    said = form-some T f (text_of T) l q m
+    said = form-some T (text_of T) l q
 
     -- reads that are refused are left where they are
-    left : (s : Source) → s ≡ ungathered l → (l.even ≡ true → l.count ≤ 512 → ⊥) → TextSays (text_of T) T T E E (R.Source s)
+    left : (s : Source) → s ≡ ungathered l → (l.even ≡ true → l.count ≤ 512 → ⊥) → TextSays (text_of T) T T E E (Some s)
     left s x k =
         let d = said.2 in
         let e = said.1 in
@@ -118,10 +106,10 @@ module _ (T E : List ℕ) (f : Form) (q : FormSays T f (text_of T)) where
               }),
         )
 
-    pub text-uneven : (s : Source) → s ≡ ungathered l → l.even ≡ false → TextSays (text_of T) T T E E (R.Source s)
+    pub text-uneven : (s : Source) → s ≡ ungathered l → l.even ≡ false → TextSays (text_of T) T T E E (Some s)
     text-uneven s x k = left s x (λ a c. clash (sym a ∙ k))
 
-    pub text-many : (s : Source) → s ≡ ungathered l → 512 < l.count → TextSays (text_of T) T T E E (R.Source s)
+    pub text-many : (s : Source) → s ≡ ungathered l → 512 < l.count → TextSays (text_of T) T T E E (Some s)
     text-many s x k = left s x (λ a c. (omega arith))
 
     module _ (even : l.even ≡ true) (few : l.count ≤ 512) (room : 512 ≤ length E) where
@@ -200,7 +188,7 @@ module _ (T E : List ℕ) (f : Form) (q : FormSays T f (text_of T)) where
             ∙ slice-before l.reads (B ++ Q) T long.0 l.reference l.past (omega arith)
             ∙ said.2.reference
 
-        pub text-gathered : TextSays (text_of T) T T' E E' (R.Source (gathered l n))
+        pub text-gathered : TextSays (text_of T) T T' E E' (Some (gathered l n))
         unfolding B Q
         text-gathered =
             let fits = G.inside in

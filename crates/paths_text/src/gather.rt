@@ -9,7 +9,7 @@ ghost use Rattle.text_form.specs.Reads.{reads_from};
 ghost use Rattle.paths_text.specs.Moves.{Moves, lessened, Joins};
 ghost use Rattle.paths_text.specs.Gather.{Gathers, Gathered, Nexts, Nexted};
 
-use text_form::reads::{Pair, read_pair};
+use text_form::reads::read_pair;
 
 // How far the reads are gathered: the place of the next one, the bases of those before it, and how many these are.
 #[derive(Clone, Copy)]
@@ -24,11 +24,8 @@ fn move_bytes(text: &mut [u8], from: usize, to: usize, dest: usize, less: u8)
     requires { Moves text.old from to dest less }
     ensures { text.new ≡ written_at dest (lessened less (slice from to text.old)) text.old }
 {
-    let size = to - from;
-    let mut i: usize = 0;
-    while i < size {
+    for i in 0..to - from {
         text[dest + i] = text[from + i] - less;
-        i += 1;
     }
 }
 
@@ -37,9 +34,7 @@ fn rotate(text: &mut [u8], a: usize, m: usize, e: usize)
     requires { (a ≤ m) × (m ≤ e) × (e ≤ length text.old) }
     ensures { text.new ≡ take a text.old ++ (slice m e text.old ++ (slice a m text.old ++ drop e text.old)) }
 {
-    text[a..m].reverse();
-    text[m..e].reverse();
-    text[a..e].reverse();
+    text[a..e].rotate_left(m - a);
 }
 
 // The read's bases join those that end at `end`, and its qualities the `size` qualities behind them.
@@ -56,7 +51,7 @@ fn join_read(text: &mut [u8], end: usize, size: usize, at: usize, bases: usize, 
     rotate(text, end, behind, behind + more);
 }
 
-// One read more is gathered. (A pair that is malformed is not met.)
+// One read more is gathered.
 fn next_read(text: &mut [u8], ends: &mut [u32], from: usize, g: Gathering) -> Gathering
     requires { Nexts text.old ends.old from g }
     ensures { Nexted text.old ends.old text.new ends.new from g result }
@@ -64,10 +59,7 @@ fn next_read(text: &mut [u8], ends: &mut [u32], from: usize, g: Gathering) -> Ga
     let at = g.at;
     let size = g.bases;
     let read = g.reads;
-    let pair = read_pair(text, at);
-    let Pair::At(lines) = pair else {
-        return g;
-    };
+    let lines = read_pair(text, at).unwrap();
     let more = size + (lines.bases - at);
     join_read(text, from + size, size, at, lines.bases, lines.qualities);
     ends[read] = more as u32;
@@ -89,7 +81,7 @@ pub fn gather(text: &mut [u8], ends: &mut [u32], from: usize, count: usize) -> u
         bases: 0,
         reads: 0,
     };
-    while g.reads < count {
+    for _i in 0..count {
         g = next_read(text, ends, from, g);
     }
     g.bases

@@ -5,7 +5,7 @@ ghost use Rattle.paths_text.specs.Sources.{ungathered, TextSays};
 
 use crate::gather::gather;
 use text_form::header::Settings;
-use text_form::reads::{Form, Layout, read_form};
+use text_form::reads::{Layout, read_form};
 
 // Where the parts stand: the reference, the bases and behind them the qualities, each from its place to the next; how many ends of reads are told; and
 // the reads' tally. Uneven reads, and more than 512, are not gathered, since they are refused.
@@ -22,18 +22,11 @@ pub struct Source {
     pub even: bool,
 }
 
-#[derive(Clone, Copy)]
-pub enum Read {
-    Source(Source),
-    Malformed,
-}
-
 fn not_gathered(l: Layout) -> Source
     ensures { result ≡ ungathered l }
 {
-    let settings = l.settings;
     Source {
-        settings: settings,
+        settings: l.settings,
         reference: l.reference,
         past: l.past,
         bases: l.reads,
@@ -45,32 +38,20 @@ fn not_gathered(l: Layout) -> Source
     }
 }
 
-// A text not of the form or too long is 14, and nothing is touched.
-pub fn read_text(text: &mut [u8], ends: &mut [u32]) -> Read
+// A text not of the form or too long has no parts, and nothing is touched.
+pub fn read_text(text: &mut [u8], ends: &mut [u32]) -> Option<Source>
     requires { 512 ≤ length ends.old }
     ensures { TextSays (text_of text.old) text.old text.new ends.old ends.new result }
 {
-    let form = read_form(text);
-    let Form::Read(l) = form else {
-        return Read::Malformed;
-    };
-    if !l.even {
-        return Read::Source(not_gathered(l));
-    }
-    if l.count > 512 {
-        return Read::Source(not_gathered(l));
+    let l = read_form(text)?;
+    if !l.even || l.count > 512 {
+        return Some(not_gathered(l));
     }
     let size = gather(text, ends, l.reads, l.count);
-    let settings = l.settings;
-    Read::Source(Source {
-        settings: settings,
-        reference: l.reference,
-        past: l.past,
-        bases: l.reads,
+    Some(Source {
         qualities: l.reads + size,
         end: l.reads + size + size,
         ends: l.count,
-        count: l.count,
-        even: l.even,
+        ..not_gathered(l)
     })
 }

@@ -1,5 +1,5 @@
 -- Listing: of a fork's out-edges that are not visited, those that are no reference edge of support 1, in order. Assumes nothing.
-use Rattle.std.specs.Prelude.{◌≡◌, Bool, not, ◌&&◌, ℕ, suc, ◌+◌, ◌-◌, ◌<◌, ◌≤◌, eqb, get_or, set, take, drop}
+use Rattle.std.specs.Prelude.{Some, None, ◌≡◌, Bool, not, ◌&&◌, ℕ, suc, ◌+◌, ◌<◌, ◌≤◌, eqb, get_or, set, take, drop}
 use Rattle.std.proofs.Math.Path.{refl, sym, ap}
 use Rattle.std.proofs.Common.{◌∙◌, arith, add-one, take-suc-set, drop-set-lt, drop-drop, lt-ltb, le-ltb, eq-eqb, ne_eqb}
 use Rattle.std.proofs.Math.Bool.{true, false}
@@ -13,9 +13,9 @@ use Rattle.definition.specs.Search.{among, ends_of, pivotal_of}
 use Rattle.theorems.proofs.Walks.{length-kept}
 use Rattle.assembly.specs.Fields.{edge_to, edge_support}
 use Rattle.assembly.specs.Store.{edge_at, edges_of}
-use Rattle.out_edges.specs.Outs.{Slots, Nexts, out_from}
+use Rattle.out_edges.specs.Outs.{Nexts, out_from}
 use Rattle.pivotal_edges.specs.Queue.{ends_at}
-use Rattle.pivotal_edges.specs.Walk.{Here, Seen, fresh, leaving-from, next-is, next-none, next-some, next-in}
+use Rattle.pivotal_edges.specs.Walk.{Here, Seen, fresh, leaving-from, next-none, next-some, next-in}
 
 -- no reference edge of support 1
 abbrev pub counts : Edge → Bool
@@ -108,8 +108,7 @@ pub record Listing (es : List ℕ) (m v t : ℕ) (vis : List Ends) (out₀ out :
   pub beyond : drop n out ≡ drop n out₀
   pub low : All (λ (i : ℕ). i < m) (take n₀ out₀) → All (λ (i : ℕ). i < m) (take n out)
 
-pub record Lister (es : List ℕ) (m v : ℕ) (marks out₀ out : List ℕ) (n₀ t r n : ℕ) : Type 0 where
-  pub next : Nexts es m v t r
+pub record Lister (es : List ℕ) (m v : ℕ) (marks out₀ out : List ℕ) (n₀ t n : ℕ) : Type 0 where
   pub size : length out ≡ length out₀
   pub each : (vis : List Ends) → Seen es m marks vis → Listing es m v t vis out₀ out n₀ n
 
@@ -129,22 +128,22 @@ unfolding ends_of
 wanted-nil vis = refl
 
 module _ {vs es : List ℕ} {m v : ℕ} {marks out₀ : List ℕ} {n₀ : ℕ} (p : Lists vs es m v marks out₀ n₀) where
-  pub lister-start : {r : ℕ} → ((k : ℕ) → Slots vs es k v → Nexts es k v 0 r) → Lister es m v marks out₀ out₀ n₀ 0 r n₀
-  lister-start all =
+  pub lister-start : {t : ℕ} → t ≡ 0 → Lister es m v marks out₀ out₀ n₀ t n₀
+  lister-start z =
       let e = leaving-from (edges_of es m) v in
-      record {
-        next = next-is p.here all;
+      rw z
+      (record {
         size = refl;
         each = λ vis s. record { many = ap (λ (l : List Edge). n₀ + length (wanted vis l)) e; is = ap (λ (l : List Edge). map (ends_at es) (take n₀ out₀) ++ wanted vis l) e; beyond = refl; low = λ a. a };
-      }
+      })
 
-  module _ {out : List ℕ} {t r n : ℕ} (b : Lister es m v marks out₀ out n₀ t r n) where
-    pub lister-end : r ≤ 0 → ltb 1 (length (leaving (edges_of es m) v)) ≡ true → (vis : List Ends) → Seen es m marks vis
+  module _ {out : List ℕ} {t n : ℕ} (b : Lister es m v marks out₀ out n₀ t n) where
+    pub lister-end : Nexts es m v t None → ltb 1 (length (leaving (edges_of es m) v)) ≡ true → (vis : List Ends) → Seen es m marks vis
         → Listed es m out₀ out n₀ n (pivotal_of (leaving (edges_of es m) v) (fresh vis (leaving (edges_of es m) v)))
     unfolding pivotal_of
     lister-end h f vis s =
         let x = b.each vis s in
-        let e : wanted vis (out_from (edges_of es m) v t) ≡ [] = ap (wanted vis) (next-none p.here b.next h) ∙ wanted-nil vis in
+        let e : wanted vis (out_from (edges_of es m) v t) ≡ [] = ap (wanted vis) (next-none p.here h) ∙ wanted-nil vis in
         rw f
         (record {
           many = (let q = x.many in let u = ap length e in omega arith);
@@ -153,38 +152,38 @@ module _ {vs es : List ℕ} {m v : ℕ} {marks out₀ : List ℕ} {n₀ : ℕ} (
           low = x.low;
         })
 
-    module _ (h : 0 < r) where
-      i-in : r - 1 < m
-      i-in = next-in p.here b.next h
+    module _ {i : ℕ} (h : Nexts es m v t (Some i)) where
+      i-in : i < m
+      i-in = next-in p.here h
 
-      pub lister-mark : r - 1 < length marks
+      pub lister-mark : i < length marks
       lister-mark = let a = i-in in let c = p.marks-in in omega arith
 
-      pub lister-room : takes es marks (r - 1) ≡ true → n < length out
+      pub lister-room : takes es marks i ≡ true → n < length out
       lister-room e =
           let x = b.each p.vis p.seen in
           let q = x.many in
-          let f = ap (λ (l : List Edge). length (wanted p.vis l)) (next-some p.here b.next h) in
-          let g = ap length (wanted-yes es marks m p.vis p.seen (r - 1) i-in (out_from (edges_of es m) v (edge_to es (r - 1) + 1)) e) in
+          let f = ap (λ (l : List Edge). length (wanted p.vis l)) (next-some p.here h) in
+          let g = ap length (wanted-yes es marks m p.vis p.seen i i-in (out_from (edges_of es m) v (edge_to es i + 1)) e) in
           let w = wanted-few p.vis (leaving (edges_of es m) v) in
           let u = p.room in
           let y = b.size in
           omega arith
 
-      pub lister-next : {out' : List ℕ} {n' w s : ℕ} → w ≡ edge_to es (r - 1) → ((k : ℕ) → Slots vs es k v → Nexts es k v (w + 1) s) → length out' ≡ length out
-          → OneListed es marks out out' (r - 1) n n' → Lister es m v marks out₀ out' n₀ (w + 1) s n'
-      lister-next {out'} {n'} {w} {s} e all len o =
-          record { next = next-is p.here all; size = len ∙ b.size; each = λ vis z. (rw e (go vis z (takes es marks (r - 1)) refl)) }
+      pub lister-next : {out' : List ℕ} {n' w : ℕ} → w ≡ edge_to es i + 1 → length out' ≡ length out
+          → OneListed es marks out out' i n n' → Lister es m v marks out₀ out' n₀ w n'
+      lister-next {out'} {n'} {w} e len o =
+          record { size = len ∙ b.size; each = λ vis z. (rw e (go vis z (takes es marks i) refl)) }
         where
           rest : List Edge
-          rest = out_from (edges_of es m) v (edge_to es (r - 1) + 1)
+          rest = out_from (edges_of es m) v (edge_to es i + 1)
 
-          go : (vis : List Ends) → Seen es m marks vis → (k : Bool) → takes es marks (r - 1) ≡ k → Listing es m v (edge_to es (r - 1) + 1) vis out₀ out' n₀ n'
+          go : (vis : List Ends) → Seen es m marks vis → (k : Bool) → takes es marks i ≡ k → Listing es m v (edge_to es i + 1) vis out₀ out' n₀ n'
           go vis z true k =
               let q = o.yes k in
               let x = b.each vis z in
-              let f : wanted vis (out_from (edges_of es m) v t) ≡ ends_at es (r - 1) ∷ wanted vis rest =
-              ap (wanted vis) (next-some p.here b.next h) ∙ wanted-yes es marks m vis z (r - 1) i-in rest k in
+              let f : wanted vis (out_from (edges_of es m) v t) ≡ ends_at es i ∷ wanted vis rest =
+              ap (wanted vis) (next-some p.here h) ∙ wanted-yes es marks m vis z i i-in rest k in
               record {
                 many = (let u = x.many in let y = ap length f in let w = q.0 in omega arith);
                 is =
@@ -192,19 +191,19 @@ module _ {vs es : List ℕ} {m v : ℕ} {marks out₀ : List ℕ} {n₀ : ℕ} (
                       q.0,
                       q.1,
                       add-one n,
-                      take-suc-set out n (r - 1) (lister-room k),
-                      map-append (ends_at es) (take n out) ((r - 1) ∷ []),
-                      append_assoc (map (ends_at es) (take n out)) (ends_at es (r - 1) ∷ []) (wanted vis rest),
+                      take-suc-set out n i (lister-room k),
+                      map-append (ends_at es) (take n out) (i ∷ []),
+                      append_assoc (map (ends_at es) (take n out)) (ends_at es i ∷ []) (wanted vis rest),
                       ← f,
                     ) x.is;
-                beyond = rw (q.0, q.1) (drop-set-lt (n + 1) out n (r - 1) (omega arith) ∙ drop_more n out out₀ x.beyond);
-                low = λ a. (rw (q.0, q.1, add-one n, take-suc-set out n (r - 1) (lister-room k)) (all_append (x.low a) (cons i-in nil)));
+                beyond = rw (q.0, q.1) (drop-set-lt (n + 1) out n i (omega arith) ∙ drop_more n out out₀ x.beyond);
+                low = λ a. (rw (q.0, q.1, add-one n, take-suc-set out n i (lister-room k)) (all_append (x.low a) (cons i-in nil)));
               }
           go vis z false k =
               let q = o.no k in
               let x = b.each vis z in
               let f : wanted vis (out_from (edges_of es m) v t) ≡ wanted vis rest =
-              ap (wanted vis) (next-some p.here b.next h) ∙ wanted-no es marks m vis z (r - 1) i-in rest k in
+              ap (wanted vis) (next-some p.here h) ∙ wanted-no es marks m vis z i i-in rest k in
               rw (q.0, q.1)
               (record {
                 many = (let u = x.many in let y = ap length f in omega arith);

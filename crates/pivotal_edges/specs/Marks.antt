@@ -1,5 +1,5 @@
 -- Marking the out-edges of a vertex: those that were not visited join the visited ones. Assumes nothing.
-use Rattle.std.specs.Prelude.{◌≡◌, ◌⊎◌, Bool, ◌&&◌, ◌||◌, List, [], ◌∷◌, ◌++◌, ℕ, ◌+◌, ◌-◌, ◌<◌, ◌≤◌, length, get_or, set, drop}
+use Rattle.std.specs.Prelude.{Some, None, ◌≡◌, ◌⊎◌, Bool, ◌&&◌, ◌||◌, List, [], ◌∷◌, ◌++◌, ℕ, ◌+◌, ◌<◌, ◌≤◌, length, get_or, set, drop}
 use Rattle.std.proofs.Math.Path.{refl, sym, ap}
 use Rattle.std.proofs.Common.{◌∙◌, inl, inr, arith, length-set, get_or-set_same, get_or-set_other, drop-set-lt}
 use Rattle.std.proofs.Math.Bool.{true, false, not, and-false, or-true, or-false}
@@ -13,9 +13,9 @@ use Rattle.theorems.proofs.Fuel.{among-append}
 use Rattle.assembly.specs.Fields.{edge_from, edge_to}
 use Rattle.assembly.specs.Table.{Distinct, table}
 use Rattle.assembly.specs.Store.{edge_at, edges_of}
-use Rattle.out_edges.specs.Outs.{Slots, Nexts, has-table}
+use Rattle.out_edges.specs.Outs.{Nexts, has-table}
 use Rattle.pivotal_edges.specs.Queue.{ends_at}
-use Rattle.pivotal_edges.specs.Walk.{Here, Seen, fresh, next-is, next-in}
+use Rattle.pivotal_edges.specs.Walk.{Here, Seen, fresh, next-in}
 
 -- ---- among
 eq_ends-same : (a b : Ends) → eq_ends a b ≡ true → (p : Ends → Bool) → p a ≡ p b
@@ -74,24 +74,23 @@ pub record Marked (es : List ℕ) (m v : ℕ) (marks marks' : List ℕ) : Type 0
   pub seen : (vis : List Ends) → Seen es m marks vis → Seen es m marks' (vis ++ ends_of (fresh vis (leaving (edges_of es m) v)))
   pub rest : drop m marks' ≡ drop m marks
 
-pub record Marker (es : List ℕ) (m v : ℕ) (marks₀ marks : List ℕ) (t r : ℕ) : Type 0 where
-  pub next : Nexts es m v t r
+pub record Marker (es : List ℕ) (m v : ℕ) (marks₀ marks : List ℕ) (t : ℕ) : Type 0 where
   pub size : length marks ≡ length marks₀
   pub beyond : drop m marks ≡ drop m marks₀
   pub each : (i : ℕ) → i < m → ltb 0 (get_or marks i 0) ≡ (ltb 0 (get_or marks₀ i 0) || (eqb (edge_from es i) v && ltb (edge_to es i) t))
 
 module _ {vs es : List ℕ} {m v : ℕ} {marks₀ : List ℕ} (p : Marks vs es m v marks₀) where
-  pub marker-start : {r : ℕ} → ((k : ℕ) → Slots vs es k v → Nexts es k v 0 r) → Marker es m v marks₀ marks₀ 0 r
-  marker-start all =
-      record {
-        next = next-is p.here all;
+  pub marker-start : {t : ℕ} → t ≡ 0 → Marker es m v marks₀ marks₀ t
+  marker-start z =
+      rw z
+      (record {
         size = refl;
         beyond = refl;
         each = λ i h. sym (rw (le-ltb (edge_to es i) 0 (omega arith), and-false (eqb (edge_from es i) v)) (or-false (ltb 0 (get_or marks₀ i 0))));
-      }
+      })
 
-  module _ {marks : List ℕ} {t r : ℕ} (b : Marker es m v marks₀ marks t r) where
-    marker-seen : r ≤ 0 → (vis : List Ends) → Seen es m marks₀ vis → Seen es m marks (vis ++ ends_of (fresh vis (leaving (edges_of es m) v)))
+  module _ {marks : List ℕ} {t : ℕ} (b : Marker es m v marks₀ marks t) where
+    marker-seen : Nexts es m v t None → (vis : List Ends) → Seen es m marks₀ vis → Seen es m marks (vis ++ ends_of (fresh vis (leaving (edges_of es m) v)))
     unfolding leaving
     marker-seen h vis s i l =
         let a : among (ends_at es i) (ends_of (fresh vis (leaving (edges_of es m) v))) ≡ (not (among (ends_at es i) vis) && (eqb (edge_from es i) v && among (ends_at es i) (ends_of (edges_of es m)))) =
@@ -109,50 +108,50 @@ module _ {vs es : List ℕ} {m v : ℕ} {marks₀ : List ℕ} (p : Marks vs es m
           where
             low : Dec (edge_to es i < t) → ltb (edge_to es i) t ≡ true
             low (yes z) = lt-ltb (edge_to es i) t z
-            low (no z) = absurd (let w = (b.next.least i l (eqb-true (edge_from es i) v e) (omega arith)).0 in omega arith)
+            low (no z) = absurd (h.least i l (eqb-true (edge_from es i) v e) (omega arith))
         go false false e = refl
 
-    pub marker-end : r ≤ 0 → Marked es m v marks₀ marks
+    pub marker-end : Nexts es m v t None → Marked es m v marks₀ marks
     marker-end h = record { seen = marker-seen h; rest = b.beyond }
 
-    module _ (h : 0 < r) where
-      i-in : r - 1 < m
-      i-in = next-in p.here b.next h
+    module _ {e : ℕ} (h : Nexts es m v t (Some e)) where
+      e-in : e < m
+      e-in = next-in p.here h
 
-      pub marker-in : r - 1 < length marks
-      marker-in = let a = i-in in let c = p.marks-in in let d = b.size in omega arith
+      pub marker-in : e < length marks
+      marker-in = let a = e-in in let c = p.marks-in in let d = b.size in omega arith
 
-      pub marker-next : {w s : ℕ} → w ≡ edge_to es (r - 1) → ((k : ℕ) → Slots vs es k v → Nexts es k v (w + 1) s) → Marker es m v marks₀ (set marks (r - 1) 1) (w + 1) s
-      marker-next {w} {s} e all =
-          record { next = next-is p.here all; size = length-set marks (r - 1) 1 ∙ b.size; beyond = drop-set-lt m marks (r - 1) 1 i-in ∙ b.beyond; each = λ i l. go i l (ℕ_discrete i (r - 1)) }
+      pub marker-next : {w : ℕ} → w ≡ edge_to es e + 1 → Marker es m v marks₀ (set marks e 1) w
+      marker-next {w} behind =
+          record { size = length-set marks e 1 ∙ b.size; beyond = drop-set-lt m marks e 1 e-in ∙ b.beyond; each = λ i l. go i l (ℕ_discrete i e) }
         where
-          from : edge_from es (r - 1) ≡ v
-          from = (b.next.there h).1
+          from : edge_from es e ≡ v
+          from = h.there.1
 
-          step : (i : ℕ) → i < m → (i ≡ r - 1 → ⊥) → (c : Bool) → eqb (edge_from es i) v ≡ c → (c && ltb (edge_to es i) t) ≡ (c && ltb (edge_to es i) (w + 1))
+          step : (i : ℕ) → i < m → (i ≡ e → ⊥) → (c : Bool) → eqb (edge_from es i) v ≡ c → (c && ltb (edge_to es i) t) ≡ (c && ltb (edge_to es i) w)
           step i l n false f = refl
           step i l n true f = one (dec_lt (edge_to es i) t)
             where
               at : edge_from es i ≡ v
               at = eqb-true (edge_from es i) v f
 
-              one : Dec (edge_to es i < t) → ltb (edge_to es i) t ≡ ltb (edge_to es i) (w + 1)
-              one (yes z) = lt-ltb (edge_to es i) t z ∙ sym (lt-ltb (edge_to es i) (w + 1) (let q = (b.next.there h).2 in omega arith))
-              one (no z) = le-ltb (edge_to es i) t (omega arith) ∙ sym (le-ltb (edge_to es i) (w + 1) (two (ℕ_discrete (edge_to es i) w)))
+              one : Dec (edge_to es i < t) → ltb (edge_to es i) t ≡ ltb (edge_to es i) w
+              one (yes z) = lt-ltb (edge_to es i) t z ∙ sym (lt-ltb (edge_to es i) w (let q = h.there.2 in omega arith))
+              one (no z) = le-ltb (edge_to es i) t (omega arith) ∙ sym (le-ltb (edge_to es i) w (two (ℕ_discrete (edge_to es i) (edge_to es e))))
                 where
-                  two : Dec (edge_to es i ≡ w) → w + 1 ≤ edge_to es i
+                  two : Dec (edge_to es i ≡ edge_to es e) → w ≤ edge_to es i
                   two (yes y) =
                       absurd
                       (n
-                      (p.here.linked.distinct i (r - 1) l i-in
-                      (ap (λ (x : ℕ). record { from = x; to = edge_to es i }) (at ∙ sym from) ∙ ap (λ (x : ℕ). record { from = edge_from es (r - 1); to = x }) (y ∙ e))))
-                  two (no y) = let q = (b.next.least i l at (omega arith)).1 in omega arith
+                      (p.here.linked.distinct i e l e-in
+                      (ap (λ (x : ℕ). record { from = x; to = edge_to es i }) (at ∙ sym from) ∙ ap (λ (x : ℕ). record { from = edge_from es e; to = x }) y)))
+                  two (no y) = let q = h.least i l at (omega arith) in omega arith
 
-          go : (i : ℕ) → i < m → Dec (i ≡ r - 1) → ltb 0 (get_or (set marks (r - 1) 1) i 0) ≡ (ltb 0 (get_or marks₀ i 0) || (eqb (edge_from es i) v && ltb (edge_to es i) (w + 1)))
+          go : (i : ℕ) → i < m → Dec (i ≡ e) → ltb 0 (get_or (set marks e 1) i 0) ≡ (ltb 0 (get_or marks₀ i 0) || (eqb (edge_from es i) v && ltb (edge_to es i) w))
           go i l (yes z) =
-              rw (z, get_or-set_same marks (r - 1) 1 0 marker-in, eq-eqb (edge_from es (r - 1)) v from, lt-ltb (edge_to es (r - 1)) (w + 1) (omega arith))
-              (sym (or-true (ltb 0 (get_or marks₀ (r - 1) 0))))
+              rw (z, get_or-set_same marks e 1 0 marker-in, eq-eqb (edge_from es e) v from, lt-ltb (edge_to es e) w (omega arith))
+              (sym (or-true (ltb 0 (get_or marks₀ e 0))))
           go i l (no z) =
-              ap (λ (x : ℕ). ltb 0 x) (get_or-set_other marks (r - 1) i 1 0 z)
+              ap (λ (x : ℕ). ltb 0 x) (get_or-set_other marks e i 1 0 z)
               ∙ b.each i l
               ∙ ap (λ (x : Bool). ltb 0 (get_or marks₀ i 0) || x) (step i l z (eqb (edge_from es i) v) refl)

@@ -1,13 +1,16 @@
 -- The queue: a list of numbers, each an edge's number with its distance from the source 8192 times; the part between two places is the definition's
 -- queue, in its order. Assumes nothing.
-use Rattle.std.specs.Prelude.{◌≡◌, refl, Bool, true, false, List, [], ◌∷◌, ◌++◌, ltb, get_or, set, take, drop}
-use Rattle.std.proofs.Common.{sym, ap, subst, ◌∙◌, append_assoc, add-one, length-append, length-set, take_at, drop-set-lt, lt-ltb, le-ltb}
+use Rattle.std.specs.Prelude.{◌≡◌, refl, Bool, true, false, cond, Some, eqb, List, [], ◌∷◌, ◌++◌, ltb, get_or, set, take, drop}
+use Rattle.std.proofs.Common.{sym, ap, subst, ◌∙◌, append_assoc, add-one, length-append, take_at, drop-set-lt, lt-ltb, le-ltb, eq-eqb, ne_eqb}
 use Prim.Native.Nat.{ℕ, zero, suc, ◌+◌, ◌-◌, ◌/◌, ◌%◌, ◌<◌, ◌≤◌, compare, Ordering}
 use native.Mathlib.Omega.{arith}
 use Rattle.std.proofs.Math.ListN.{length, length-drop}
-use Rattle.std.proofs.lemmas.List.Edits.{sets, sets-eq}
-use Rattle.std.proofs.Math.Seq.{length-sets, take-suc, drop-cons, take-set-lt, length-take-le, get_or-take}
-use Rattle.std.proofs.lemmas.List.{drop-append-le}
+use Rattle.std.proofs.lemmas.List.Edits.{sets, sets-eq, take-paste, drop-paste, length-paste}
+use Rattle.std.specs.Ordering.{is_some_and, is_lt, nat_cmp, partial_ordering_then}
+use Rattle.std.specs.declared.cmp.Ordering.TheVariants.{Equal, Greater}
+use Rattle.std.proofs.Math.Decide.{dec_lt}
+use Rattle.std.proofs.Math.Seq.{paste, drop-append_seam, length-sets, take-suc, drop-cons, length-take-le, get_or-take}
+use Rattle.std.proofs.lemmas.List.{drop-append-le, take-append-le, take-append-drop, drop-take}
 use Rattle.laws.specs.ListLaws.{All, all_head, all_tail}
 use Rattle.laws.specs.Insertion.{insert, insert-past, insert-here}
 use Rattle.laws.specs.Numbers.{is_gt, compare-lt, compare-eq, compare-gt, lt-compare, eq-compare, gt-compare}
@@ -80,6 +83,35 @@ module _ (es : List ℕ) (a b la lb : ℕ) (ha : la ≡ a / 8192) (hb : lb ≡ b
         rw (compare-eq (b / 8192) (a / 8192) (omega arith), compare-eq (edge_from es (b % 8192)) (edge_from es (a % 8192)) (omega arith), u, v)
         (less-gt (edge_to es (a % 8192)) (edge_to es (b % 8192)))
 
+-- as tuples compare
+module _ (es : List ℕ) (a b : ℕ) {i j la lb fa fb ta tb : ℕ} (hi : i ≡ a % 8192) (hj : j ≡ b % 8192) (ha : la ≡ a / 8192) (hb : lb ≡ b / 8192)
+    (ga : fa ≡ edge_from es i) (gb : fb ≡ edge_from es j) (ea : ta ≡ edge_to es i) (eb : tb ≡ edge_to es j) where
+  abbrev less : Bool
+  less = is_some_and is_lt (partial_ordering_then (partial_ordering_then (Some (nat_cmp la lb)) (Some (nat_cmp fa fb))) (Some (nat_cmp ta tb)))
+
+  pub before-is : less ≡ before es a b
+  before-is = levels (dec_lt la lb) (dec_lt lb la)
+    where
+      targets : (r : Bool) → ltb ta tb ≡ r → is_lt (nat_cmp ta tb) ≡ ltb ta tb
+      targets true e = rw e
+      targets false e = rw e (others (eqb ta tb))
+        where
+          others : (r : Bool) → is_lt (cond r Equal Greater) ≡ false
+          others true = refl
+          others false = refl
+
+      sources : lb ≤ la → la ≤ lb → Dec (fa < fb) → Dec (fb < fa) → less ≡ before es a b
+      sources p q (yes h) k = rw (le-ltb la lb p, eq-eqb la lb (omega arith), lt-ltb fa fb h) (from_less es a b la lb ha hb p q i j fa fb hi hj ga gb h)
+      sources p q (no h) (yes k) = rw (le-ltb la lb p, eq-eqb la lb (omega arith), le-ltb fa fb (omega arith), ne_eqb fa fb (λ z. omega arith)) (from_more es a b la lb ha hb p q i j fa fb hi hj ga gb k)
+      sources p q (no h) (no k) =
+          rw (le-ltb la lb p, eq-eqb la lb (omega arith), le-ltb fa fb (omega arith), eq-eqb fa fb (omega arith))
+          (targets (ltb ta tb) refl ∙ by-to es a b la lb ha hb p q i j fa fb hi hj ga gb (omega arith) (omega arith) ta tb ea eb)
+
+      levels : Dec (la < lb) → Dec (lb < la) → less ≡ before es a b
+      levels (yes h) k = rw (lt-ltb la lb h) (level-less es a b la lb ha hb h)
+      levels (no h) (yes k) = rw (le-ltb la lb (omega arith), ne_eqb la lb (λ z. omega arith)) (level-more es a b la lb ha hb k)
+      levels (no h) (no k) = sources (omega arith) (omega arith) (dec_lt fa fb) (dec_lt fb fa)
+
 -- ---- a part of the list
 unfoldable pub part : List ℕ → ℕ → ℕ → List ℕ
 part q p e = drop p (take e q)
@@ -100,10 +132,6 @@ module _ (q : List ℕ) (p e : ℕ) (room : e ≤ length q) where
   part-cons h =
       let z : p < length (take e q) = (let y = length-take-le e q room in omega arith) in
       rw (add-one p, drop-cons (take e q) p 0 z, get_or-take e q p 0 h)
-
-  pub part-set : (c : ℕ) → p < e → part (set q p c) (p + 1) e ≡ part q (p + 1) e
-  unfolding part
-  part-set c h = rw (take-set-lt e q p c h) (drop-set-lt (p + 1) (take e q) p c (omega arith))
 
   pub part-snoc : (f : ℕ) → f ≤ p → p < e → part q f (p + 1) ≡ part q f p ++ get_or q p 0 ∷ []
   unfolding part
@@ -150,19 +178,17 @@ module _ {es q : List ℕ} {front tail x : ℕ} (k : Known es q front tail x) wh
       part-none-front = part_none q front front (let a = k.low in let b = k.high in omega arith) (omega arith)
 
   module _ {p : ℕ} (b : Placing es q front tail x p) where
-    pub placing-end : tail ≤ p → Placed es q front tail x p
+    pub placing-end : tail ≤ p → Placed es q front tail x tail
     placing-end h =
-        let e : part q p tail ≡ [] = part_none q p tail k.high h in
+        let e : part q tail tail ≡ [] = part_none q tail tail k.high (omega arith) in
+        let z : p ≡ tail = (let y = b.high in omega arith) in
         record {
-          low = b.low;
-          high = b.high;
-          is = b.is ∙ (rw e (ap (λ (l : List ℕ). part q front p ++ l) (insert-nil (before es) x)));
+          low = k.low;
+          high = omega arith;
+          is = (rw z at b.is) ∙ (rw e (ap (λ (l : List ℕ). part q front tail ++ l) (insert-nil (before es) x)));
         }
 
     module _ (h : p < tail) where
-      pub placing-read : p < length q
-      placing-read = let z = k.high in omega arith
-
       e : part q p tail ≡ get_or q p 0 ∷ part q (p + 1) tail
       e = part-cons q p tail k.high h
 
@@ -190,33 +216,60 @@ module _ {es q : List ℕ} {front tail x : ℕ} (k : Known es q front tail x) wh
                 ∙ ap (λ (l : List ℕ). l ++ insert (before es) x (part q (p + 1) tail)) (sym (part-snoc q p tail k.high front b.low h));
           }
 
--- ---- the shift
-pub record Shifting (q₀ : List ℕ) (p tail x : ℕ) (q : List ℕ) (i carry : ℕ) : Type 0 where
-  pub size : length q ≡ length q₀
-  pub high : i ≤ tail
-  pub is : sets q i (carry ∷ part q i tail) ≡ sets q₀ p (x ∷ part q₀ p tail)
+-- ---- the shift: the part moves up by one, and x goes to its place
+module _ (q : List ℕ) (p tail : ℕ) (h : p ≤ tail) (r : tail < length q) where
+  abbrev pasted : List ℕ
+  pasted = paste q (p + 1) (drop p q) (tail - p)
 
-pub shifting-start : (q : List ℕ) (p tail x : ℕ) → p ≤ tail → Shifting q p tail x q p x
-shifting-start q p tail x h = record { size = refl; high = h; is = refl }
+  abbrev middle : List ℕ
+  middle = take (tail - p) (drop p q)
 
-module _ {q₀ : List ℕ} {p tail x : ℕ} {q : List ℕ} {i carry : ℕ} (room : tail < length q₀) (b : Shifting q₀ p tail x q i carry) where
-  pub shifting-in : i < length q
-  shifting-in = let y = b.size in let z = b.high in omega arith
+  abbrev last : List ℕ
+  last = drop (p + 1 + (tail - p)) q
 
-  pub shifting-next : i < tail → Shifting q₀ p tail x (set q i carry) (i + 1) (get_or q i 0)
-  shifting-next h =
-      let l : tail ≤ length q = (let z = b.size in omega arith) in
-      record {
-        size = length-set q i carry ∙ b.size;
-        high = omega arith;
-        is =
-            rw (part-set q i tail l carry h, add-one i) (ap (λ (r : List ℕ). sets q i (carry ∷ r)) (sym (rw (add-one i) at (part-cons q i tail l h))) ∙ b.is);
-      }
+  low : length (take (p + 1) q) ≡ p + 1
+  low = length-take-le (p + 1) q (omega arith)
 
-  pub shifting-end : tail ≤ i → set q i carry ≡ sets q₀ p (x ∷ part q₀ p tail)
-  shifting-end h =
-      let e : part q i tail ≡ [] = part_none q i tail (let z = b.size in omega arith) h in
-      ap (λ (r : List ℕ). sets q i (carry ∷ r)) (sym e) ∙ b.is
+  much : tail - p ≤ length (drop p q)
+  much = let z = length-drop p q in omega arith
+
+  size : length pasted ≡ length q
+  size = length-paste q (p + 1) (drop p q) (tail - p) (omega arith) much
+
+  moved : pasted ≡ (take (p + 1) q ++ middle) ++ last
+  moved =
+      sym (take-append-drop (p + 1 + (tail - p)) pasted)
+      ∙ ap (λ (l : List ℕ). l ++ drop (p + 1 + (tail - p)) pasted) (take-paste q (p + 1) (drop p q) (tail - p) (omega arith) much)
+      ∙ ap (λ (l : List ℕ). (take (p + 1) q ++ middle) ++ l) (drop-paste q (p + 1) (drop p q) (tail - p) (omega arith) much)
+
+  kept : take p pasted ≡ take p q
+  kept =
+      ap (λ (l : List ℕ). take p l) moved
+      ∙ take-append-le p (take (p + 1) q ++ middle) last (let b = length-append (take (p + 1) q) middle in let c = low in omega arith)
+      ∙ take-append-le p (take (p + 1) q) middle (let c = low in omega arith)
+      ∙ sym (take-append-le p (take (p + 1) q) (drop (p + 1) q) (let c = low in omega arith))
+      ∙ ap (λ (l : List ℕ). take p l) (take-append-drop (p + 1) q)
+
+  behind : drop (p + 1) pasted ≡ middle ++ last
+  behind =
+      ap (λ (l : List ℕ). drop (p + 1) l) (moved ∙ append_assoc (take (p + 1) q) middle last)
+      ∙ subst (λ (k : ℕ). drop k (take (p + 1) q ++ (middle ++ last)) ≡ middle ++ last) low (drop-append_seam (take (p + 1) q) (middle ++ last))
+
+  part-is : middle ≡ part q p tail
+  unfolding part
+  part-is = sym (drop-take p (tail - p) q) ∙ ap (λ (k : ℕ). drop p (take k q)) (let e : p + (tail - p) ≡ tail = omega arith in e)
+
+  pub shifted : (x : ℕ) → set pasted p x ≡ sets q p (x ∷ part q p tail)
+  shifted x =
+      let n : length (part q p tail) ≡ tail - p = length_part q p tail (omega arith) h in
+      sets-eq (x ∷ []) pasted p (let z = size in omega arith)
+      ∙ ap (λ (l : List ℕ). (l ++ (x ∷ [])) ++ drop (p + 1) pasted) kept
+      ∙ ap (λ (l : List ℕ). (take p q ++ (x ∷ [])) ++ l) behind
+      ∙ append_assoc (take p q) (x ∷ []) (middle ++ last)
+      ∙ sym (append_assoc (take p q) (x ∷ middle) last)
+      ∙ ap (λ (l : List ℕ). (take p q ++ (x ∷ l)) ++ last) part-is
+      ∙ ap (λ (k : ℕ). (take p q ++ (x ∷ part q p tail)) ++ drop k q) (let e : p + 1 + (tail - p) ≡ p + length (x ∷ part q p tail) = omega arith in e)
+      ∙ sym (sets-eq (x ∷ part q p tail) q p (omega arith))
 
 -- ---- the insertion
 pub record Enqueued (es q q' : List ℕ) (front tail x : ℕ) : Type 0 where

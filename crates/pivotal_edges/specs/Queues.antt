@@ -1,5 +1,5 @@
 -- Queueing the out-edges of a vertex that are not visited. Assumes nothing.
-use Rattle.std.specs.Prelude.{◌≡◌, refl, Bool, true, false, ℕ, ◌+◌, ◌-◌, ◌*◌, ◌/◌, ◌%◌, ◌<◌, ◌≤◌, get_or, drop}
+use Rattle.std.specs.Prelude.{Some, None, ◌≡◌, refl, Bool, true, false, ℕ, ◌+◌, ◌*◌, ◌/◌, ◌%◌, ◌<◌, ◌≤◌, get_or, drop}
 use Rattle.std.proofs.Math.Path.{sym, ap, subst}
 use Rattle.std.proofs.Common.{◌∙◌, lt-ltb, le-ltb}
 use mathlib.Core.List.{List, [], ◌∷◌, map}
@@ -12,9 +12,9 @@ use Rattle.definition.specs.Threading.{Ends, Edge, leaving}
 use Rattle.definition.specs.Search.{among, Queued, earlier, enqueue, enqueue_all}
 use Rattle.assembly.specs.Fields.{HasEdges, edge_to}
 use Rattle.assembly.specs.Store.{edge_at, edges_of}
-use Rattle.out_edges.specs.Outs.{Slots, Nexts, out_from}
-use Rattle.pivotal_edges.specs.Queue.{ends_at, queued_at, before, part, Known, Enqueued}
-use Rattle.pivotal_edges.specs.Walk.{Here, Seen, fresh, leaving-from, next-is, next-none, next-some, next-in}
+use Rattle.out_edges.specs.Outs.{Nexts, out_from}
+use Rattle.pivotal_edges.specs.Queue.{ends_at, queued_at, before, part, Known}
+use Rattle.pivotal_edges.specs.Walk.{Here, Seen, fresh, leaving-from, next-none, next-some, next-in}
 
 -- the definition's queue
 abbrev pub view : List ℕ → List ℕ → ℕ → ℕ → List Queued
@@ -62,9 +62,6 @@ pub record OneQueued (es marks q q' : List ℕ) (front tail level i r : ℕ) : T
   pub rest : (k : ℕ) → r ≤ k → drop k q' ≡ drop k q
 
 module _ {es : List ℕ} {m : ℕ} {marks q : List ℕ} {front tail level i : ℕ} (p : QueuesOne es m marks q front tail level i) where
-  pub one-mark : i < length marks
-  one-mark = let a = p.i-in in let b = p.marks-in in omega arith
-
   pub one-fits : level * 8192 + i < 4294967296
   one-fits = let a = p.i-in in let b = p.few in let c = p.small in let d = p.short in omega arith
 
@@ -76,12 +73,6 @@ module _ {es : List ℕ} {m : ℕ} {marks q : List ℕ} {front tail level i : �
         names = all-mono (λ x h. (let a = h.0 in let b = p.room in omega arith)) p.entries;
         named = let a = p.i-in in let b = p.few in let c = p.room in let d : (level * 8192 + i) % 8192 ≡ i = omega arith in omega arith;
       }
-
-  pub one-no : (get_or marks i 0 ≡ 0 → ⊥) → OneQueued es marks q q front tail level i tail
-  one-no h = record { size = refl; yes = λ k. absurd (h k); no = λ k. (refl, refl); rest = λ k z. refl }
-
-  pub one-yes : {q' : List ℕ} {x : ℕ} → x ≡ level * 8192 + i → get_or marks i 0 ≡ 0 → Enqueued es q q' front tail x → OneQueued es marks q q' front tail level i (tail + 1)
-  one-yes e h w = record { size = w.size; yes = λ k. (refl, rw (← e) w.is); no = λ k. absurd (k h); rest = λ k z. w.rest k (omega arith) }
 
 -- ---- the walk
 pub record Queues (vs es : List ℕ) (m v level : ℕ) (marks q : List ℕ) (front tail : ℕ) : Type 0 where
@@ -106,8 +97,7 @@ pub record Queueing (es : List ℕ) (m v level : ℕ) (vis : List Ends) (q₀ q 
   pub many : tail + length (fresh vis (out_from (edges_of es m) v t)) ≡ tail₀ + length (fresh vis (leaving (edges_of es m) v))
   pub is : enqueue_all level (fresh vis (out_from (edges_of es m) v t)) (view es q front tail) ≡ enqueue_all level (fresh vis (leaving (edges_of es m) v)) (view es q₀ front tail₀)
 
-pub record Queuer (es : List ℕ) (m v level : ℕ) (marks q₀ q : List ℕ) (front tail₀ tail t r : ℕ) : Type 0 where
-  pub next : Nexts es m v t r
+pub record Queuer (es : List ℕ) (m v level : ℕ) (marks q₀ q : List ℕ) (front tail₀ tail t : ℕ) : Type 0 where
   pub size : length q ≡ length q₀
   pub low : front ≤ tail
   pub entries : All (Entry m front) (part q front tail)
@@ -130,23 +120,23 @@ unfolding enqueue_all
 all_nil l qs = refl
 
 module _ {vs es : List ℕ} {m v level : ℕ} {marks q₀ : List ℕ} {front tail₀ : ℕ} (p : Queues vs es m v level marks q₀ front tail₀) where
-  pub queuer-start : {r : ℕ} → ((k : ℕ) → Slots vs es k v → Nexts es k v 0 r) → Queuer es m v level marks q₀ q₀ front tail₀ tail₀ 0 r
-  queuer-start all =
+  pub queuer-start : {t : ℕ} → t ≡ 0 → Queuer es m v level marks q₀ q₀ front tail₀ tail₀ t
+  queuer-start z =
       let e = leaving-from (edges_of es m) v in
-      record {
-        next = next-is p.here all;
+      rw z
+      (record {
         size = refl;
         low = p.low;
         entries = p.entries;
         beyond = λ k z. refl;
         each = λ vis s. record { many = ap (λ (l : List Edge). tail₀ + length (fresh vis l)) e; is = ap (λ (l : List Edge). enqueue_all level (fresh vis l) (view es q₀ front tail₀)) e };
-      }
+      })
 
-  module _ {q : List ℕ} {tail t r : ℕ} (b : Queuer es m v level marks q₀ q front tail₀ tail t r) where
-    pub queuer-end : r ≤ 0 → (vis : List Ends) → Seen es m marks vis → QueuedOut es m v level vis q₀ q front tail₀ tail
+  module _ {q : List ℕ} {tail t : ℕ} (b : Queuer es m v level marks q₀ q front tail₀ tail t) where
+    pub queuer-end : Nexts es m v t None → (vis : List Ends) → Seen es m marks vis → QueuedOut es m v level vis q₀ q front tail₀ tail
     queuer-end h vis s =
         let x = b.each vis s in
-        let e : fresh vis (out_from (edges_of es m) v t) ≡ [] = ap (fresh vis) (next-none p.here b.next h) in
+        let e : fresh vis (out_from (edges_of es m) v t) ≡ [] = ap (fresh vis) (next-none p.here h) in
         record {
           many = (let u = x.many in let w = ap length e in omega arith);
           is = sym (all_nil level (view es q front tail)) ∙ ap (λ (l : List Edge). enqueue_all level l (view es q front tail)) (sym e) ∙ x.is;
@@ -154,27 +144,27 @@ module _ {vs es : List ℕ} {m v level : ℕ} {marks q₀ : List ℕ} {front tai
           rest = b.beyond;
         }
 
-    module _ (h : 0 < r) where
-      i-in : r - 1 < m
-      i-in = next-in p.here b.next h
+    module _ {i : ℕ} (h : Nexts es m v t (Some i)) where
+      i-in : i < m
+      i-in = next-in p.here h
 
       rest : List Edge
-      rest = out_from (edges_of es m) v (edge_to es (r - 1) + 1)
+      rest = out_from (edges_of es m) v (edge_to es i + 1)
 
       high : tail ≤ length q
       high = let x = (b.each p.vis p.seen).many in let u = p.room in let w = b.size in omega arith
 
-      below : get_or marks (r - 1) 0 ≡ 0 → tail < length q
+      below : get_or marks i 0 ≡ 0 → tail < length q
       unfolding rest
       below z =
           let x = (b.each p.vis p.seen).many in
-          let e = ap (λ (l : List Edge). length (fresh p.vis l)) (next-some p.here b.next h) in
-          let f = ap length (fresh-yes es marks m p.vis p.seen (r - 1) i-in rest z) in
+          let e = ap (λ (l : List Edge). length (fresh p.vis l)) (next-some p.here h) in
+          let f = ap length (fresh-yes es marks m p.vis p.seen i i-in rest z) in
           let u = p.room in
           let w = b.size in
           omega arith
 
-      pub queuer-one : QueuesOne es m marks q front tail level (r - 1)
+      pub queuer-one : QueuesOne es m marks q front tail level i
       queuer-one =
           record {
             i-in = i-in;
@@ -189,40 +179,39 @@ module _ {vs es : List ℕ} {m v level : ℕ} {marks q₀ : List ℕ} {front tai
             entries = b.entries;
           }
 
-      pub queuer-next : {q' : List ℕ} {tail' w s : ℕ} → w ≡ edge_to es (r - 1) → ((k : ℕ) → Slots vs es k v → Nexts es k v (w + 1) s)
-          → OneQueued es marks q q' front tail level (r - 1) tail' → Queuer es m v level marks q₀ q' front tail₀ tail' (w + 1) s
+      pub queuer-next : {q' : List ℕ} {tail' w : ℕ} → w ≡ edge_to es i + 1
+          → OneQueued es marks q q' front tail level i tail' → Queuer es m v level marks q₀ q' front tail₀ tail' w
       unfolding rest
-      queuer-next {q'} {tail'} {w} {s} e all o = go (ℕ_discrete (get_or marks (r - 1) 0) 0)
+      queuer-next {q'} {tail'} {w} e o = go (ℕ_discrete (get_or marks i 0) 0)
         where
-          go : Dec (get_or marks (r - 1) 0 ≡ 0) → Queuer es m v level marks q₀ q' front tail₀ tail' (w + 1) s
+          go : Dec (get_or marks i 0 ≡ 0) → Queuer es m v level marks q₀ q' front tail₀ tail' w
           go (yes z) =
               let y = o.yes z in
-              let few : r - 1 < 8192 = (let a = i-in in let c = p.here.linked.few in omega arith) in
-              let new : part q' front tail' ≡ insert (before es) (level * 8192 + (r - 1)) (part q front tail) = rw y.0 y.1 in
+              let few : i < 8192 = (let a = i-in in let c = p.here.linked.few in omega arith) in
+              let new : part q' front tail' ≡ insert (before es) (level * 8192 + i) (part q front tail) = rw y.0 y.1 in
               record {
-                next = next-is p.here all;
                 size = o.size ∙ b.size;
                 low = (let a = b.low in let c = y.0 in omega arith);
                 entries =
                     subst (All (Entry m front)) (sym new)
-                    (all_insert (before es) (level * 8192 + (r - 1))
-                    ((let a : (level * 8192 + (r - 1)) % 8192 ≡ r - 1 = omega arith in let c = i-in in omega arith), (let a : (level * 8192 + (r - 1)) / 8192 ≡ level = omega arith in let c = p.small in omega arith))
+                    (all_insert (before es) (level * 8192 + i)
+                    ((let a : (level * 8192 + i) % 8192 ≡ i = omega arith in let c = i-in in omega arith), (let a : (level * 8192 + i) / 8192 ≡ level = omega arith in let c = p.small in omega arith))
                     b.entries);
                 beyond = λ k u. (o.rest k u ∙ b.beyond k (let c = y.0 in omega arith));
                 each =
                     λ vis u.
                     (let x = b.each vis u in
-                    let f : fresh vis (out_from (edges_of es m) v t) ≡ edge_at es (r - 1) ∷ fresh vis rest = ap (fresh vis) (next-some p.here b.next h) ∙ fresh-yes es marks m vis u (r - 1) i-in rest z in
-                    let g : view es q' front tail' ≡ insert earlier (record { level = level; ends = ends_at es (r - 1) }) (view es q front tail) =
+                    let f : fresh vis (out_from (edges_of es m) v t) ≡ edge_at es i ∷ fresh vis rest = ap (fresh vis) (next-some p.here h) ∙ fresh-yes es marks m vis u i i-in rest z in
+                    let g : view es q' front tail' ≡ insert earlier (record { level = level; ends = ends_at es i }) (view es q front tail) =
                     ap (map (queued_at es)) new
-                    ∙ insert-map es (level * 8192 + (r - 1)) (part q front tail)
-                    ∙ ap (λ (a : Queued). insert earlier a (view es q front tail)) (entry-is es level (r - 1) few) in
+                    ∙ insert-map es (level * 8192 + i) (part q front tail)
+                    ∙ ap (λ (a : Queued). insert earlier a (view es q front tail)) (entry-is es level i few) in
                     rw e
                     (record {
                       many = (let a = x.many in let c = ap length f in let d = y.0 in omega arith);
                       is =
                           ap (enqueue_all level (fresh vis rest)) g
-                          ∙ sym (all_cons level (edge_at es (r - 1)) (fresh vis rest) (view es q front tail))
+                          ∙ sym (all_cons level (edge_at es i) (fresh vis rest) (view es q front tail))
                           ∙ ap (λ (l : List Edge). enqueue_all level l (view es q front tail)) (sym f)
                           ∙ x.is;
                     }));
@@ -231,7 +220,6 @@ module _ {vs es : List ℕ} {m v level : ℕ} {marks q₀ : List ℕ} {front tai
               let y = o.no z in
               rw (y.0, y.1)
               (record {
-                next = next-is p.here all;
                 size = b.size;
                 low = b.low;
                 entries = b.entries;
@@ -239,7 +227,7 @@ module _ {vs es : List ℕ} {m v level : ℕ} {marks q₀ : List ℕ} {front tai
                 each =
                     λ vis u.
                     (let x = b.each vis u in
-                    let f : fresh vis (out_from (edges_of es m) v t) ≡ fresh vis rest = ap (fresh vis) (next-some p.here b.next h) ∙ fresh-no es marks m vis u (r - 1) i-in rest z in
+                    let f : fresh vis (out_from (edges_of es m) v t) ≡ fresh vis rest = ap (fresh vis) (next-some p.here h) ∙ fresh-no es marks m vis u i i-in rest z in
                     rw e
                     (record {
                       many = (let a = x.many in let c = ap length f in omega arith);

@@ -216,9 +216,6 @@ module _ {vs es : List ℕ} {m : ℕ} {q₀ marks₀ out₀ : List ℕ} (p : Piv
         }
 
     module _ (h : front < tail) where
-      pub turning-read : front < length q
-      turning-read = let a = high in omega arith
-
       split : part q front tail ≡ get_or q front 0 ∷ part q (front + 1) tail
       split = part-cons q front tail high h
 

@@ -1,6 +1,7 @@
 -- The walk over the out-edges of a vertex in rising target, once the slots name every edge, and which edges the marks say are visited. Assumes nothing.
-use Rattle.std.specs.Prelude.{◌≡◌, refl, Bool, true, false, not, List, [], ◌∷◌, ℕ, ◌+◌, ◌-◌, ◌<◌, ◌≤◌, ltb, leb, length, get_or}
-use Rattle.std.proofs.Common.{sym, ap, subst, ◌∙◌, arith, lt-ltb, le-ltb, le-leb, ltb-true, ltb-false}
+use Rattle.std.specs.Prelude.{◌≡◌, false, not, List, [], ◌∷◌, Option, Some, None, is_some, MatchOption, ℕ, ◌+◌, ◌<◌, ◌≤◌, ltb, leb, length, get_or}
+use Rattle.std.proofs.Common.{sym, ap, subst, ◌∙◌, arith, lt-ltb, le-ltb, le-leb}
+use Rattle.std.specs.Iterator.{Yields, SkipsThenYields}
 use Rattle.laws.specs.Lists.{keep}
 use Rattle.laws.specs.ListLaws.{all_from, keep_all}
 use Rattle.definition.specs.Threading.{Ends, Edge, leaving}
@@ -9,6 +10,9 @@ use Rattle.assembly.specs.Fields.{HasVertex, out_edge, HasEdges, HasEdge, edge_t
 use Rattle.assembly.specs.Table.{Distinct}
 use Rattle.assembly.specs.Store.{edge_at, edges_of}
 use Rattle.out_edges.specs.Outs.{Slots, Names, Nexts, out_from, nexts-none, nexts-some, slots-names}
+use Rattle.out_edges.specs.Walked.{Begun, Steps, turned}
+use Rattle.out_edges.specs.declared.Graph.{Graph}
+use Rattle.out_edges.specs.declared.OutEdges.{OutEdges}
 use Rattle.pivotal_edges.specs.Queue.{ends_at}
 
 -- m edges, all of them named by the slots of their sources; every target has a record
@@ -41,68 +45,56 @@ module _ {vs es : List ℕ} {m v : ℕ} (k : Here vs es m v) where
   pub next-asks : (HasVertex vs v) × ((c : ℕ) → c < 8 → Names es (out_edge vs v c))
   next-asks = (k.v-in, slots-names (k.linked.slots v k.v-in) k.linked.room)
 
-  module _ {t r : ℕ} (all : (n : ℕ) → Slots vs es n v → Nexts es n v t r) where
-    pub next-is : Nexts es m v t r
-    next-is = all m (k.linked.slots v k.v-in)
+  pub here-slots : Slots vs es m v
+  here-slots = k.linked.slots v k.v-in
 
-  module _ {t r : ℕ} (x : Nexts es m v t r) where
-    pub next-none : r ≤ 0 → out_from (edges_of es m) v t ≡ []
-    next-none h = nexts-none es m v t r x (omega arith)
+  module _ {t : ℕ} (x : Nexts es m v t None) where
+    pub next-none : out_from (edges_of es m) v t ≡ []
+    next-none = nexts-none es m v t x
 
-    module _ (h : 0 < r) where
-      pub next-some : out_from (edges_of es m) v t ≡ edge_at es (r - 1) ∷ out_from (edges_of es m) v (edge_to es (r - 1) + 1)
-      next-some = nexts-some es m v t r k.linked.distinct x h
+  module _ {t i : ℕ} (x : Nexts es m v t (Some i)) where
+    pub next-some : out_from (edges_of es m) v t ≡ edge_at es i ∷ out_from (edges_of es m) v (edge_to es i + 1)
+    next-some = nexts-some es m v t i k.linked.distinct x
 
-      pub next-in : r - 1 < m
-      next-in = let w = (x.there h).0 in omega arith
+    pub next-in : i < m
+    next-in = x.there.0
 
-      pub next_row : HasEdge es (r - 1)
-      next_row = let w = next-in in let z = k.linked.room in omega arith
+    pub next_row : HasEdge es i
+    next_row = let w = next-in in let z = k.linked.room in omega arith
 
-      pub next-to : t ≤ edge_to es (r - 1)
-      next-to = (x.there h).2
-
-      pub next_low : edge_to es (r - 1) < length vs
-      next_low = let z = k.linked.to_in (r - 1) next-in in omega arith
-
-      pub next-less : {w : ℕ} → w ≡ edge_to es (r - 1) → length vs - (w + 1) < length vs - t
-      next-less e = let a = next-to in let b = next_low in omega arith
-
-      pub next_fits : {w : ℕ} → w ≡ edge_to es (r - 1) → w + 1 ≤ length vs
-      next_fits e = let b = next_low in omega arith
-
-      pub next-again : {w : ℕ} {s : ℕ} → w ≡ edge_to es (r - 1) → ((n : ℕ) → Slots vs es n v → Nexts es n v (w + 1) s) → Nexts es m v (edge_to es (r - 1) + 1) s
-      next-again {w} {s} e all = subst (λ (z : ℕ). Nexts es m v (z + 1) s) e (all m (k.linked.slots v k.v-in))
+    pub next-again : {w : ℕ} {s : Option ℕ} → w ≡ edge_to es i + 1 → Nexts es m v w s → Nexts es m v (edge_to es i + 1) s
+    next-again {s = s} e y = subst (λ (z : ℕ). Nexts es m v z s) e y
 
 -- ---- forks: a second out-edge
-module _ {vs es : List ℕ} {m v : ℕ} (k : Here vs es m v) {r : ℕ} (all : (n : ℕ) → Slots vs es n v → Nexts es n v 0 r) where
-  abbrev x : Nexts es m v 0 r
-  x = next-is k all
-
-  pub fork-none : r ≡ 0 → false ≡ ltb 1 (length (leaving (edges_of es m) v))
-  fork-none h =
-      let e : leaving (edges_of es m) v ≡ [] = sym (leaving-from (edges_of es m) v) ∙ next-none k x (omega arith) in
+module _ {vs es : List ℕ} {m v : ℕ} (k : Here vs es m v) where
+  pub fork-none : Nexts es m v 0 None → false ≡ ltb 1 (length (leaving (edges_of es m) v))
+  fork-none x =
+      let e : leaving (edges_of es m) v ≡ [] = sym (leaving-from (edges_of es m) v) ∙ next-none k x in
       rw e
 
-  module _ (h : r ≡ 0 → ⊥) where
-    pos : 0 < r
-    pos = omega arith
+  pub fork-is : {i w : ℕ} {s : Option ℕ} → Nexts es m v 0 (Some i) → w ≡ edge_to es i + 1 → Nexts es m v w s → is_some s ≡ ltb 1 (length (leaving (edges_of es m) v))
+  fork-is {i} {w} {s} x e again = go s (next-again k x e again)
+    where
+      f : leaving (edges_of es m) v ≡ edge_at es i ∷ out_from (edges_of es m) v (edge_to es i + 1)
+      f = sym (leaving-from (edges_of es m) v) ∙ next-some k x
 
-    pub fork-row : HasEdge es (r - 1)
-    fork-row = next_row k x pos
+      go : (s : Option ℕ) → Nexts es m v (edge_to es i + 1) s → is_some s ≡ ltb 1 (length (leaving (edges_of es m) v))
+      go None y = sym (le-ltb 1 (length (leaving (edges_of es m) v)) (let u = ap length f in let q = ap length (next-none k y) in omega arith))
+      go (Some j) y = sym (lt-ltb 1 (length (leaving (edges_of es m) v)) (let u = ap length f in let q = ap length (next-some k y) in omega arith))
 
-    pub fork-fits : {w : ℕ} → w ≡ edge_to es (r - 1) → w + 1 ≤ length vs
-    fork-fits e = next_fits k x pos e
+  -- two steps tell it
+  pub fork-nth : {g : Graph} {s u : OutEdges} {r : Option ℕ} → g.vertices.now ≡ vs → g.edges.now ≡ es → Begun g v s → SkipsThenYields Steps s 1 r u → is_some r ≡ ltb 1 (length (leaving (edges_of es m) v))
+  fork-nth {g} {s} {u} {r} ev ee b (xs, (t, y, w), n) = go xs r y w n
+    where
+      slots : Slots g.vertices.now g.edges.now m v
+      slots = rw (ev, ee) (here-slots k)
 
-    pub fork-is : {w s : ℕ} → w ≡ edge_to es (r - 1) → ((n : ℕ) → Slots vs es n v → Nexts es n v (w + 1) s) → ltb 0 s ≡ ltb 1 (length (leaving (edges_of es m) v))
-    fork-is {w} {s} e again = go (ltb 0 s) refl
-      where
-        y : Nexts es m v (edge_to es (r - 1) + 1) s
-        y = next-again k x pos e again
-
-        f : leaving (edges_of es m) v ≡ edge_at es (r - 1) ∷ out_from (edges_of es m) v (edge_to es (r - 1) + 1)
-        f = sym (leaving-from (edges_of es m) v) ∙ next-some k x pos
-
-        go : (b : Bool) → ltb 0 s ≡ b → b ≡ ltb 1 (length (leaving (edges_of es m) v))
-        go true z = sym (lt-ltb 1 (length (leaving (edges_of es m) v)) (let u = ap length f in let q = ap length (next-some k y (ltb-true 0 s z)) in omega arith))
-        go false z = sym (le-ltb 1 (length (leaving (edges_of es m) v)) (let u = ap length f in let q = ap length (next-none k y (ltb-false 0 s z)) in omega arith))
+      go : (xs : List ℕ) (r : Option ℕ) → Yields Steps s xs t → Steps t r u → MatchOption r (length xs ≤ 1) (λ _. length xs ≡ 1) → is_some r ≡ ltb 1 (length (leaving (edges_of es m) v))
+      go [] None y w n = fork-none (rw (b.first, ee) at (turned slots b.over (rw (← y) at w)).next)
+      go [] (Some j) y w n = absurd (omega arith)
+      go (x ∷ []) r (j, z, y) w n =
+          let f = turned slots b.over z in
+          let h = turned slots f.over (rw (← y) at w) in
+          fork-is (rw (b.first, ee) at f.next) (rw ee at f.behind) (rw ee at h.next)
+      go (x ∷ x' ∷ xs) None y w n = absurd (omega arith)
+      go (x ∷ x' ∷ xs) (Some j) y w n = absurd (omega arith)

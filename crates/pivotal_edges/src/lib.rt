@@ -14,8 +14,8 @@ ghost use Rattle.pivotal_edges.specs.Queues.{QueuesOne, OneQueued, Queues, Queue
 ghost use Rattle.pivotal_edges.specs.Marks.{Marks, Marked};
 ghost use Rattle.pivotal_edges.specs.Turns.{Pivots, Pivoted};
 
-use assembly::{edge_from, edge_is_ref, edge_support, edge_to, wide};
-use out_edges::next_out;
+use assembly::{edge_from, edge_is_ref, edge_support, edge_to};
+use out_edges::Graph;
 
 // A queued edge is one number: its distance from the source 8192 times, and its number.
 const LEVEL: usize = 8192;
@@ -23,13 +23,13 @@ const LEVEL: usize = 8192;
 fn level_of(x: u32) -> usize
     ensures { result ≡ x / 8192 }
 {
-    wide(x) / LEVEL
+    x as usize / LEVEL
 }
 
 fn edge_of(x: u32) -> usize
     ensures { result ≡ x % 8192 }
 {
-    wide(x) % LEVEL
+    x as usize % LEVEL
 }
 
 // The queued edge a comes before b: by distance, then by ends.
@@ -37,25 +37,11 @@ fn earlier(edges: &[u32], a: u32, b: u32) -> bool
     requires { Fits edges.now a × Fits edges.now b }
     ensures { result ≡ before edges.now a b }
 {
-    let la = level_of(a);
-    let lb = level_of(b);
-    if la < lb {
-        return true;
-    }
-    if lb < la {
-        return false;
-    }
     let i = edge_of(a);
     let j = edge_of(b);
-    let fa = edge_from(edges, i);
-    let fb = edge_from(edges, j);
-    if fa < fb {
-        return true;
-    }
-    if fb < fa {
-        return false;
-    }
-    edge_to(edges, i) < edge_to(edges, j)
+    let x = (level_of(a), edge_from(edges, i), edge_to(edges, i));
+    let y = (level_of(b), edge_from(edges, j), edge_to(edges, j));
+    x < y
 }
 
 // Where x goes among the entries from front to tail: before the first that does not come earlier.
@@ -63,33 +49,15 @@ fn place(edges: &[u32], queue: &[u32], front: usize, tail: usize, x: u32) -> usi
     requires { Known edges.now queue.now front tail x }
     ensures { Placed edges.now queue.now front tail x result }
 {
-    let mut p = front;
-    while p < tail {
+    for p in front..tail {
         if !earlier(edges, queue[p], x) {
             return p;
         }
-        p += 1;
     }
-    p
+    tail
 }
 
-// x goes to place p, and the entries from there to tail move up by one.
-fn put_at(queue: &mut [u32], p: usize, tail: usize, x: u32)
-    requires { (p ≤ tail) × (tail < length queue.old) }
-    ensures { queue.new ≡ sets queue.old p (x ∷ part queue.old p tail) }
-{
-    let mut i = p;
-    let mut carry = x;
-    while i < tail {
-        let y = queue[i];
-        queue[i] = carry;
-        carry = y;
-        i += 1;
-    }
-    queue[i] = carry;
-}
-
-// The entry x joins those from front to tail.
+// The entry x joins those from front to tail: it goes to its place, and the entries from there on move up by one.
 fn enqueue(edges: &[u32], queue: &mut [u32], front: usize, tail: usize, x: u32)
     requires { Known edges.now queue.old front tail x × (tail < length queue.old) }
     ensures { Enqueued edges.now queue.old queue.new front tail x }
@@ -98,17 +66,21 @@ fn enqueue(edges: &[u32], queue: &mut [u32], front: usize, tail: usize, x: u32)
     put_at(queue, p, tail, x);
 }
 
-// Two edges or more leave v.
-fn forks(vertices: &[u32], edges: &[u32], m: usize, v: usize) -> bool
-    requires { Here vertices.now edges.now m v }
-    ensures { result ≡ ltb 1 (length (leaving (edges_of edges.now m) v)) }
+// x goes to place p, and the entries from there to tail move up by one.
+fn put_at(queue: &mut [u32], p: usize, tail: usize, x: u32)
+    requires { (p ≤ tail) × (tail < length queue.old) }
+    ensures { queue.new ≡ sets queue.old p (x ∷ part queue.old p tail) }
 {
-    let r = next_out(vertices, edges, v, 0);
-    if r == 0 {
-        return false;
-    }
-    let s = next_out(vertices, edges, v, edge_to(edges, r - 1) + 1);
-    s > 0
+    queue.copy_within(p..tail, p + 1);
+    queue[p] = x;
+}
+
+// Two edges or more leave v.
+fn forks(graph: Graph, v: usize) -> bool
+    requires { Here graph.vertices.now graph.edges.now graph.count v }
+    ensures { result ≡ ltb 1 (length (leaving (edges_of graph.entry.edges.now graph.entry.count) v)) }
+{
+    graph.out_edges(v).nth(1).is_some()
 }
 
 // Edge i is no reference edge of support 1.
@@ -116,10 +88,7 @@ fn counted(edges: &[u32], i: usize) -> bool
     requires { HasEdge edges.now i }
     ensures { result ≡ counts (edge_at edges.now i) }
 {
-    if edge_support(edges, i) == 1 {
-        return !edge_is_ref(edges, i);
-    }
-    true
+    edge_support(edges, i) != 1 || !edge_is_ref(edges, i)
 }
 
 // Edge i of a fork is listed, unless it is visited or a reference edge of support 1.
@@ -127,10 +96,7 @@ fn list_edge(edges: &[u32], i: usize, visited: &[u32], out: &mut [u32], n: usize
     requires { (HasEdge edges.now i) × (i < length visited.now) × (i < 8192) × (takes edges.now visited.now i ≡ true → n < length out.old) }
     ensures { OneListed edges.now visited.now out.old out.new i n result }
 {
-    if visited[i] != 0 {
-        return n;
-    }
-    if !counted(edges, i) {
+    if visited[i] != 0 || !counted(edges, i) {
         return n;
     }
     out[n] = i as u32;
@@ -138,36 +104,23 @@ fn list_edge(edges: &[u32], i: usize, visited: &[u32], out: &mut [u32], n: usize
 }
 
 // The pivotal edges that leave v go behind the n found so far.
-fn list_out(
-    vertices: &[u32],
-    edges: &[u32],
-    m: usize,
-    v: usize,
-    visited: &[u32],
-    out: &mut [u32],
-    n: usize,
-) -> usize
-    requires { Lists vertices.now edges.now m v visited.now out.old n }
-    ensures { (vis : List Ends) → Seen edges.now m visited.now vis → Listed edges.now m out.old out.new n result (pivotal_of (leaving (edges_of edges.now m) v) (fresh vis (leaving (edges_of edges.now m) v))) }
+fn list_out(graph: Graph, v: usize, visited: &[u32], out: &mut [u32], n: usize) -> usize
+    requires { Lists graph.vertices.now graph.edges.now graph.count v visited.now out.old n }
+    ensures { (vis : List Ends) → Seen graph.entry.edges.now graph.entry.count visited.now vis → Listed graph.entry.edges.now graph.entry.count out.old out.new n result (pivotal_of (leaving (edges_of graph.entry.edges.now graph.entry.count) v) (fresh vis (leaving (edges_of graph.entry.edges.now graph.entry.count) v))) }
 {
-    if !forks(vertices, edges, m, v) {
+    if !forks(graph, v) {
         return n;
     }
     let mut found = n;
-    let mut t: usize = 0;
-    let mut r = next_out(vertices, edges, v, t);
-    while r > 0 {
-        found = list_edge(edges, r - 1, visited, out, found);
-        t = edge_to(edges, r - 1) + 1;
-        r = next_out(vertices, edges, v, t);
+    for i in graph.out_edges(v) {
+        found = list_edge(graph.edges, i, visited, out, found);
     }
     found
 }
 
 // Edge i is queued at that distance, unless it is visited.
 fn queue_edge(
-    edges: &[u32],
-    m: usize,
+    graph: Graph,
     visited: &[u32],
     queue: &mut [u32],
     front: usize,
@@ -175,22 +128,20 @@ fn queue_edge(
     level: usize,
     i: usize,
 ) -> usize
-    requires { QueuesOne edges.now m visited.now queue.old front tail level i }
-    ensures { OneQueued edges.now visited.now queue.old queue.new front tail level i result }
+    requires { QueuesOne graph.edges.now graph.count visited.now queue.old front tail level i }
+    ensures { OneQueued graph.entry.edges.now visited.now queue.old queue.new front tail level i result }
 {
     if visited[i] != 0 {
         return tail;
     }
     let x = (level * LEVEL + i) as u32;
-    enqueue(edges, queue, front, tail, x);
+    enqueue(graph.edges, queue, front, tail, x);
     tail + 1
 }
 
 // The edges that leave v and are not visited are queued at that distance.
 fn queue_out(
-    vertices: &[u32],
-    edges: &[u32],
-    m: usize,
+    graph: Graph,
     v: usize,
     level: usize,
     visited: &[u32],
@@ -198,66 +149,48 @@ fn queue_out(
     front: usize,
     tail: usize,
 ) -> usize
-    requires { Queues vertices.now edges.now m v level visited.now queue.old front tail }
-    ensures { (vis : List Ends) → Seen edges.now m visited.now vis → QueuedOut edges.now m v level vis queue.old queue.new front tail result }
+    requires { Queues graph.vertices.now graph.edges.now graph.count v level visited.now queue.old front tail }
+    ensures { (vis : List Ends) → Seen graph.entry.edges.now graph.entry.count visited.now vis → QueuedOut graph.entry.edges.now graph.entry.count v level vis queue.old queue.new front tail result }
 {
     let mut end = tail;
-    let mut t: usize = 0;
-    let mut r = next_out(vertices, edges, v, t);
-    while r > 0 {
-        end = queue_edge(edges, m, visited, queue, front, end, level, r - 1);
-        t = edge_to(edges, r - 1) + 1;
-        r = next_out(vertices, edges, v, t);
+    for i in graph.out_edges(v) {
+        end = queue_edge(graph, visited, queue, front, end, level, i);
     }
     end
 }
 
 // The edges that leave v are visited.
-fn mark_out(vertices: &[u32], edges: &[u32], m: usize, v: usize, visited: &mut [u32])
-    requires { Marks vertices.now edges.now m v visited.old }
-    ensures { Marked edges.now m v visited.old visited.new }
+fn mark_out(graph: Graph, v: usize, visited: &mut [u32])
+    requires { Marks graph.vertices.now graph.edges.now graph.count v visited.old }
+    ensures { Marked graph.entry.edges.now graph.entry.count v visited.old visited.new }
 {
-    let mut t: usize = 0;
-    let mut r = next_out(vertices, edges, v, t);
-    while r > 0 {
-        visited[r - 1] = 1;
-        t = edge_to(edges, r - 1) + 1;
-        r = next_out(vertices, edges, v, t);
+    for i in graph.out_edges(v) {
+        visited[i] = 1;
     }
 }
 
 // The numbers of the pivotal edges, in order, in the first places of `out`: how many. An edge is queued at most once after the source's own.
+// The queue and the list lie in lent memory with their places beside them, as a rule of the project asks: no heap.
 pub fn create_pivotal_edges_in_topological_order(
-    vertices: &[u32],
-    edges: &[u32],
-    m: usize,
+    graph: Graph,
     queue: &mut [u32],
     visited: &mut [u32],
     out: &mut [u32],
 ) -> usize
-    requires { Pivots vertices.now edges.now m queue.old visited.old out.old }
-    ensures { Pivoted edges.now m queue.old visited.old out.old queue.new visited.new out.new result }
+    requires { Pivots graph.vertices.now graph.edges.now graph.count queue.old visited.old out.old }
+    ensures { Pivoted graph.entry.edges.now graph.entry.count queue.old visited.old out.old queue.new visited.new out.new result }
 {
-    let mut tail = queue_out(vertices, edges, m, 0, 0, visited, queue, 0, 0);
+    let mut tail = queue_out(graph, 0, 0, visited, queue, 0, 0);
     let mut front: usize = 0;
     let mut found: usize = 0;
+    // The entries wait in a lent slice, and each turn moves both ends.
     while front < tail {
         let x = queue[front];
-        let v = edge_to(edges, edge_of(x));
+        let v = edge_to(graph.edges, edge_of(x));
         let level = level_of(x) + 1;
-        found = list_out(vertices, edges, m, v, visited, out, found);
-        tail = queue_out(
-            vertices,
-            edges,
-            m,
-            v,
-            level,
-            visited,
-            queue,
-            front + 1,
-            tail,
-        );
-        mark_out(vertices, edges, m, v, visited);
+        found = list_out(graph, v, visited, out, found);
+        tail = queue_out(graph, v, level, visited, queue, front + 1, tail);
+        mark_out(graph, v, visited);
         front += 1;
     }
     found

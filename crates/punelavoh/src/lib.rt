@@ -14,11 +14,12 @@ ghost use Rattle.punelavoh.specs.Records.{ColumnsFit, Cleared, ListCalled};
 use graph_call::GraphAnswer;
 use graph_rows::clear;
 use limits::{GraphMaxima, SearchMaxima};
-use list_call::{clear_scores, list_columns};
-use list_interface::{ListAnswer, Settings};
+use list_call::list_columns;
+use list_interface::{Input, ListAnswer, Settings};
 use origins::OriginAnswer;
 use path_rows::PathRow;
 use row_counts::{columns_told, rows_told};
+use samples::{Sample, Text};
 use slice_lengths::LengthsTold;
 
 // ---- the call for the list; its rows are made in columns, which are workspace
@@ -35,9 +36,9 @@ fn clear_columns(
     ensures { Cleared (columns_told r.refusal settings.asked) row_scores.old row_scores.new row_closings.old row_closings.new row_edges.old row_edges.new }
 {
     let n = columns_told(settings, r);
-    clear_scores(row_scores, n);
-    clear(row_closings, n);
-    clear(row_edges, n);
+    clear(row_scores, n, 0.0);
+    clear(row_closings, n, 0);
+    clear(row_edges, n, 0);
 }
 
 // ---- the calls
@@ -62,9 +63,15 @@ pub fn punelavoh_graph(
     ensures { let sample = sample_of k quality reference.now ends.now bases.now qualities.now in
         Graphed sample (graph_maxima_of maxima) result edges.old edges.new nodes.old nodes.new w_vertices.old w_vertices.new w_edges.old w_edges.new w_index.old w_index.new w_nodes.old w_nodes.new w_open.old w_open.new }
 {
+    let sample = Sample {
+        k,
+        quality,
+        text: Text { reference, bases },
+        ends,
+        qualities,
+    };
     graph_call::graph(
-        k, quality, reference, ends, bases, qualities, maxima, edges, nodes, w_vertices, w_edges,
-        w_index, w_nodes, w_open,
+        sample, maxima, edges, nodes, w_vertices, w_edges, w_index, w_nodes, w_open,
     )
 }
 
@@ -92,7 +99,7 @@ pub fn punelavoh_origin(
     ensures { Names k reference.now ends.now bases.now (origin sequence place)
         (origin_call k reference.now ends.now bases.now (origin sequence place)) result }
 {
-    origins::origin_part(k, reference, ends, bases, sequence, place)
+    origins::origin_part(k, Text { reference, bases }, ends, sequence, place)
 }
 
 // Writes the list. Its rows are first made in three columns, which are cleared like the rest of the workspace.
@@ -131,15 +138,17 @@ pub fn punelavoh_list(
         let left = tables_of w_vertices.new w_edges.new w_index.new w_nodes.new w_targets.new w_paths.new w_scores.new w_active.new w_queue.new w_closed.new w_order.new w_marks.new w_walks.new in
         ListCalled input result rows.old rows.new outputs written tables left }
 {
-    let lent = rows.len();
-    let r = list_columns(
+    let input = Input {
         settings,
-        lent,
-        reference,
+        text: Text { reference, bases },
         ends,
-        bases,
         qualities,
         column,
+    };
+    let lent = rows.len();
+    let r = list_columns(
+        input,
+        lent,
         row_scores,
         row_closings,
         row_edges,

@@ -1,17 +1,17 @@
 -- A run, a read and all reads: what each call asks, and the loops that keep "what is left of the threading from here is the whole". Assumes nothing.
-use Rattle.std.specs.Prelude.{◌≡◌, refl, ◌⊎◌, Bool, true, false, List, [], ◌∷◌, ◌++◌, ℕ, zero, suc, ◌+◌, ◌-◌, ◌*◌, ◌<◌, ◌≤◌, length, get_or, take, drop}
+use Rattle.std.specs.Prelude.{◌≡◌, refl, ◌⊎◌, Bool, true, false, Result, Ok, Err, List, [], ◌∷◌, ◌++◌, ℕ, zero, suc, ◌+◌, ◌-◌, ◌*◌, ◌<◌, ◌≤◌, length, get_or, take, drop}
 use Rattle.std.proofs.Common.{sym, ap, ◌∙◌, inl, inr, arith, length-append, length-drop, length-take-le}
 use Rattle.std.proofs.Math.Option.{Option, none, some}
 use Rattle.std.proofs.Math.Seq.{drop-append-add, drop-length}
 use Rattle.laws.specs.Lists.{last_or, sole}
 use Rattle.usable_stretches.specs.Ahead.{from-nil, from_cons, NextEnd, next-end, later, run_inside, run-base}
-use Rattle.definition.specs.Limits.{is_base, rising}
+use Rattle.definition.specs.Limits.{Sample, is_base, rising}
 use Rattle.definition.specs.Stretch.{Stretch, usable, runs, stretches_from, kmers}
 use Rattle.definition.specs.Threading.{Edge, Graph, entering, one_step, put, backward, number_of, start_at, steps, thread_kmers, thread, thread_all}
 use Rattle.kmer_threading.specs.declared.Most.{Most}
 use Rattle.kmer_threading.specs.declared.At.{At}
-use Rattle.kmer_threading.specs.declared.Step.{Step}
-use Rattle.kmer_threading.specs.declared.Step.TheVariants.{Next, Refused}
+use Rattle.refusals.specs.declared.Refusal.{Refusal}
+use Rattle.refusals.specs.Numbers.{number}
 use Rattle.assembly.specs.Store.{graph_of}
 use Rattle.assembly.specs.Kmers.{with-grows}
 use Rattle.kmer_threading.specs.Steps.{Fine}
@@ -109,7 +109,7 @@ module _ {k : ℕ} {text vs es : List ℕ} {most : Most} {s : At} {a len pl : �
         steps = omega arith;
       }
 
-  pub run-skip : (sq : ℕ) → len < k → Threaded k text vs es most (s.steps + 2 * len) (Next s) (thread_run k (stretch_at text a len sq pl) (graph_of k text vs s.vertices es s.edges))
+  pub run-skip : (sq : ℕ) → len < k → Threaded k text vs es most (s.steps + 2 * len) (Ok s) (thread_run k (stretch_at text a len sq pl) (graph_of k text vs s.vertices es s.edges))
   run-skip sq l =
       record {
         counted = omega arith;
@@ -117,13 +117,13 @@ module _ {k : ℕ} {text vs es : List ℕ} {most : Most} {s : At} {a len pl : �
         fine = x.fine;
       }
 
-  pub run-done : (sq : ℕ) → k ≤ len → (vs' es' : List ℕ) (r : Step)
+  pub run-done : (sq : ℕ) → k ≤ len → (vs' es' : List ℕ) (r : Result At Refusal)
       → Threaded k text vs' es' most (s.steps + k + len) r (thread false k (stretch_at text a len sq pl) (graph_of k text vs s.vertices es s.edges))
       → Threaded k text vs' es' most (s.steps + 2 * len) r (thread_run k (stretch_at text a len sq pl) (graph_of k text vs s.vertices es s.edges))
-  run-done sq l vs' es' (Next t) c =
+  run-done sq l vs' es' (Ok t) c =
       rw (run_long k (stretch_at text a len sq pl) (graph_of k text vs s.vertices es s.edges) (rw bytes l))
       (record { counted = (let z = c.counted in omega arith); is = c.is; fine = c.fine })
-  run-done sq l vs' es' (Refused n) c = rw (run_long k (stretch_at text a len sq pl) (graph_of k text vs s.vertices es s.edges) (rw bytes l)) c
+  run-done sq l vs' es' (Err n) c = rw (run_long k (stretch_at text a len sq pl) (graph_of k text vs s.vertices es s.edges) (rw bytes l)) c
 
 -- ---- a read, from `start` to e of the bases
 pub record ReadThreads (k : ℕ) (reference bases quals vs es : List ℕ) (most : Most) (s : At) (start e : ℕ) : Type 0 where
@@ -172,7 +172,7 @@ module _ {k : ℕ} {reference bases quals vs₁ es₁ : List ℕ} {most : Most} 
       }
 
   module _ {vs es : List ℕ} {s : At} {p : ℕ} (b : ReadLeft k least reference bases quals most sq start e vs₁ es₁ s₁ vs es s p) where
-    pub read-end : e ≤ p → Threaded k (reference ++ bases) vs es most (2 * (length reference + e)) (Next s) whole
+    pub read-end : e ≤ p → Threaded k (reference ++ bases) vs es most (2 * (length reference + e)) (Ok s) whole
     read-end h =
         record {
           counted = b.capped;
@@ -206,7 +206,7 @@ module _ {k : ℕ} {reference bases quals vs₁ es₁ : List ℕ} {most : Most} 
           ∙ sym (thread-ahead (usable least) sq start e bases quals x.in_b x.in-q k p q x.some b.from l r (graph_of k (reference ++ bases) vs s.vertices es s.edges))
           ∙ b.run
 
-      pub read_next : (vs' es' : List ℕ) (s' : At) (a : Step) → Threaded k (reference ++ bases) vs' es' most (s.steps + 2 * (q - p)) a after → a ≡ Next s' → length vs' ≡ length vs → length es' ≡ length es
+      pub read_next : (vs' es' : List ℕ) (s' : At) (a : Result At Refusal) → Threaded k (reference ++ bases) vs' es' most (s.steps + 2 * (q - p)) a after → a ≡ Ok s' → length vs' ≡ length vs → length es' ≡ length es
           → ReadLeft k least reference bases quals most sq start e vs₁ es₁ s₁ vs' es' s' (q + 1)
       read_next vs' es' s' a c d lv le =
           let u : CameG k (reference ++ bases) vs' es' most s' (s.steps + 2 * (q - p)) after = rw d at c in
@@ -225,10 +225,10 @@ module _ {k : ℕ} {reference bases quals vs₁ es₁ : List ℕ} {most : Most} 
             run = rw u.is turn;
           }
 
-      pub read-stop : (vs' es' : List ℕ) (n : ℕ) (a : Step) (c' : ℕ) → Threaded k (reference ++ bases) vs' es' most (s.steps + 2 * (q - p)) a after → a ≡ Refused n → Threaded k (reference ++ bases) vs' es' most c' a whole
+      pub read-stop : (vs' es' : List ℕ) (n : Refusal) (a : Result At Refusal) (c' : ℕ) → Threaded k (reference ++ bases) vs' es' most (s.steps + 2 * (q - p)) a after → a ≡ Err n → Threaded k (reference ++ bases) vs' es' most c' a whole
       read-stop vs' es' n a c' c d =
-          let o : OverG most n after = rw d at c in
-          rw d (over-on most n after whole (rw (← turn) (all-grow k (long_of k (runs_at (usable least) sq start e bases quals (q + 1))) after)) o)
+          let o : OverG most (number n) after = rw d at c in
+          rw d (over-on most (number n) after whole (rw (← turn) (all-grow k (long_of k (runs_at (usable least) sq start e bases quals (q + 1))) after)) o)
 
 -- ---- all reads
 pub record ReadsThread (k : ℕ) (reference ends bases quals vs es : List ℕ) (most : Most) (s : At) : Type 0 where
@@ -265,7 +265,7 @@ module _ {k : ℕ} {reference ends bases quals vs₁ es₁ : List ℕ} {most : M
       record { within = omega arith; rises = x.rises; last = x.last; counted = (let z = x.steps in omega arith); same-v = refl; same-e = refl; fine = x.fine; run = refl }
 
   module _ {vs es : List ℕ} {s : At} {start j : ℕ} (b : ReadsLeft k least reference ends bases quals most vs₁ es₁ s₁ vs es s start j) where
-    pub reads_end : length ends ≤ j → Threaded k (reference ++ bases) vs es most (2 * length (reference ++ bases)) (Next s) all_of
+    pub reads_end : length ends ≤ j → Threaded k (reference ++ bases) vs es most (2 * length (reference ++ bases)) (Ok s) all_of
     reads_end h =
         let e : drop j ends ≡ [] = (let z : j ≡ length ends = (let y = b.within in omega arith) in rw z (drop-length ends)) in
         record {
@@ -304,7 +304,7 @@ module _ {k : ℕ} {reference ends bases quals vs₁ es₁ : List ℕ} {most : M
           ∙ ap (λ (l : List Stretch). thread_all k l (graph_of k (reference ++ bases) vs s.vertices es s.edges)) (sym (from_cons (usable least) k (j + 1) start e (drop (j + 1) ends) (drop start bases) (drop start quals)))
           ∙ (rw next.split at b.run))
 
-      pub reads-next : (vs' es' : List ℕ) (s' : At) (a : Step) → Threaded k (reference ++ bases) vs' es' most (2 * (length reference + e)) a read → a ≡ Next s' → length vs' ≡ length vs → length es' ≡ length es
+      pub reads-next : (vs' es' : List ℕ) (s' : At) (a : Result At Refusal) → Threaded k (reference ++ bases) vs' es' most (2 * (length reference + e)) a read → a ≡ Ok s' → length vs' ≡ length vs → length es' ≡ length es
           → ReadsLeft k least reference ends bases quals most vs₁ es₁ s₁ vs' es' s' e (j + 1)
       reads-next vs' es' s' a c d lv le =
           let u : CameG k (reference ++ bases) vs' es' most s' (2 * (length reference + e)) read = rw d at c in
@@ -319,8 +319,21 @@ module _ {k : ℕ} {reference ends bases quals vs₁ es₁ : List ℕ} {most : M
             run = rw u.is onward;
           }
 
-      pub reads-stop : (vs' es' : List ℕ) (n : ℕ) (a : Step) (c' : ℕ) → Threaded k (reference ++ bases) vs' es' most (2 * (length reference + e)) a read → a ≡ Refused n
+      pub reads-stop : (vs' es' : List ℕ) (n : Refusal) (a : Result At Refusal) (c' : ℕ) → Threaded k (reference ++ bases) vs' es' most (2 * (length reference + e)) a read → a ≡ Err n
           → Threaded k (reference ++ bases) vs' es' most c' a all_of
       reads-stop vs' es' n a c' c d =
-          let o : OverG most n read = rw d at c in
-          rw d (over-on most n read all_of (rw (← onward) (all-grow k (stretches_from (usable least) k (j + 1 + 1) e (drop (j + 1) ends) (drop e bases) (drop e quals)) read)) o)
+          let o : OverG most (number n) read = rw d at c in
+          rw d (over-on most (number n) read all_of (rw (← onward) (all-grow k (stretches_from (usable least) k (j + 1 + 1) e (drop (j + 1) ends) (drop e bases) (drop e quals)) read)) o)
+
+-- ---- the same of a whole sample
+abbrev pub read_in : Sample → ℕ → ℕ → ℕ → List Stretch
+read_in i sq start e = read_of i.k i.quality i.bases i.qualities sq start e
+
+abbrev pub reads_in : Sample → List Stretch
+reads_in i = reads_of i.k i.quality i.ends i.bases i.qualities
+
+abbrev pub ReadOf : Sample → List ℕ → List ℕ → Most → At → ℕ → ℕ → Type 0
+ReadOf i vs es most s start e = ReadThreads i.k i.reference i.bases i.qualities vs es most s start e
+
+abbrev pub ReadsOf : Sample → List ℕ → List ℕ → Most → At → Type 0
+ReadsOf i vs es most s = ReadsThread i.k i.reference i.ends i.bases i.qualities vs es most s

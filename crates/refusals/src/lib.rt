@@ -1,42 +1,72 @@
-// The numbers of document 01's table "What the calls return instead". Each has its name here, is told first by the crate that finds the fault, and is
-// passed up from there; `Refusal.returned` of the definition is the same table, with what the workspace is afterwards.
+// What the calls return instead, by document 01's table. Each refusal is told first by the crate that finds the fault, and is passed up from there;
+// `Refusal.returned` of the definition is the same table, with what the workspace is afterwards.
 #![tactic(auto)]
 
-// k outside limits
-pub const K: u32 = 1;
+ghost use Rattle.std.specs.Prelude.{◌≡◌};
+ghost use Rattle.refusals.specs.Numbers.{number, refusal_of};
 
-// reference length
-pub const REFERENCE_LENGTH: u32 = 2;
+#[derive(Clone, Copy, Debug, PartialEq, Eq)]
+pub enum Refusal {
+    // k outside limits
+    K,
+    // reference length
+    ReferenceLength,
+    // reference byte not A C G T N
+    ReferenceByte,
+    // read ends fall, last end (0 without reads) is not the base count, qualities differ in length, too many reads or bases
+    Reads,
+    // paths asked or a maximum outside limits
+    Maximum,
+    // column
+    Column,
+    // a lent slice shorter than told
+    ShortSlice,
+    // vertex or edge above its maximum
+    GraphSize,
+    // tree node above its maximum
+    TreeNodes,
+    // a count or total has no place in the column
+    NoPlace,
+    // a path's edges or active trees above their maximum
+    PathSize,
+    // a push beyond the maximum
+    Pushes,
+    // origin naming no sequence, or whose k+1 bytes do not fit it
+    Origin,
+    // of the program `paths`: a text or a column file that is not of its form, too long, or not read whole
+    Malformed,
+}
 
-// reference byte not A C G T N
-pub const REFERENCE_BYTE: u32 = 3;
+// The number that the table gives a refusal.
+impl From<Refusal> for u32 {
+    ghost from_gives = { λ refusal n. n ≡ number refusal };
 
-// read ends fall, last end (0 without reads) is not the base count, qualities differ in length, too many reads or bases
-pub const READS: u32 = 4;
+    fn from(refusal: Refusal) -> u32 {
+        match refusal {
+            Refusal::K => 1,
+            Refusal::ReferenceLength => 2,
+            Refusal::ReferenceByte => 3,
+            Refusal::Reads => 4,
+            Refusal::Maximum => 5,
+            Refusal::Column => 6,
+            Refusal::ShortSlice => 7,
+            Refusal::GraphSize => 8,
+            Refusal::TreeNodes => 9,
+            Refusal::NoPlace => 10,
+            Refusal::PathSize => 11,
+            Refusal::Pushes => 12,
+            Refusal::Origin => 13,
+            Refusal::Malformed => 14,
+        }
+    }
+}
 
-// paths asked or a maximum outside limits
-pub const MAXIMUM: u32 = 5;
-
-// column
-pub const COLUMN: u32 = 6;
-
-// a lent slice shorter than told
-pub const SHORT_SLICE: u32 = 7;
-
-// vertex or edge above its maximum
-pub const GRAPH_SIZE: u32 = 8;
-
-// tree node above its maximum
-pub const TREE_NODES: u32 = 9;
-
-// a count or total has no place in the column
-pub const NO_PLACE: u32 = 10;
-
-// a path's edges or active trees above their maximum
-pub const PATH_SIZE: u32 = 11;
-
-// a push beyond the maximum
-pub const PUSHES: u32 = 12;
-
-// origin naming no sequence, or whose k+1 bytes do not fit it
-pub const ORIGIN: u32 = 13;
+// The number of an answer: 0 where nothing is refused.
+pub fn refusal_of<T>(answer: &Result<T, Refusal>) -> u32
+    ensures { result ≡ refusal_of answer.now }
+{
+    match answer {
+        Ok(_) => 0,
+        Err(refusal) => u32::from(*refusal),
+    }
+}

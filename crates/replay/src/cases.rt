@@ -2,6 +2,7 @@
 use crate::lists::list_agrees_over;
 use known_answers::calls::{graph_agrees, lengths_agree, origin_agrees};
 use known_answers::numbers::{field, list_at, low_byte, unpack};
+use samples::{Sample, Text};
 
 #[derive(Clone, Copy)]
 pub struct Total {
@@ -19,118 +20,86 @@ fn counted(rt: &impl Print, total: Total, agrees: bool) -> Total {
     if agrees {
         return Total {
             passed: total.passed.wrapping_add(1),
-            failed: total.failed,
+            ..total
         };
     }
     report(rt, total);
     Total {
-        passed: total.passed,
         failed: total.failed.wrapping_add(1),
+        ..total
     }
 }
 
 // A call's first number is its kind.
-fn replay_call<'a>(
-    call: &[u32],
-    k: u32,
-    quality: u8,
-    reference: &'a [u8],
-    ends: &[u32],
-    bases: &'a [u8],
-    qualities: &[u8],
-    log10: &[f64],
-) -> bool {
-    let kind = field(call, 0);
-    match kind {
-        1 => graph_agrees(call, k, quality, reference, ends, bases, qualities),
-        2 => origin_agrees(call, k, reference, ends, bases),
+fn replay_call(call: &[u32], sample: Sample, log10: &[f64]) -> bool {
+    match field(call, 0) {
+        1 => graph_agrees(call, sample),
+        2 => origin_agrees(call, sample.k, sample.text, sample.ends),
         3 => lengths_agree(call),
-        4 => list_agrees_over(call, k, quality, reference, ends, bases, qualities, log10),
+        4 => list_agrees_over(call, sample, log10),
         _ => false,
     }
 }
 
 // All calls of a case, the lists from a place on.
-fn replay_calls<'a>(
+fn replay_calls(
     rt: &impl Print,
     case: &[u32],
     place: usize,
-    k: u32,
-    quality: u8,
-    reference: &'a [u8],
-    ends: &[u32],
-    bases: &'a [u8],
-    qualities: &[u8],
+    sample: Sample,
     log10: &[f64],
     total: Total,
 ) -> Total {
     let mut sum = total;
     let mut at = place;
+    // Each turn steps over a list as long as its first number says, so no `for` counts them.
     while at < case.len() {
         let call = list_at(case, at);
-        let start = call.start;
-        let end = call.end;
-        let agrees = replay_call(
-            &case[start..end],
-            k,
-            quality,
-            reference,
-            ends,
-            bases,
-            qualities,
-            log10,
-        );
+        let agrees = replay_call(&case[call.start..call.end], sample, log10);
         sum = counted(rt, sum, agrees);
-        at = end;
+        at = call.end;
     }
     sum
 }
 
 // The lists from a place on: where reads end, bases, qualities; then the calls.
-fn replay_reads(
+fn replay_reads<'a>(
     rt: &impl Print,
-    case: &[u32],
+    case: &'a [u32],
     place: usize,
-    reference: &[u8],
+    reference: &'a [u8],
     log10: &[f64],
     total: Total,
 ) -> Total {
     let mut bases = [0u8; 40960];
     let mut qualities = [0u8; 40960];
-    let part = list_at(case, place);
-    let a = part.start;
-    let b = part.end;
-    let part = list_at(case, b);
-    let c = part.start;
-    let d = part.end;
-    let base_count = unpack(&case[c..d], &mut bases);
-    let part = list_at(case, d);
-    let e = part.start;
-    let f = part.end;
-    let quality_count = unpack(&case[e..f], &mut qualities);
-    replay_calls(
-        rt,
-        case,
-        f,
-        field(case, 0),
-        low_byte(field(case, 1)),
-        reference,
-        &case[a..b],
-        &bases[0..base_count],
-        &qualities[0..quality_count],
-        log10,
-        total,
-    )
+    let ends_told = list_at(case, place);
+    let bases_told = list_at(case, ends_told.end);
+    let qualities_told = list_at(case, bases_told.end);
+    let base_count = unpack(&case[bases_told.start..bases_told.end], &mut bases);
+    let quality_count = unpack(
+        &case[qualities_told.start..qualities_told.end],
+        &mut qualities,
+    );
+    let sample = Sample {
+        k: field(case, 0),
+        quality: low_byte(field(case, 1)),
+        text: Text {
+            reference,
+            bases: &bases[..base_count],
+        },
+        ends: &case[ends_told.start..ends_told.end],
+        qualities: &qualities[..quality_count],
+    };
+    replay_calls(rt, case, qualities_told.end, sample, log10, total)
 }
 
 // A case: k, the minimum quality, the reference as a list, the reads and the calls.
 fn replay_case(rt: &impl Print, case: &[u32], log10: &[f64], total: Total) -> Total {
     let mut reference = [0u8; 2048];
-    let part = list_at(case, 2);
-    let a = part.start;
-    let b = part.end;
-    let length = unpack(&case[a..b], &mut reference);
-    replay_reads(rt, case, b, &reference[0..length], log10, total)
+    let told = list_at(case, 2);
+    let length = unpack(&case[told.start..told.end], &mut reference);
+    replay_reads(rt, case, told.end, &reference[..length], log10, total)
 }
 
 // All cases, the lists of the data.
@@ -140,12 +109,11 @@ pub fn replay(rt: &impl Print, numbers: &[u32], log10: &[f64]) -> Total {
         failed: 0,
     };
     let mut at: usize = 0;
+    // Likewise: a list a turn.
     while at < numbers.len() {
         let case = list_at(numbers, at);
-        let start = case.start;
-        let end = case.end;
-        total = replay_case(rt, &numbers[start..end], log10, total);
-        at = end;
+        total = replay_case(rt, &numbers[case.start..case.end], log10, total);
+        at = case.end;
     }
     total
 }

@@ -2,28 +2,26 @@
 ghost use Rattle.std.specs.Prelude.{◌≤◌};
 ghost use Rattle.replay.specs.Lengths.{Fits};
 
-use agreement::agree::{LENT, LENT_BYTE, LENT_SLOT, left, slots_left};
-use agreement::scores::{LENT_BITS, scores_left};
+use agreement::agree::{LENT, LENT_BYTE, LENT_SLOT, left};
 use known_answers::calls::{graph_maxima, lent, value_left};
 use known_answers::column::read_entries;
-use known_answers::numbers::{behind, field, least, list_at, signed, wide};
+use known_answers::numbers::{behind, field, list_at};
 use known_answers::rows::{bases_agree, columns_agree, origins_agree};
 use limits::SearchMaxima;
 use list_call::list_columns;
-use list_interface::{ListAnswer, Settings};
+use list_interface::{Input, ListAnswer, Settings};
 use list_lent::Lent;
+use samples::Sample;
 
 // ---- what is handed in: paths, threshold, recovery, maxima, which slice is short, the column
 
 // A maximum that the limits allow is cut to what the arrays have room for: an answer that stays below it is the same.
 fn cut(maximum: u32, limit: u32, room: u32) -> u32 {
     if maximum > limit {
-        return maximum;
+        maximum
+    } else {
+        maximum.min(room)
     }
-    if maximum > room {
-        return room;
-    }
-    maximum
 }
 
 fn search_maxima_cut(call: &[u32]) -> SearchMaxima {
@@ -35,24 +33,20 @@ fn search_maxima_cut(call: &[u32]) -> SearchMaxima {
 }
 
 fn list_settings(call: &[u32], k: u32, quality: u8) -> Settings {
-    let graph = graph_maxima(call, 4);
-    let search = search_maxima_cut(call);
     Settings {
-        k: k,
-        quality: quality,
+        k,
+        quality,
         asked: field(call, 1),
-        threshold: signed(field(call, 2)),
+        threshold: field(call, 2).cast_signed(),
         recovery: field(call, 3) == 1,
-        graph: graph,
-        search: search,
+        graph: graph_maxima(call, 4),
+        search: search_maxima_cut(call),
     }
 }
 
 // The lengths told for a call.
 fn lengths_told(a: Settings) -> Lent {
-    let g = a.graph;
-    let s = a.search;
-    let told = slice_lengths::lengths(a.k, a.asked, g, s);
+    let told = slice_lengths::lengths(a.k, a.asked, a.graph, a.search);
     let w = told.workspace;
     Lent {
         rows: told.paths,
@@ -110,16 +104,11 @@ fn lengths_lent(told: Lent, short: u32) -> Lent
 
 // The mark lies from the longest waiting list to the pushes.
 fn list_answered(told: &[u32], answer: ListAnswer) -> bool {
-    if answer.refusal != field(told, 0) {
-        return false;
-    }
-    if answer.paths != field(told, 1) {
-        return false;
-    }
-    if answer.pushes != field(told, 2) {
-        return false;
-    }
-    field(told, 3) <= answer.mark && answer.mark <= answer.pushes
+    answer.refusal == field(told, 0)
+        && answer.paths == field(told, 1)
+        && answer.pushes == field(told, 2)
+        && field(told, 3) <= answer.mark
+        && answer.mark <= answer.pushes
 }
 
 fn outputs_agree(
@@ -133,21 +122,15 @@ fn outputs_agree(
     places: &[u32],
 ) -> bool {
     let rows = behind(told, 4);
-    let s = a.search;
-    let edges = wide(s.path_edges);
-    if !columns_agree(
+    let edges = a.search.path_edges as usize;
+    columns_agree(
         rows,
-        wide(field(told, 1)),
+        field(told, 1) as usize,
         row_scores,
         row_closings,
         row_edges,
-    ) {
-        return false;
-    }
-    if !bases_agree(rows, wide(a.k) + edges, out_bases) {
-        return false;
-    }
-    origins_agree(rows, edges, sequences, places)
+    ) && bases_agree(rows, a.k as usize + edges, out_bases)
+        && origins_agree(rows, edges, sequences, places)
 }
 
 // The workspace of the graph and its trees.
@@ -160,20 +143,12 @@ fn graph_tables_left(
     w_nodes: &[u32],
     w_targets: &[u32],
 ) -> bool {
-    let value = value_left(refusal);
-    if !left(w_vertices, told.vertices, value) {
-        return false;
-    }
-    if !left(w_edges, told.edges, value) {
-        return false;
-    }
-    if !left(w_index, told.index, value) {
-        return false;
-    }
-    if !left(w_nodes, told.nodes, value) {
-        return false;
-    }
-    left(w_targets, told.targets, value)
+    let value = value_left::<u32>(refusal);
+    left(w_vertices, told.vertices, value)
+        && left(w_edges, told.edges, value)
+        && left(w_index, told.index, value)
+        && left(w_nodes, told.nodes, value)
+        && left(w_targets, told.targets, value)
 }
 
 // The workspace of the paths.
@@ -185,17 +160,11 @@ fn path_tables_left(
     w_active: &[u16],
     w_queue: &[u32],
 ) -> bool {
-    let value = value_left(refusal);
-    if !left(w_paths, told.paths, value) {
-        return false;
-    }
-    if !scores_left(w_scores, told.scores, score_left(refusal)) {
-        return false;
-    }
-    if !slots_left(w_active, told.active, slot_left(refusal)) {
-        return false;
-    }
-    left(w_queue, told.queue, value)
+    let value = value_left::<u32>(refusal);
+    left(w_paths, told.paths, value)
+        && left(w_scores, told.scores, value_left::<f64>(refusal))
+        && left(w_active, told.active, value_left::<u16>(refusal))
+        && left(w_queue, told.queue, value)
 }
 
 // The rest of the search's workspace.
@@ -207,49 +176,16 @@ fn search_tables_left(
     w_marks: &[u32],
     w_walks: &[u32],
 ) -> bool {
-    let value = value_left(refusal);
-    if !left(w_closed, told.closed, value) {
-        return false;
-    }
-    if !left(w_order, told.order, value) {
-        return false;
-    }
-    if !left(w_marks, told.marks, value) {
-        return false;
-    }
-    left(w_walks, told.walks, value)
-}
-
-// What a score of the workspace holds where it was told, as `value_left`.
-fn score_left(refusal: u32) -> u64 {
-    if 0 < refusal && refusal < 8 {
-        return LENT_BITS;
-    }
-    0
-}
-
-// The same of a slot.
-fn slot_left(refusal: u32) -> u16 {
-    if 0 < refusal && refusal < 8 {
-        return LENT_SLOT;
-    }
-    0
+    let value = value_left::<u32>(refusal);
+    left(w_closed, told.closed, value)
+        && left(w_order, told.order, value)
+        && left(w_marks, told.marks, value)
+        && left(w_walks, told.walks, value)
 }
 
 // Each call is made in slices of its own, so that nothing of an earlier one can help it.
-fn list_agrees(
-    call: &[u32],
-    told: &[u32],
-    short: u32,
-    k: u32,
-    quality: u8,
-    reference: &[u8],
-    ends: &[u32],
-    bases: &[u8],
-    qualities: &[u8],
-    column: &[f64],
-) -> bool {
-    let a = list_settings(call, k, quality);
+fn list_agrees(call: &[u32], told: &[u32], short: u32, sample: Sample, column: &[f64]) -> bool {
+    let a = list_settings(call, sample.k, sample.quality);
     let lengths = lengths_told(a);
     let mut row_scores = [1.5f64; 128];
     let mut row_closings = [LENT; 128];
@@ -290,14 +226,16 @@ fn list_agrees(
     let n_order = l.order;
     let n_marks = l.marks;
     let n_walks = l.walks;
-    let answer = list_columns(
-        a,
-        l.rows,
-        reference,
-        ends,
-        bases,
-        qualities,
+    let input = Input {
+        settings: a,
+        text: sample.text,
+        ends: sample.ends,
+        qualities: sample.qualities,
         column,
+    };
+    let answer = list_columns(
+        input,
+        l.rows,
         &mut row_scores[..n_row_scores],
         &mut row_closings[..n_row_closings],
         &mut row_edges[..n_row_edges],
@@ -318,126 +256,67 @@ fn list_agrees(
         &mut w_marks[..n_marks],
         &mut w_walks[..n_walks],
     );
-    if !list_answered(told, answer) {
-        return false;
-    }
     let refusal = answer.refusal;
-    if !outputs_agree(
-        told,
-        a,
-        &row_scores,
-        &row_closings,
-        &row_edges,
-        &out_bases,
-        &sequences,
-        &places,
-    ) {
-        return false;
-    }
-    if !graph_tables_left(
-        refusal,
-        lengths,
-        &w_vertices,
-        &w_edges,
-        &w_index,
-        &w_nodes,
-        &w_targets,
-    ) {
-        return false;
-    }
-    if !path_tables_left(refusal, lengths, &w_paths, &w_scores, &w_active, &w_queue) {
-        return false;
-    }
-    search_tables_left(refusal, lengths, &w_closed, &w_order, &w_marks, &w_walks)
+    list_answered(told, answer)
+        && outputs_agree(
+            told,
+            a,
+            &row_scores,
+            &row_closings,
+            &row_edges,
+            &out_bases,
+            &sequences,
+            &places,
+        )
+        && graph_tables_left(
+            refusal,
+            lengths,
+            &w_vertices,
+            &w_edges,
+            &w_index,
+            &w_nodes,
+            &w_targets,
+        )
+        && path_tables_left(refusal, lengths, &w_paths, &w_scores, &w_active, &w_queue)
+        && search_tables_left(refusal, lengths, &w_closed, &w_order, &w_marks, &w_walks)
 }
 
 // ---- which slices are short
 
 // The first and the last slice that is to be short, by its number in `Lent` from 1; 0 where none is.
-#[derive(Clone, Copy)]
-struct Shorts {
-    first: u32,
-    last: u32,
-}
-
-fn short_slices(told: u32) -> Shorts
-    ensures { result.last ≤ 20 }
+// (0, 0 is the run with none short, so that it is a turn like the others.)
+fn short_slices(told: u32) -> (u32, u32)
+    ensures { result.1 ≤ 20 }
 {
     match told {
-        3 => Shorts { first: 1, last: 1 },
-        4 => Shorts { first: 2, last: 2 },
-        5 => Shorts { first: 3, last: 4 },
-        6 => Shorts { first: 5, last: 20 },
-        _ => Shorts { first: 0, last: 0 },
+        3 => (1, 1),
+        4 => (2, 2),
+        5 => (3, 4),
+        6 => (5, 20),
+        _ => (0, 0),
     }
 }
 
 // The call over a column, once for each slice that is to be short.
-fn lists_agree(
-    call: &[u32],
-    told: &[u32],
-    k: u32,
-    quality: u8,
-    reference: &[u8],
-    ends: &[u32],
-    bases: &[u8],
-    qualities: &[u8],
-    column: &[f64],
-) -> bool {
-    let s = short_slices(field(call, 10));
-    let last = s.last;
-    let mut short = s.first;
-    while short <= last {
-        if !list_agrees(
-            call, told, short, k, quality, reference, ends, bases, qualities, column,
-        ) {
+fn lists_agree(call: &[u32], told: &[u32], sample: Sample, column: &[f64]) -> bool {
+    let (first, last) = short_slices(field(call, 10));
+    for short in first..last + 1 {
+        if !list_agrees(call, told, short, sample, column) {
             return false;
         }
-        short += 1;
     }
     true
 }
 
 // The column is the first places of log10, or given.
-pub fn list_agrees_over(
-    call: &[u32],
-    k: u32,
-    quality: u8,
-    reference: &[u8],
-    ends: &[u32],
-    bases: &[u8],
-    qualities: &[u8],
-    log10: &[f64],
-) -> bool {
+pub fn list_agrees_over(call: &[u32], sample: Sample, log10: &[f64]) -> bool {
     let part = list_at(call, 12);
-    let start = part.start;
-    let end = part.end;
-    let told = behind(call, end);
+    let told = behind(call, part.end);
     if field(call, 11) == 0 {
-        let n = least(wide(field(call, 13)), log10.len());
-        return lists_agree(
-            call,
-            told,
-            k,
-            quality,
-            reference,
-            ends,
-            bases,
-            qualities,
-            &log10[0..n],
-        );
+        let n = (field(call, 13) as usize).min(log10.len());
+        return lists_agree(call, told, sample, &log10[..n]);
     }
     let mut given = [0.0f64; 512];
-    let n = read_entries(&call[start..end], &mut given);
-    lists_agree(
-        call,
-        told,
-        k,
-        quality,
-        reference,
-        ends,
-        bases,
-        qualities,
-        &given[0..n],
-    )
+    let n = read_entries(&call[part.start..part.end], &mut given);
+    lists_agree(call, told, sample, &given[..n])
 }

@@ -15,19 +15,18 @@ use std::io::Read;
 fn replay_data(rt: &impl Print, numbers: &[u32]) -> cases::Total {
     let mut log10 = [16.0f64; 65536];
     let part = list_at(numbers, 0);
-    let start = part.start;
-    let end = part.end;
-    read_entries(&numbers[start..end], &mut log10);
-    cases::replay(rt, &numbers[end..], &log10)
+    read_entries(&numbers[part.start..part.end], &mut log10);
+    cases::replay(rt, &numbers[part.end..], &log10)
 }
 
 fn replay_text(rt: &impl Print, text: &[u8]) -> cases::Total {
     let mut numbers = [0u32; 131072];
     let count = read_numbers(text, &mut numbers);
-    replay_data(rt, &numbers[0..count])
+    replay_data(rt, &numbers[..count])
 }
 
 // Reads until the input ends or the slice is full; a read that fails is handed on.
+// (`read_whole`, by which `paths` reads, does not tell which error it was.)
 fn read_full<R: Read>(input: &mut R, bytes: &mut [u8]) -> io::Result<usize>
     ensures { IfOk result (λ n. n ≤ length bytes.new) }
 {

@@ -41,7 +41,7 @@ use Rattle.pivotal_edges.specs.Walk.{Linked, leaving-from}
 use Rattle.pivotal_edges.specs.Links.{linked_of}
 use Rattle.path_growth.specs.Link.{Agrees}
 use Rattle.fork_offers.specs.Actives.{Least}
-use Rattle.search_state.specs.declared.Setting.{Setting}
+use Rattle.search_state.specs.Settings.{Setting}
 use Rattle.search_state.specs.Ground.{Ground, name_of}
 use Rattle.search_ground.specs.Tables.{Tables, Tabled, Sole}
 
@@ -170,7 +170,7 @@ module _ (i : Input) {vs₂ es : List ℕ} {n m sink : ℕ} (rules : first_broke
   none-leave : (v : ℕ) → n ≤ v → leaving (edges_of es (m + 1)) v ≡ []
   none-leave v h =
       sym (leaving-from (edges_of es (m + 1)) v)
-      ∙ nexts-none es (m + 1) v 0 0 (record { there = λ z. absurd (omega arith); least = λ j l e k. absurd (from j l e (ℕ_discrete j m)) }) refl
+      ∙ nexts-none es (m + 1) v 0 (record { there = tt; least = λ j l e k. absurd (from j l e (ℕ_discrete j m)) })
     where
       from : (j : ℕ) → j < m + 1 → edge_from es j ≡ v → Dec (j ≡ m) → ⊥
       from j l e (yes z) = let y : edge_from es j ≡ sink = rw z at.from in let w = at.inside in omega arith

@@ -20,7 +20,7 @@ use Rattle.threading_node.specs.Nodes as nodes
 use Rattle.threading_node.specs.Slots.{cols}
 use Rattle.threading_tree.specs.Read.{Leads}
 use Rattle.fork_offers.specs.Actives.{Actives, Stand}
-use Rattle.search_state.specs.declared.Setting.{Setting}
+use Rattle.search_state.specs.Settings.{Setting}
 use Rattle.search_state.specs.Ground.{Ground}
 
 -- ---- the branches that slots stand for are in order

@@ -3,34 +3,32 @@
 #![tactic(auto)]
 
 ghost use Rattle.std.specs.Prelude.{length};
-ghost use Rattle.assembly.specs.Fields.{HasVertices, HasEdges};
+ghost use Rattle.assembly.specs.Fields.{HasVertices, HasEdges, slot_of};
 ghost use Rattle.pivotal_edges.specs.Walk.{Here, Linked};
 ghost use Rattle.search_ground.specs.Tables.{Sole, Targets, Soles, Tables, Tabled};
 
-use assembly::edge_to;
+use assembly::TO;
 use junction_trees::root_slot;
-use out_edges::next_out;
+use out_edges::Graph;
+use tables::EDGE;
 
-// The only edge that leaves v, its number plus 1, where v has no tree and is not the sink; else 0.
-fn sole_out(vertices: &[u32], edges: &[u32], m: usize, sink: usize, v: usize) -> usize
-    requires { Here vertices.now edges.now m v }
-    ensures { Sole vertices.now edges.now m sink v result }
+// The only edge that leaves v, where v has no tree and is not the sink.
+fn sole_out(graph: Graph, sink: usize, v: usize) -> Option<usize>
+    requires { Here graph.vertices.now graph.edges.now graph.count v }
+    ensures { Sole graph.entry.vertices.now graph.entry.edges.now graph.entry.count sink v (slot_of result) }
 {
     if v == sink {
-        return 0;
+        return None;
     }
-    if root_slot(vertices, v) != 0 {
-        return 0;
+    if root_slot(graph.vertices, v).is_some() {
+        return None;
     }
-    let r = next_out(vertices, edges, v, 0);
-    if r == 0 {
-        return 0;
+    let mut outs = graph.out_edges(v);
+    let first = outs.next()?;
+    if outs.next().is_some() {
+        return None;
     }
-    let s = next_out(vertices, edges, v, edge_to(edges, r - 1) + 1);
-    if s == 0 {
-        return r;
-    }
-    0
+    Some(first)
 }
 
 // `targets` tells the target of each edge that it has a place for.
@@ -38,38 +36,30 @@ fn fill_targets(edges: &[u32], targets: &mut [u32])
     requires { HasEdges edges.now (length targets.old) }
     ensures { Targets edges.now targets.old targets.new }
 {
-    let mut e: usize = 0;
-    while e < targets.len() {
-        targets[e] = edge_to(edges, e) as u32;
-        e += 1;
+    for e in 0..targets.len() {
+        targets[e] = edges[e * EDGE + TO];
     }
 }
 
-// `index` tells the sole edge of each vertex that it has a place for.
-fn fill_index(vertices: &[u32], edges: &[u32], m: usize, sink: usize, index: &mut [u32])
-    requires { Linked vertices.now edges.now m × (HasVertices vertices.now (length index.old)) }
-    ensures { Soles vertices.now edges.now m sink index.old index.new }
+// `index` tells the sole edge of each vertex that it has a place for: its number plus 1, or 0.
+fn fill_index(graph: Graph, sink: usize, index: &mut [u32])
+    requires { Linked graph.vertices.now graph.edges.now graph.count × (HasVertices graph.vertices.now (length index.old)) }
+    ensures { Soles graph.entry.vertices.now graph.entry.edges.now graph.entry.count sink index.old index.new }
 {
-    let mut v: usize = 0;
-    while v < index.len() {
-        index[v] = sole_out(vertices, edges, m, sink, v) as u32;
-        v += 1;
+    for v in 0..index.len() {
+        index[v] = match sole_out(graph, sink, v) {
+            Some(i) => (i + 1) as u32,
+            None => 0,
+        };
     }
 }
 
-// Both tables, over the graph whose m edges, the symbolic one too, are linked. A vertex without edges gets 0, so `index` may have more places than the
+// Both tables, over the graph whose edges, the symbolic one too, are linked. A vertex without edges gets 0, so `index` may have more places than the
 // graph has vertices.
-pub fn chain_tables(
-    vertices: &[u32],
-    edges: &[u32],
-    m: usize,
-    sink: usize,
-    index: &mut [u32],
-    targets: &mut [u32],
-)
-    requires { Tables vertices.now edges.now m index.old targets.old }
-    ensures { Tabled vertices.now edges.now m sink index.new targets.new }
+pub fn chain_tables(graph: Graph, sink: usize, index: &mut [u32], targets: &mut [u32])
+    requires { Tables graph.vertices.now graph.edges.now graph.count index.old targets.old }
+    ensures { Tabled graph.entry.vertices.now graph.entry.edges.now graph.entry.count sink index.new targets.new }
 {
-    fill_targets(edges, targets);
-    fill_index(vertices, edges, m, sink, index);
+    fill_targets(graph.edges, targets);
+    fill_index(graph, sink, index);
 }

@@ -1,9 +1,10 @@
 -- The symbolic edge linked and the tables of the chains filled, and the settings of the search. Assumes nothing.
-use Rattle.std.specs.Prelude.{◌≡◌, List, ℕ, ◌+◌, ◌^◌, ◌<◌}
+use Rattle.std.specs.Prelude.{◌≡◌, List, ℕ, ◌+◌, ◌^◌, ◌<◌, Float}
 use Rattle.assembly.specs.Fields.{HasVertex}
 use Rattle.assembly.specs.Symbolic.{linked}
 use Rattle.fork_offers.specs.Actives.{Least}
-use Rattle.search_state.specs.declared.Setting.{Setting}
+use Rattle.search_state.specs.Settings.{Setting}
+use Rattle.search_state.specs.declared.Setting as code
 use Rattle.search_ground.specs.Tables.{Tables, Tabled}
 use Rattle.graph_work.specs.declared.Raise.{Raise}
 use Rattle.list_interface.specs.declared.Settings.{Settings}
@@ -46,3 +47,12 @@ pub record Small (b : Raise) : Type 0 where
 pub record SettingFor (a : Settings) (b : Raise) (g : Setting) : Type 0 where
   pub is : g ≡ setting_of a b g.least
   pub least : Least a.threshold g.least
+
+-- the slices that a setting reads
+pub record Reads (g : code.Setting) (vs es x idx tgs : List ℕ) (col : List Float) : Type 0 where
+  pub vertices : g.graph.vertices.now ≡ vs
+  pub edges : g.graph.edges.now ≡ es
+  pub nodes : g.trees.nodes.now ≡ x
+  pub index : g.chains.index.now ≡ idx
+  pub targets : g.chains.targets.now ≡ tgs
+  pub column : g.column.now ≡ col

@@ -1,34 +1,53 @@
 // What the search of the call for the list is set up with: the numbers that it goes by, and the tables of the chains.
 #![tactic(auto)]
 
-ghost use Rattle.search_setup.specs.Chains.{Chains, Chained, Small, SettingFor};
+ghost use Rattle.search_state.specs.Settings.{setting_of};
+ghost use Rattle.search_setup.specs.Chains.{Chains, Chained, Small, SettingFor, Reads};
 
 use assembly::link_symbolic_edge;
 use fork_offers::least_total;
 use graph_work::Raise;
-use limits::{GraphMaxima, SearchMaxima};
 use list_interface::Settings;
+use out_edges::Graph;
+use path_store::chains;
 use search_ground::chain_tables;
 use search_state::Setting;
+use threading_tree::Trees;
 
-// What the search goes by: the sizes of the raised graph, and the caller's numbers.
-pub fn search_setting(a: Settings, b: Raise) -> Setting
+// What the search goes by: the raised graph and its trees, the chains, the column, and the caller's numbers.
+pub fn search_setting<'a>(
+    a: Settings,
+    b: Raise,
+    vertices: &'a [u32],
+    edges: &'a [u32],
+    nodes: &'a [u32],
+    index: &'a [u32],
+    targets: &'a [u32],
+    column: &'a [f64],
+) -> Setting<'a>
     requires { Small b }
-    ensures { SettingFor a b result }
+    ensures numbers { SettingFor a b (setting_of result) }
+    ensures slices { Reads result vertices.now edges.now nodes.now index.now targets.now column.now }
 {
-    let graph: GraphMaxima = a.graph;
-    let most: SearchMaxima = a.search;
-    let least = least_total(a.threshold);
     Setting {
-        edges: b.edges + 1,
-        nodes: b.nodes,
-        cap: graph.nodes as usize,
+        graph: Graph {
+            vertices,
+            edges,
+            count: b.edges + 1,
+        },
+        trees: Trees {
+            nodes,
+            count: b.nodes,
+            cap: a.graph.nodes as usize,
+        },
+        chains: chains::Chains { index, targets },
+        column,
         sink: b.sink as u32,
         symbolic: b.vertices as u32,
-        least: least,
-        most: most.path_edges,
-        active: most.active as usize,
-        pushes: most.pushes as usize,
+        least: least_total(a.threshold),
+        most: a.search.path_edges,
+        active: a.search.active as usize,
+        pushes: a.search.pushes as usize,
         asked: a.asked as usize,
     }
 }
@@ -44,8 +63,11 @@ pub fn lay_chains(
     requires { Chains vertices.old edges.now index.old targets.old b }
     ensures { Chained vertices.old edges.now b vertices.new index.new targets.new }
 {
-    let sink = b.sink;
-    let real = b.edges;
-    link_symbolic_edge(vertices, sink, real);
-    chain_tables(vertices, edges, real + 1, sink, index, targets);
+    link_symbolic_edge(vertices, b.sink, b.edges);
+    let graph = Graph {
+        vertices,
+        edges,
+        count: b.edges + 1,
+    };
+    chain_tables(graph, b.sink, index, targets);
 }

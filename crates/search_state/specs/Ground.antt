@@ -15,7 +15,7 @@ use Rattle.threading_tree.specs.Read.{Leads}
 use Rattle.pivotal_edges.specs.Walk.{Linked}
 use Rattle.path_growth.specs.Link.{Agrees}
 use Rattle.fork_offers.specs.Offers.{Settings}
-use Rattle.search_state.specs.declared.Setting.{Setting}
+use Rattle.search_state.specs.Settings.{Setting}
 
 -- the edge of a number
 abbrev pub name_of : List ℕ → ℕ → Ends

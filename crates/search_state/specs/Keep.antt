@@ -12,7 +12,7 @@ use Rattle.path_growth.specs.Join.{Childless}
 use Rattle.closed_paths.specs.Cross.{Distinct}
 use Rattle.path_heap.specs.First.{leads-same}
 use Rattle.path_heap.specs.Heap.{ScoreHeap, waiting, waiting-scores, waiting-all, all-waiting}
-use Rattle.search_state.specs.declared.Setting.{Setting}
+use Rattle.search_state.specs.Settings.{Setting}
 use Rattle.search_state.specs.declared.Progress.{Progress}
 use Rattle.search_state.specs.State.{path_of, closed_record, Records, Holds, Apart, Kept}
 

@@ -1,3 +1,4 @@
+pub mod Settings
 pub mod Ground
 pub mod Keep
 pub mod State

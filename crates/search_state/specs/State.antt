@@ -14,7 +14,7 @@ use Rattle.path_growth.specs.Held.{Held}
 use Rattle.closed_paths.specs.Cross.{unvisited, Distinct, Fork}
 use Rattle.path_heap.specs.Heap.{ScoreHeap, waiting}
 use Rattle.fork_offers.specs.Actives.{Actives}
-use Rattle.search_state.specs.declared.Setting.{Setting}
+use Rattle.search_state.specs.Settings.{Setting}
 use Rattle.search_state.specs.declared.Progress.{Progress}
 use Rattle.search_state.specs.Ground.{name_of}
 

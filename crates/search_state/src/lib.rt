@@ -2,12 +2,19 @@
 // find_junction_best_haplotypes)
 #![tactic(auto)]
 
-// The sizes of the tables, the sink, the far end of the symbolic edge, the least total that reaches the threshold, and the caller's numbers.
+use out_edges::Graph;
+use path_store::chains::Chains;
+use threading_tree::Trees;
+
+// What the search reads and never writes: the graph with the symbolic edge linked, its trees, the chains and the logarithm column; the sink, the far end
+// of the symbolic edge, the least total that reaches the threshold, and the caller's numbers.
+// The slices that a step writes stay parameters one by one: held in a struct, each contract would have to say of each which slice was lent.
 #[derive(Clone, Copy)]
-pub struct Setting {
-    pub edges: usize,
-    pub nodes: usize,
-    pub cap: usize,
+pub struct Setting<'a> {
+    pub graph: Graph<'a, 'a>,
+    pub trees: Trees<'a>,
+    pub chains: Chains<'a, 'a>,
+    pub column: &'a [f64],
     pub sink: u32,
     pub symbolic: u32,
     pub least: usize,
@@ -28,11 +35,4 @@ pub struct Progress {
     pub pivotal: usize,
     pub pushes: usize,
     pub mark: usize,
-}
-
-// The answer of a step: how far the search is, or a refusal.
-#[derive(Clone, Copy)]
-pub enum Step {
-    On(Progress),
-    Refused(u32),
 }

@@ -1,5 +1,5 @@
 -- Counting backwards: what it needs of the tables (nothing of kmers), and the definition's `backward` by its cases. Assumes nothing.
-use Rattle.std.specs.Prelude.{◌≡◌, refl, ◌≢◌, false, List, ℕ, zero, suc, ◌+◌, ◌-◌, ◌^◌, ◌<◌, ◌≤◌}
+use Rattle.std.specs.Prelude.{◌≡◌, refl, ◌≢◌, false, Some, List, ℕ, zero, suc, ◌+◌, ◌-◌, ◌^◌, ◌<◌, ◌≤◌}
 use Rattle.std.proofs.Common.{sym, ap, ◌∙◌, arith, eq-eqb}
 use Rattle.std.proofs.Math.Option.{none, some}
 use Rattle.std.proofs.Math.Decide.{ℕ_discrete}
@@ -7,7 +7,7 @@ use Rattle.std.proofs.Math.Dec.{eqb}
 use Rattle.laws.specs.Lists.{sole}
 use Rattle.definition.specs.Threading.{Edge, entering, one_step, put, backward}
 use Rattle.kmer_threading.specs.declared.At.{At}
-use Rattle.assembly.specs.Fields.{HasVertices, incoming_count, incoming_edge, HasEdges, HasEdge, edge_field, edge_from, edge_to, edge_support, edge_mark}
+use Rattle.assembly.specs.Fields.{HasVertices, slot_of, incoming_count, incoming_edge, HasEdges, HasEdge, edge_field, edge_from, edge_to, edge_support, edge_mark}
 use Rattle.assembly.specs.Table.{Distinct, count, count_same, sole-is, sole_none}
 use Rattle.assembly.specs.Store.{edge_at, edges_of, Good, good-distinct}
 use Rattle.assembly.specs.Moves.{gained, gained-count, gained-other, gained-row, gained-2, gained-mark, length-gained, good-ends}
@@ -72,9 +72,6 @@ module _ {vs es : List ℕ} {s : At} {v left : ℕ} (x : Backs vs es s v left) w
     i : ℕ
     i = incoming_edge vs v - 1
 
-    pub back-pos : 0 < incoming_edge vs v
-    back-pos = (x.ins.into v x.at (omega arith)).0
-
     pub back_in : incoming_edge vs v - 1 < s.edges
     back_in = let w = x.ins.into v x.at (omega arith) in let y = w.0 in let z = w.1 in omega arith
 
@@ -88,16 +85,13 @@ module _ {vs es : List ℕ} {s : At} {v left : ℕ} (x : Backs vs es s v left) w
         (eq-eqb (edge_to es (incoming_edge vs v - 1)) v (x.ins.into v x.at (omega arith)).2)
 
     module _ (more : left ≡ 0 → ⊥) where
-      pub back-gain : (HasEdge es (incoming_edge vs v - 1)) × (edge_support es (incoming_edge vs v - 1) + 1 < 2 ^ 32)
-      back-gain = (back-room, (let z = x.supports (incoming_edge vs v - 1) back_in in let y = x.steps in omega arith))
-
       -- what the next call asks
-      module _ (es' : List ℕ) (e : es' ≡ gained es (incoming_edge vs v - 1) 0) where
+      module _ (es' : List ℕ) (e : es' ≡ gained es (incoming_edge vs v - 1) false) where
         abbrev next : At
         next = record { vertices = s.vertices; edges = s.edges; here = s.here; steps = s.steps + 1 }
 
         other : (j c : ℕ) → c < 6 → c ≢ 2 → c ≢ 3 → edge_field es' j c ≡ edge_field es j c
-        other j c l m n = rw e (gained-other es (incoming_edge vs v - 1) 0 back-room j c l m n)
+        other j c l m n = rw e (gained-other es (incoming_edge vs v - 1) false back-room j c l m n)
 
         mark : (j : ℕ) → edge_mark es' j ≡ edge_mark es j
         mark j = rw e (gained-mark es (incoming_edge vs v - 1) back-room j)
@@ -106,8 +100,8 @@ module _ {vs es : List ℕ} {s : At} {v left : ℕ} (x : Backs vs es s v left) w
         gains j h = go (ℕ_discrete j (incoming_edge vs v - 1))
           where
             go : Dec (j ≡ incoming_edge vs v - 1) → edge_support es' j ≤ s.steps + 1
-            go (yes z) = rw (e, z, gained-2 es (incoming_edge vs v - 1) 0 back-room) (let y = x.supports (incoming_edge vs v - 1) back_in in omega arith)
-            go (no z) = rw (e, gained-row es (incoming_edge vs v - 1) 0 back-room j 2 (omega arith) z) (let y = x.supports j h in omega arith)
+            go (yes z) = rw (e, z, gained-2 es (incoming_edge vs v - 1) false back-room) (let y = x.supports (incoming_edge vs v - 1) back_in in omega arith)
+            go (no z) = rw (e, gained-row es (incoming_edge vs v - 1) false back-room j 2 (omega arith) z) (let y = x.supports j h in omega arith)
 
         pub back-next : Backs vs es' next (edge_from es (incoming_edge vs v - 1)) (left - 1)
         back-next =
@@ -121,7 +115,7 @@ module _ {vs es : List ℕ} {s : At} {v left : ℕ} (x : Backs vs es s v left) w
                   };
               at = x.ins.from_in (incoming_edge vs v - 1) back_in;
               room-v = x.room-v;
-              room-e = rw (e, length-gained es (incoming_edge vs v - 1) 0 back-room) x.room-e;
+              room-e = rw (e, length-gained es (incoming_edge vs v - 1) false back-room) x.room-e;
               few-e = x.few-e;
               supports = gains;
               steps = let y = x.steps in omega arith;
@@ -133,7 +127,7 @@ module _ {vs es : List ℕ} {s : At} {v left : ℕ} (x : Backs vs es s v left) w
               is =
                   b.is
                   ∙ ap (λ (l : List Edge). backward (left - 1) (edge_from es (incoming_edge vs v - 1)) l)
-                  (ap (λ (l : List ℕ). edges_of l s.edges) e ∙ gained-count es (incoming_edge vs v - 1) 0 back-room x.ins.distinct back_in (edge_at es (incoming_edge vs v - 1)).origin)
+                  (ap (λ (l : List ℕ). edges_of l s.edges) e ∙ gained-count es (incoming_edge vs v - 1) false back-room x.ins.distinct back_in (edge_at es (incoming_edge vs v - 1)).origin)
                   ∙ sym (backward-some (left - 1) v (edges_of es s.edges) (edge_at es (incoming_edge vs v - 1)) sole-here)
                   ∙ ap (λ (n : ℕ). backward n v (edges_of es s.edges)) (let z : suc (left - 1) ≡ left = omega arith in z);
               kept = λ j c l m. keeps j c l m (ℕ_discrete c 3);
@@ -144,34 +138,29 @@ module _ {vs es : List ℕ} {s : At} {v left : ℕ} (x : Backs vs es s v left) w
             keeps j c l m (yes z) = b.kept j c l m ∙ rw z (mark j)
             keeps j c l m (no z) = b.kept j c l m ∙ other j c l m z
 
--- ---- the same in the code's words: n edges enter, `into` is one of them (plus 1), and it leaves `from`
+-- ---- the same in the code's words: n edges enter, i is one of them, and it leaves `from`
 module _ {vs es : List ℕ} {s : At} {v left : ℕ} (x : Backs vs es s v left) (n : ℕ) (hn : n ≡ incoming_count vs v) where
   pub backs-many : (n ≡ 1 → ⊥) → Backed es es s v left
   backs-many e = back-many x (λ z. e (hn ∙ z))
 
-  module _ (e : n ≡ 1) (into : ℕ) (hi : into ≡ incoming_edge vs v) where
+  module _ (e : n ≡ 1) where
     one : incoming_count vs v ≡ 1
     one = sym hn ∙ e
 
-    pub backs-pos : 0 < into
-    backs-pos = rw hi (back-pos x one)
+    module _ (i : ℕ) (hi : slot_of (Some i) ≡ incoming_edge vs v) where
+      at-i : incoming_edge vs v - 1 ≡ i
+      at-i = omega arith
 
-    pub backs-room : HasEdge es (into - 1)
-    backs-room = rw hi (back-room x one)
+      module _ (more : left ≡ 0 → ⊥) where
+        module _ (from : ℕ) (hf : from ≡ edge_from es i) (es' : List ℕ) (g : es' ≡ gained es i false) where
+          g' : es' ≡ gained es (incoming_edge vs v - 1) false
+          g' = rw at-i g
 
-    module _ (more : left ≡ 0 → ⊥) where
-      pub backs-gain : (HasEdge es (into - 1)) × (edge_support es (into - 1) + 1 < 2 ^ 32)
-      backs-gain = rw hi (back-gain x one more)
+          hf' : from ≡ edge_from es (incoming_edge vs v - 1)
+          hf' = rw at-i hf
 
-      module _ (from : ℕ) (hf : from ≡ edge_from es (into - 1)) (es' : List ℕ) (g : es' ≡ gained es (into - 1) 0) where
-        g' : es' ≡ gained es (incoming_edge vs v - 1) 0
-        g' = rw hi at g
+          pub backs-next : Backs vs es' (record { vertices = s.vertices; edges = s.edges; here = s.here; steps = s.steps + 1 }) from (left - 1)
+          backs-next = rw hf' (back-next x one more es' g')
 
-        hf' : from ≡ edge_from es (incoming_edge vs v - 1)
-        hf' = rw hi at hf
-
-        pub backs-next : Backs vs es' (record { vertices = s.vertices; edges = s.edges; here = s.here; steps = s.steps + 1 }) from (left - 1)
-        backs-next = rw hf' (back-next x one more es' g')
-
-        pub backs-on : (es'' : List ℕ) → Backed es' es'' (record { vertices = s.vertices; edges = s.edges; here = s.here; steps = s.steps + 1 }) from (left - 1) → Backed es es'' s v left
-        backs-on es'' b = back_on x one more es' g' es'' (rw hf' at b)
+          pub backs-on : (es'' : List ℕ) → Backed es' es'' (record { vertices = s.vertices; edges = s.edges; here = s.here; steps = s.steps + 1 }) from (left - 1) → Backed es es'' s v left
+          backs-on es'' b = back_on x one more es' g' es'' (rw hf' at b)

@@ -1,18 +1,18 @@
 -- The start of a stretch: its first kmer's vertex, known or new, and the count backwards from it. Assumes nothing.
-use Rattle.std.specs.Prelude.{◌≡◌, true, List, ℕ, ◌+◌, ◌-◌, ◌^◌, ◌<◌, ◌≤◌, length, get_or}
+use Rattle.std.specs.Prelude.{◌≡◌, true, Result, Ok, Err, List, ℕ, ◌+◌, ◌-◌, ◌^◌, ◌<◌, ◌≤◌, length, get_or}
 use Rattle.std.proofs.Math.Path.{refl}
 use Rattle.std.proofs.Common.{sym, inl, arith}
 use Rattle.definition.specs.Limits.{is_base}
 use Rattle.definition.specs.Threading.{Threading, number_of, with_kmer, backward, start_at}
 use Rattle.kmer_threading.specs.declared.Most.{Most}
 use Rattle.kmer_threading.specs.declared.At.{At}
-use Rattle.kmer_threading.specs.declared.Step.{Step}
-use Rattle.kmer_threading.specs.declared.Step.TheVariants.{Next, Refused}
+use Rattle.refusals.specs.declared.Refusal.{Refusal}
+use Rattle.refusals.specs.Numbers.{number}
 use Rattle.assembly.specs.Fields.{HasVertices, vertex_cell, HasEdges, edge_support}
 use Rattle.assembly.specs.Store.{edges_of, kmers_of, graph_of, Good}
 use Rattle.assembly.specs.Kmers.{part, last-part}
 use Rattle.sequence_threading.specs.Backs.{Backs, Backed, backed-good, ins-of}
-use Rattle.kmer_threading.specs.Steps.{threading_of, Came, Stepped, Gets, GotAt, NoVertex, Got}
+use Rattle.kmer_threading.specs.Steps.{threading_of, Came, Stepped, GotAt, NoVertex, Got}
 
 -- nothing in zeroed tables is a graph: what the first call of all starts from
 pub good-empty : (k : ℕ) (text vs es : List ℕ) → ((i : ℕ) → get_or vs i 0 ≡ 0) → Good k text vs 0 es 0
@@ -48,27 +48,21 @@ module _ {k : ℕ} {text vs es : List ℕ} {most : Most} {s : At} {q : ℕ} (x :
   abbrev will : Threading
   will = start_at k (part k text q) (graph_of k text vs s.vertices es s.edges)
 
-  pub start-gets : Gets k text vs most s q
-  start-gets = record { vertices = x.vertices; room-v = x.room-v; few-v = x.few-v; fits = x.good.fits; inside = x.inside; small = x.small }
-
   is-will : will ≡ record { graph = record { kmers = with_kmer (kmers_of k text vs s.vertices) (part k text q); edges = backward (k - 1) (number_of (kmers_of k text vs s.vertices) (part k text q)) (edges_of es s.edges) }; here = number_of (kmers_of k text vs s.vertices) (part k text q) }
   unfolding start_at graph_of
   is-will = refl
 
-  pub start-full : (vs' es' : List ℕ) (c n : ℕ) (r : Step) → Got k text vs vs' most s q r → r ≡ Refused n → Stepped k text vs' es' most c r will
+  pub start-full : (vs' es' : List ℕ) (c : ℕ) (n : Refusal) (r : Result At Refusal) → Got k text vs vs' most s q r → r ≡ Err n → Stepped k text vs' es' most c r will
   start-full vs' es' c n r g e =
-      let y : NoVertex k text vs most s q n = rw e at g in
+      let y : NoVertex k text vs most s q (number n) = rw e at g in
       rw e (record { eight = y.eight; over = inl (rw is-will y.over) })
 
-  module _ (vs' : List ℕ) (t : At) (r : Step) (g : Got k text vs vs' most s q r) (e : r ≡ Next t) where
+  module _ (vs' : List ℕ) (t : At) (r : Result At Refusal) (g : Got k text vs vs' most s q r) (e : r ≡ Ok t) where
     got : GotAt k text vs vs' most s q t
     got = rw e at g
 
     good-t : Good k text vs' t.vertices es t.edges
     good-t = rw got.edges (got.good es s.edges (rw (last-part k text q x.some x.inside) x.base) x.good)
-
-    pub start-steps : t.steps ≡ s.steps
-    start-steps = got.steps
 
     pub start-backs : Backs vs' es t t.here (k - 1)
     start-backs =

@@ -1,10 +1,9 @@
 -- A whole stretch: its kmers as parts of the text, and the loop that keeps "what is left of the run from here is the whole run". Assumes nothing.
-use Rattle.std.specs.Prelude.{◌≡◌, refl, ◌⊎◌, Bool, true, List, [], ◌∷◌, length, get_or, take, drop}
+use Rattle.std.specs.Prelude.{◌≡◌, refl, ◌⊎◌, Bool, true, Result, Ok, Err, List, [], ◌∷◌, length, get_or, take, drop}
 use Rattle.std.proofs.Math.Path.{sym}
-use Rattle.std.proofs.Common.{ap, ◌∙◌, inl, inr, length-drop, take-take, drop-drop, length-take-le, le-leb}
+use Rattle.std.proofs.Common.{ap, ◌∙◌, inl, inr, length-drop, take-take, drop-drop, length-take-le, le-leb, ℕ, zero, suc, ◌+◌, ◌-◌, ◌^◌, ◌<◌, ◌≤◌, arith}
 use Rattle.std.proofs.Math.Option.{Option, none, some}
-use Prim.Native.Nat.{ℕ, zero, suc, ◌+◌, ◌-◌, ◌^◌, ◌<◌, ◌≤◌, Ordering}
-use native.Mathlib.Omega.{arith}
+use Prim.Native.Nat.{Ordering}
 use Rattle.std.proofs.lemmas.Bool.{lt-leb}
 use Rattle.laws.specs.Lists.{last_or}
 use Rattle.definition.specs.Limits.{is_base}
@@ -12,12 +11,12 @@ use Rattle.definition.specs.Stretch.{Stretch, kmers}
 use Rattle.definition.specs.Threading.{Origin, Edge, Graph, Threading, compare_ends, put, follow, step_to, step, steps, start_at, thread_kmers, thread}
 use Rattle.kmer_threading.specs.declared.Most.{Most}
 use Rattle.kmer_threading.specs.declared.At.{At}
-use Rattle.kmer_threading.specs.declared.Step.{Step}
-use Rattle.kmer_threading.specs.declared.Step.TheVariants.{Next, Refused}
+use Rattle.refusals.specs.declared.Refusal.{Refusal}
+use Rattle.refusals.specs.Numbers.{number}
 use Rattle.assembly.specs.Puts.{put-lt, put-eq, put-gt}
 use Rattle.assembly.specs.Store.{graph_of}
 use Rattle.assembly.specs.Kmers.{part, with-grows}
-use Rattle.kmer_threading.specs.Steps.{origin_of, threading_of, Fine, Came, Over, Stepped, Extends}
+use Rattle.kmer_threading.specs.Steps.{threading_of, Fine, Came, Over, Stepped, Extends}
 use Rattle.sequence_threading.specs.Starts.{Starts}
 
 -- ---- kmers
@@ -64,11 +63,14 @@ wins-pieces k text (suc n) a (suc len) (inr h) =
     let e : drop 1 (take (suc len) (drop a text)) ≡ take len (drop (a + 1) text) = drop-one (drop a text) len ∙ ap (λ (l : List ℕ). take len l) (drop-drop 1 a text) in
     rw (e, wins-pieces k text n (a + 1) len (inr (omega arith)), take-take k (suc len) (drop a text) (omega arith))
 
+abbrev pub origin_at : ℕ → ℕ → Origin
+origin_at s p = record { sequence = s; place = p }
+
 -- ---- the definition's thread of a stretch that lies at place a of the text
 abbrev pub stretch_at : List ℕ → ℕ → ℕ → ℕ → ℕ → Stretch
 stretch_at text a len sq pl = record { sequence = sq; place = pl; bytes = take len (drop a text) }
 
-pub steps-cons : (ref : Bool) (sq i : ℕ) (x : List ℕ) (xs : List (List ℕ)) (t : Threading) → steps ref sq i (x ∷ xs) t ≡ steps ref sq (suc i) xs (step ref (origin_of sq i) x t)
+pub steps-cons : (ref : Bool) (sq i : ℕ) (x : List ℕ) (xs : List (List ℕ)) (t : Threading) → steps ref sq i (x ∷ xs) t ≡ steps ref sq (suc i) xs (step ref (origin_at sq i) x t)
 unfolding steps
 steps-cons ref sq i x xs t = refl
 
@@ -119,8 +121,8 @@ step-grows ref o x t = go (follow t.graph t.here (last_or 0 x)) refl
 pub steps-grow : (ref : Bool) (sq i : ℕ) (xs : List (List ℕ)) (t : Threading) → More t.graph (steps ref sq i xs t).graph
 steps-grow ref sq i [] t = rw (steps-nil ref sq i t) (omega arith, omega arith)
 steps-grow ref sq i (x ∷ xs) t =
-    let a = step-grows ref (origin_of sq i) x t in
-    let b = steps-grow ref sq (suc i) xs (step ref (origin_of sq i) x t) in
+    let a = step-grows ref (origin_at sq i) x t in
+    let b = steps-grow ref sq (suc i) xs (step ref (origin_at sq i) x t) in
     rw (steps-cons ref sq i x xs t) ((let p = a.0 in let q = b.0 in omega arith), (let p = a.1 in let q = b.1 in omega arith))
 
 -- ---- contracts
@@ -133,9 +135,9 @@ pub record OverG (most : Most) (n : ℕ) (g : Graph) : Type 0 where
   pub eight : n ≡ 8
   pub over : (most.vertices < length g.kmers) ⊎ (most.edges < length g.edges)
 
-abbrev pub Threaded : ℕ → List ℕ → List ℕ → List ℕ → Most → ℕ → Step → Graph → Type 0
-Threaded k text vs es most c (Next s) g = CameG k text vs es most s c g
-Threaded k text vs es most c (Refused n) g = OverG most n g
+abbrev pub Threaded : ℕ → List ℕ → List ℕ → List ℕ → Most → ℕ → Result At Refusal → Graph → Type 0
+Threaded k text vs es most c (Ok s) g = CameG k text vs es most s c g
+Threaded k text vs es most c (Err e) g = OverG most (number e) g
 
 pub over-more : (most : Most) (n : ℕ) (t : Threading) (g : Graph) → More t.graph g → Over most n t → OverG most n g
 over-more most n t g m o = record { eight = o.eight; over = go o.over }
@@ -183,13 +185,13 @@ module _ {k : ℕ} {text : List ℕ} {most : Most} {s₀ : At} {a len pl : ℕ} 
   threads-is = thread-is ref k text a len sq pl (graph_of k text vs₀ s₀.vertices es₀ s₀.edges) x.starts.some x.long x.inside
 
   -- the start refuses
-  pub start-stop : (vs es : List ℕ) (n : ℕ) (r : Step) (c : ℕ) → Stepped k text vs es most (s₀.steps + k) r begun → r ≡ Refused n → Threaded k text vs es most c r whole
+  pub start-stop : (vs es : List ℕ) (n : Refusal) (r : Result At Refusal) (c : ℕ) → Stepped k text vs es most (s₀.steps + k) r begun → r ≡ Err n → Threaded k text vs es most c r whole
   start-stop vs es n r c w e =
-      let o : Over most n begun = rw e at w in
-      rw e (over-more most n begun whole (rw threads-is (steps-grow ref sq pl (pieces k text (a + 1) (len - k)) begun)) o)
+      let o : Over most (number n) begun = rw e at w in
+      rw e (over-more most (number n) begun whole (rw threads-is (steps-grow ref sq pl (pieces k text (a + 1) (len - k)) begun)) o)
 
   -- it goes on
-  pub start-next : (vs es : List ℕ) (s : At) (r : Step) → Stepped k text vs es most (s₀.steps + k) r begun → r ≡ Next s → Came k text vs es most s (s₀.steps + k) begun
+  pub start-next : (vs es : List ℕ) (s : At) (r : Result At Refusal) → Stepped k text vs es most (s₀.steps + k) r begun → r ≡ Ok s → Came k text vs es most s (s₀.steps + k) begun
   start-next vs es s r c e = rw e at c
 
   module _ {vs₁ es₁ : List ℕ} {s₁ : At} (w : Came k text vs₁ es₁ most s₁ (s₀.steps + k) begun) where
@@ -197,7 +199,7 @@ module _ {k : ℕ} {text : List ℕ} {most : Most} {s₀ : At} {a len pl : ℕ} 
     onward-is = ap (λ (t : Threading). (steps ref sq pl (pieces k text (a + 1) (len - k)) t).graph) w.is ∙ sym threads-is
 
     module _ {vs es : List ℕ} {s : At} {j : ℕ} (b : Left ref k text most a sq pl (len - k) vs₁ es₁ s₁ vs es s j) where
-      pub left_end : len - k ≤ j → Threaded k text vs es most (s₀.steps + k + len) (Next s) whole
+      pub left_end : len - k ≤ j → Threaded k text vs es most (s₀.steps + k + len) (Ok s) whole
       unfolding pieces threading_of
       left_end h =
           let n : len - k - j ≡ 0 = omega arith in
@@ -223,7 +225,7 @@ module _ {k : ℕ} {text : List ℕ} {most : Most} {s₀ : At} {a len pl : ℕ} 
             }
 
         abbrev next : Threading
-        next = step ref (origin_of sq (pl + j)) (part k text (a + j + 1)) (threading_of k text vs es s)
+        next = step ref (origin_at sq (pl + j)) (part k text (a + j + 1)) (threading_of k text vs es s)
 
         turn : (steps ref sq (pl + (j + 1)) (pieces k text (a + (j + 1) + 1) (len - k - (j + 1))) next).graph ≡ onward ref k text a sq pl (len - k) vs₁ es₁ s₁
         unfolding pieces
@@ -233,13 +235,13 @@ module _ {k : ℕ} {text : List ℕ} {most : Most} {s₀ : At} {a len pl : ℕ} 
             let q : a + (j + 1) + 1 ≡ a + j + 1 + 1 = omega arith in
             rw (p, q) (sym (ap (λ (t : Threading). t.graph) (steps-cons ref sq (pl + j) (part k text (a + j + 1)) (pieces k text (a + j + 1 + 1) (len - k - (j + 1))) (threading_of k text vs es s))) ∙ (rw n at b.run))
 
-        pub left-next : (vs' es' : List ℕ) (s' : At) (r : Step) → Stepped k text vs' es' most (s.steps + 1) r next → r ≡ Next s' → length vs' ≡ length vs → length es' ≡ length es
+        pub left-next : (vs' es' : List ℕ) (s' : At) (r : Result At Refusal) → Stepped k text vs' es' most (s.steps + 1) r next → r ≡ Ok s' → length vs' ≡ length vs → length es' ≡ length es
             → Left ref k text most a sq pl (len - k) vs₁ es₁ s₁ vs' es' s' (j + 1)
         left-next vs' es' s' r c e lv le =
             let u : Came k text vs' es' most s' (s.steps + 1) next = rw e at c in
             record { within = omega arith; counted = (let z = u.counted in let y = b.counted in omega arith); same-v = lv ∙ b.same-v; same-e = le ∙ b.same-e; fine = u.fine; run = rw u.is turn }
 
-        pub left-stop : (vs' es' : List ℕ) (n : ℕ) (r : Step) (c : ℕ) → Stepped k text vs' es' most (s.steps + 1) r next → r ≡ Refused n → Threaded k text vs' es' most c r whole
+        pub left-stop : (vs' es' : List ℕ) (n : Refusal) (r : Result At Refusal) (c : ℕ) → Stepped k text vs' es' most (s.steps + 1) r next → r ≡ Err n → Threaded k text vs' es' most c r whole
         left-stop vs' es' n r c u e =
-            let o : Over most n next = rw e at u in
-            rw e (over-more most n next whole (rw (← onward-is, ← turn) (steps-grow ref sq (pl + (j + 1)) (pieces k text (a + (j + 1) + 1) (len - k - (j + 1))) next)) o)
+            let o : Over most (number n) next = rw e at u in
+            rw e (over-more most (number n) next whole (rw (← onward-is, ← turn) (steps-grow ref sq (pl + (j + 1)) (pieces k text (a + (j + 1) + 1) (len - k - (j + 1))) next)) o)

@@ -1,8 +1,9 @@
 // Threading of one stretch: its start, with the counting backwards, then kmer after kmer.
 #![tactic(auto)]
 
-ghost use Rattle.std.specs.Prelude.{not, ◌++◌, ◌+◌, eqb};
+ghost use Rattle.std.specs.Prelude.{◌+◌};
 ghost use Rattle.definition.specs.Threading.{start_at, thread};
+ghost use Rattle.samples.specs.Handed.{text_of};
 ghost use Rattle.assembly.specs.Store.{graph_of};
 ghost use Rattle.assembly.specs.Kmers.{part};
 ghost use Rattle.kmer_threading.specs.Steps.{Stepped};
@@ -11,8 +12,10 @@ ghost use Rattle.sequence_threading.specs.Backs.{Backs, Backed};
 ghost use Rattle.sequence_threading.specs.Starts.{Starts};
 ghost use Rattle.sequence_threading.specs.Stretches.{Threads, Threaded, stretch_at};
 
-use assembly::{edge_from, inc_edge, incoming_count, incoming_edge};
-use kmer_threading::{At, Most, Step, extend_chain_by_one, get_or_create_kmer_vertex};
+use assembly::{Origin, edge_from, inc_edge, incoming_count, incoming_edge};
+use kmer_threading::{At, Most, extend_chain_by_one, get_or_create_kmer_vertex};
+use refusals::Refusal;
+use samples::Text;
 
 // Counting backwards: while v has just one predecessor that edge gains 1, for at most `left` edges.
 fn increase_counts_backwards(vertices: &[u32], edges: &mut [u32], s: At, v: usize, left: usize)
@@ -25,22 +28,19 @@ fn increase_counts_backwards(vertices: &[u32], edges: &mut [u32], s: At, v: usiz
     if incoming_count(vertices, v) != 1 {
         return;
     }
-    let i = incoming_edge(vertices, v) - 1;
+    let i = incoming_edge(vertices, v).unwrap();
     let from = edge_from(edges, i);
-    inc_edge(edges, i, 0);
+    inc_edge(edges, i, false);
     let t = At {
-        vertices: s.vertices,
-        edges: s.edges,
-        here: s.here,
         steps: s.steps + 1,
+        ..s
     };
     increase_counts_backwards(vertices, edges, t, from, left - 1);
 }
 
 // The start of a stretch whose first kmer stands at place q of the text.
 fn start_sequence(
-    reference: &[u8],
-    bases: &[u8],
+    text: Text,
     vertices: &mut [u32],
     edges: &mut [u32],
     index: &mut [u32],
@@ -48,27 +48,24 @@ fn start_sequence(
     most: Most,
     s: At,
     q: usize,
-) -> Step
-    requires { Starts k (reference.now ++ bases.now) vertices.old edges.old most s q × Indexes k (reference.now ++ bases.now) vertices.old index.old most s.vertices }
-    ensures { Stepped k (reference.now ++ bases.now) vertices.new edges.new most (s.steps + k) result (start_at k (part k (reference.now ++ bases.now) q) (graph_of k (reference.now ++ bases.now) vertices.old s.vertices edges.old s.edges)) × Keeps k (reference.now ++ bases.now) vertices.new index.new most result }
+) -> Result<At, Refusal>
+    requires { Starts k (text_of text) vertices.old edges.old most s q × Indexes k (text_of text) vertices.old index.old most s.vertices }
+    ensures { Stepped k (text_of text.entry) vertices.new edges.new most (s.steps + k) result (start_at k (part k (text_of text.entry) q) (graph_of k (text_of text.entry) vertices.old s.vertices edges.old s.edges)) × Keeps k (text_of text.entry) vertices.new index.new most result }
 {
-    let r = get_or_create_kmer_vertex(reference, bases, vertices, index, k, most, s, q);
-    let Step::Next(t) = r else {
+    let r = get_or_create_kmer_vertex(text, vertices, index, k, most, s, q);
+    let Ok(t) = r else {
         return r;
     };
     increase_counts_backwards(vertices, edges, t, t.here, k - 1);
-    Step::Next(At {
-        vertices: t.vertices,
-        edges: t.edges,
-        here: t.here,
+    Ok(At {
         steps: t.steps + k,
+        ..t
     })
 }
 
-// The stretch of `len` bytes at place a of the text, which is place `place` of its sequence.
+// The stretch of `len` bytes at place a of the text, whose first kmer has the origin.
 pub fn thread_sequence(
-    reference: &[u8],
-    bases: &[u8],
+    text: Text,
     vertices: &mut [u32],
     edges: &mut [u32],
     index: &mut [u32],
@@ -77,40 +74,28 @@ pub fn thread_sequence(
     s0: At,
     a: usize,
     len: usize,
-    mark: u32,
-    sequence: u32,
-    place: usize,
-) -> Step
-    requires { Threads k (reference.now ++ bases.now) vertices.old edges.old most s0 a len place × Indexes k (reference.now ++ bases.now) vertices.old index.old most s0.vertices }
-    ensures { Threaded k (reference.now ++ bases.now) vertices.new edges.new most (s0.steps + k + len) result (thread (not (eqb mark 0)) k (stretch_at (reference.now ++ bases.now) a len sequence place) (graph_of k (reference.now ++ bases.now) vertices.old s0.vertices edges.old s0.edges)) × Keeps k (reference.now ++ bases.now) vertices.new index.new most result }
+    is_ref: bool,
+    origin: Origin,
+) -> Result<At, Refusal>
+    requires { Threads k (text_of text) vertices.old edges.old most s0 a len origin.place × Indexes k (text_of text) vertices.old index.old most s0.vertices }
+    ensures { Threaded k (text_of text.entry) vertices.new edges.new most (s0.steps + k + len) result (thread is_ref k (stretch_at (text_of text.entry) a len origin.sequence origin.place) (graph_of k (text_of text.entry) vertices.old s0.vertices edges.old s0.edges)) × Keeps k (text_of text.entry) vertices.new index.new most result }
 {
-    let last = len - k;
-    let r0 = start_sequence(reference, bases, vertices, edges, index, k, most, s0, a);
-    let Step::Next(s1) = r0 else {
+    let r0 = start_sequence(text, vertices, edges, index, k, most, s0, a);
+    let Ok(s1) = r0 else {
         return r0;
     };
     let mut s = s1;
-    let mut j: usize = 0;
-    while j < last {
-        let r = extend_chain_by_one(
-            reference,
-            bases,
-            vertices,
-            edges,
-            index,
-            k,
-            most,
-            s,
-            a + j + 1,
-            mark,
-            sequence,
-            (place + j) as u32,
-        );
-        let Step::Next(s2) = r else {
+    for j in 0..len - k {
+        let left = Origin {
+            place: origin.place + j as u32,
+            ..origin
+        };
+        let q = a + j + 1;
+        let r = extend_chain_by_one(text, vertices, edges, index, k, most, s, q, is_ref, left);
+        let Ok(t) = r else {
             return r;
         };
-        s = s2;
-        j += 1;
+        s = t;
     }
-    Step::Next(s)
+    Ok(s)
 }

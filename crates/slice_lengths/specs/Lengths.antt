@@ -121,6 +121,13 @@ pub record Told (k asked : ℕ) (g : GraphMaxima) (s : SearchMaxima) (r : Length
 
 -- ---- the two kinds of answer
 
+-- a workspace whose every field is 0
+pub zero-workspace : (w : Workspace) → w.vertices ≡ 0 → w.edges ≡ 0 → w.index ≡ 0 → w.nodes ≡ 0 → w.open ≡ 0 → w.targets ≡ 0 → w.paths ≡ 0 → w.scores ≡ 0 → w.active ≡ 0 → w.queue ≡ 0 → w.closed ≡ 0 → w.order ≡ 0 → w.marks ≡ 0 → w.walks ≡ 0 → w.columns ≡ 0 → w ≡ no_workspace
+unfolding no_workspace
+zero-workspace w a0 a1 a2 a3 a4 a5 a6 a7 a8 a9 a10 a11 a12 a13 a14 =
+    let e : ◌≡◌ {A = Workspace} w (record { vertices = w.vertices; edges = w.edges; index = w.index; nodes = w.nodes; «open» = w.open; targets = w.targets; paths = w.paths; scores = w.scores; active = w.active; queue = w.queue; closed = w.closed; order = w.order; marks = w.marks; walks = w.walks; columns = w.columns }) = refl in
+    e ∙ cc
+
 unfoldable pub refused_lengths : ℕ → LengthsTold
 refused_lengths n = record { refusal = n; edges = 0; nodes = 0; paths = 0; bases = 0; origins = 0; workspace = no_workspace }
 

@@ -1,22 +1,24 @@
 // How long each slice must be: the call for lengths, and the lengths that rule 7 compares with.
 #![tactic(auto)]
 
-ghost use Rattle.std.specs.Prelude.{◌≡◌, ◌≤◌, max};
+ghost use Rattle.std.specs.Prelude.{◌≡◌, ◌≤◌};
 ghost use Rattle.definition.specs.Refusal.{first_broken};
 ghost use Rattle.definition.specs.Limits.{lengths_rules};
+ghost use Rattle.refusals.specs.Numbers.{number, refusal_of};
 ghost use Rattle.limits.specs.Handed.{graph_maxima_of, search_maxima_of};
 ghost use Rattle.slice_lengths.specs.Workspaces.{path_walks};
 ghost use Rattle.slice_lengths.specs.Lengths.{workspace_told, refused_lengths, accepted_lengths, Told};
 ghost use Rattle.slice_lengths.specs.Bounds.{InLimits};
 
+use bio_ids::kmer_size;
 use limits::{GraphMaxima, SearchMaxima, settings_fit};
-use refusals::MAXIMUM;
+use refusals::Refusal;
 use tables::{EDGE, EDGE_ROW, FORK, KMER, NODE, NODE_ROW, OPEN, PATH, QUEUED, VERTEX};
 
 // How many elements each workspace slice needs: numbers of 32 bits, but for `active`, of 16, and `scores`, of f64. The call for edges and trees is lent
 // the first five; the call for the list is lent all but `open`, and three slices of `columns`, the first of them f64.
 #[repr(C)]
-#[derive(Clone, Copy)]
+#[derive(Clone, Copy, Default)]
 pub struct Workspace {
     // the graph's vertices
     pub vertices: usize,
@@ -52,7 +54,7 @@ pub struct Workspace {
 
 // The answer of `lengths`: a refusal, or how many elements each slice needs; there are two slices of `origins` numbers.
 #[repr(C)]
-#[derive(Clone, Copy)]
+#[derive(Clone, Copy, Default)]
 pub struct LengthsTold {
     pub refusal: u32,
     pub edges: usize,
@@ -64,58 +66,24 @@ pub struct LengthsTold {
 }
 
 // 1 and 5, of the call for lengths.
-fn check_lengths(k: u32, asked: u32, g: GraphMaxima, s: SearchMaxima) -> u32
-    ensures { result ≡ first_broken (lengths_rules k asked (graph_maxima_of g) (search_maxima_of s)) }
+fn check_lengths(k: u32, asked: u32, g: GraphMaxima, s: SearchMaxima) -> Result<(), Refusal>
+    ensures { refusal_of result ≡ first_broken (lengths_rules k asked (graph_maxima_of g) (search_maxima_of s)) }
 {
-    let refusal = bio_ids::k_refusal(k);
-    if refusal > 0 {
-        return refusal;
-    }
+    kmer_size(k)?;
     if !settings_fit(asked, g, s) {
-        return MAXIMUM;
+        return Err(Refusal::Maximum);
     }
-    0
+    Ok(())
 }
 
 // A refused answer holds 0 in every other field.
-fn lengths_refused(refusal: u32) -> LengthsTold
-    ensures { result ≡ refused_lengths refusal }
+fn lengths_refused(refusal: Refusal) -> LengthsTold
+    ensures { result ≡ refused_lengths (number refusal) }
 {
-    let workspace = Workspace {
-        vertices: 0,
-        edges: 0,
-        index: 0,
-        nodes: 0,
-        open: 0,
-        targets: 0,
-        paths: 0,
-        scores: 0,
-        active: 0,
-        queue: 0,
-        closed: 0,
-        order: 0,
-        marks: 0,
-        walks: 0,
-        columns: 0,
-    };
     LengthsTold {
-        refusal: refusal,
-        edges: 0,
-        nodes: 0,
-        paths: 0,
-        bases: 0,
-        origins: 0,
-        workspace: workspace,
+        refusal: u32::from(refusal),
+        ..LengthsTold::default()
     }
-}
-
-fn larger(a: usize, b: usize) -> usize
-    ensures { result ≡ max a b }
-{
-    if a < b {
-        return b;
-    }
-    a
 }
 
 // As much as the largest of the tables that share a slice needs.
@@ -126,7 +94,7 @@ fn walks_told(asked: u32, g: GraphMaxima, s: SearchMaxima) -> usize
     let open = g.nodes as usize * OPEN;
     let queued = g.edges as usize * QUEUED;
     let walks = asked as usize * s.path_edges as usize;
-    larger(open, larger(queued, larger(FORK, walks)))
+    open.max(queued).max(FORK).max(walks)
 }
 
 // The workspace of settings within limits; a path is made by a push, by closing, or as the extension of a fork.
@@ -150,7 +118,7 @@ pub fn workspace_told(asked: u32, g: GraphMaxima, s: SearchMaxima) -> Workspace
         closed: asked as usize,
         order: g.edges as usize,
         marks: g.edges as usize,
-        walks: walks,
+        walks,
         columns: asked as usize,
     }
 }
@@ -169,7 +137,7 @@ pub fn lengths_within(k: u32, asked: u32, g: GraphMaxima, s: SearchMaxima) -> Le
         paths: asked as usize,
         bases: asked as usize * stride,
         origins: asked as usize * s.path_edges as usize,
-        workspace: workspace,
+        workspace,
     }
 }
 
@@ -177,9 +145,8 @@ pub fn lengths_within(k: u32, asked: u32, g: GraphMaxima, s: SearchMaxima) -> Le
 pub fn lengths(k: u32, asked: u32, g: GraphMaxima, s: SearchMaxima) -> LengthsTold
     ensures { Told k asked (graph_maxima_of g) (search_maxima_of s) result }
 {
-    let refusal = check_lengths(k, asked, g, s);
-    if refusal > 0 {
-        return lengths_refused(refusal);
+    match check_lengths(k, asked, g, s) {
+        Ok(()) => lengths_within(k, asked, g, s),
+        Err(refusal) => lengths_refused(refusal),
     }
-    lengths_within(k, asked, g, s)
 }

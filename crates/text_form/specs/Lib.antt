@@ -1,3 +1,4 @@
+pub mod Told
 pub mod Parts
 pub mod Numbers
 pub mod Headers

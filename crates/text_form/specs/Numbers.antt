@@ -1,52 +1,22 @@
 -- Decimal numbers as they are read: digit by digit, given up where the size passes that of every i32.
-use Rattle.std.specs.Prelude.{◌≡◌, Bool, true, false, cond, leb, ℤ, pos, negsuc, neg_ℤ, ◌-ℤ◌, get_or}
-use Rattle.std.proofs.Math.Path.{refl}
-use Rattle.std.proofs.Common.{sym, ap, ◌∙◌, add-one, arith, SFits, to_z, of_z}
-use mathlib.Core.List.{List, [], ◌∷◌}
+use Rattle.std.specs.Prelude.{◌≡◌, Bool, true, false, cond, leb, ℕ, suc, ◌+◌, ◌-◌, ◌*◌, ◌<◌, ◌≤◌, List, [], ◌∷◌, ℤ, pos, negsuc, neg_ℤ, length, get_or, take, drop, refl, FitsSigned, eqb, unsigned_abs, Result, Ok, Err}
+use Rattle.std.proofs.Common.{sym, ap, ◌∙◌, add-one, arith, SFits, leb-true, leb-false, le-leb, drop_of_length-le}
+use Rattle.std.proofs.Math.Seq.{drop-cons}
+use Rattle.std.specs.Cmp.Lexicographic.{pointwise}
+use Rattle.std.specs.Char.{is_ascii_digit}
 use Rattle.std.proofs.Math.Option.{Option, none, some}
-use Prim.Native.Nat.{ℕ, zero, suc, ◌+◌, ◌-◌, ◌*◌, ◌<◌, ◌≤◌}
-use Rattle.std.proofs.Math.IntN.{+ℤ_idl}
-use Rattle.std.specs.Int.Signed.{mag}
-use Rattle.std.specs.Int.{w32, w64}
-use Rattle.std.proofs.lemmas.Int.{to_z_pos, to_z-of_z}
-use Rattle.std.proofs.Math.ListN.{length}
-use Rattle.std.proofs.Math.Seq.{slice, slice-cons, slice_empty}
-use borrow.Author.Tests.{leb-true, leb-false, le-leb, eq-eqb, ne_eqb, lt-leb}
+use Rattle.std.specs.Int.{w32, FitsUnsignedBits}
+use Rattle.std.specs.Result.{result_ok, result_unwrap_or, OkIff}
+use Rattle.std.proofs.lemmas.Bool.{lt-leb}
 use Rattle.laws.specs.Numbers.{within}
 use Rattle.definition.specs.Limits.{k_fits}
 use Rattle.definition.specs.Text.{digits_from, magnitude, not_negative, negative, number, byte_of, size_of, k_within, asked_within}
-use Rattle.text_form.specs.declared.numbers.Decimal.{Decimal}
-use Rattle.text_form.specs.declared.numbers.Digits.{Digits}
-use Rattle.text_form.specs.declared.numbers.Digits.TheVariants as D
-use Rattle.text_form.specs.declared.numbers.Number.{Number}
-use Rattle.text_form.specs.declared.numbers.Number.TheVariants as N
-
--- ---- what the answers say
-
-abbrev pub digits_of : Digits → Option ℕ
-digits_of (D.Value n) = some n
-digits_of D.Malformed = none
-
-abbrev pub value_of : Decimal → ℤ
-value_of d = cond d.negative (neg_ℤ (pos d.size)) (pos d.size)
-
--- the value is an i32
-abbrev pub Fitting : Decimal → Type 0
-Fitting d = d.size ≤ cond d.negative 2147483648 2147483647
-
-abbrev pub Parsed : Number → Option ℤ → Type 0
-Parsed (N.Value d) o = (o ≡ some (value_of d)) × Fitting d
-Parsed N.Malformed o = o ≡ none
+use Rattle.text_form.specs.Told.{told}
 
 -- sizes that an i32 has
 unfoldable pub bounded : Option ℕ → Option ℕ
 bounded none = none
 bounded (some n) = cond (leb n 2147483648) (some n) none
-
--- a value from 0 to `most`
-abbrev pub up_to : ℕ → ℤ → Option ℕ
-up_to most (pos n) = cond (leb n most) (some n) none
-up_to most (negsuc n) = none
 
 -- the paths asked as they are handed on: a number below 0 is as good as one above 8
 abbrev pub asked_of : ℤ → ℕ
@@ -60,13 +30,9 @@ unfolding digits_from
 digit-in v b h k = rw (le-leb 48 b h, le-leb b 57 k, digits_from)
 
 module _ (v b : ℕ) where
-  pub digit_low : b < 48 → none ≡ bounded (digits_from v (b ∷ []))
+  pub digit-out : is_ascii_digit b ≡ false → none ≡ bounded (digits_from v (b ∷ []))
   unfolding digits_from bounded
-  digit_low h = rw (lt-leb 48 b h, digits_from)
-
-  pub digit-high : 57 < b → none ≡ bounded (digits_from v (b ∷ []))
-  unfolding digits_from bounded
-  digit-high h = rw (le-leb 48 b (omega arith), lt-leb b 57 h, digits_from)
+  digit-out h = let e : within 48 57 b ≡ false = h in rw (e, digits_from)
 
   pub digit-beyond : 48 ≤ b → b ≤ 57 → 2147483648 < v * 10 + (b - 48) → none ≡ bounded (digits_from v (b ∷ []))
   unfolding bounded
@@ -127,52 +93,36 @@ more-some v b w bs e = go (within 48 57 b) refl
         absurd (omega arith)
 
 -- the digits from `place` on, behind digits of this value, are worth what all are
-pub record Reading (text : List ℕ) (from to value place : ℕ) : Type 0 where
-  pub whole : digits_from value (slice place to text) ≡ digits_from 0 (slice from to text)
+pub record Reading (digits : List ℕ) (value place : ℕ) : Type 0 where
+  pub whole : digits_from value (drop place digits) ≡ digits_from 0 digits
   pub small : value ≤ 2147483648
-  pub inside : place ≤ to
 
-pub read-start : (text : List ℕ) (from to : ℕ) → from ≤ to → Reading text from to 0 from
-read-start text from to h = record { whole = refl; small = omega arith; inside = h }
-
-module _ {text : List ℕ} {from to value place : ℕ} (s : Reading text from to value place) where
-  pub read-end : to ≤ place → some value ≡ bounded (digits_from 0 (slice from to text))
+module _ {digits : List ℕ} {value place : ℕ} (s : Reading digits value place) where
+  pub read-end : length digits ≤ place → some value ≡ bounded (digits_from 0 digits)
   unfolding digits_from bounded
   read-end h =
-      let e : place ≡ to = (let k = s.inside in omega arith) in
-      let f : digits_from value (slice place to text) ≡ some value = rw (e, slice_empty to text) in
-      rw (← s.whole, f, le-leb value 2147483648 s.small)
+      let f : drop place digits ≡ [] = drop_of_length-le digits h in
+      rw (← s.whole, f, digits_from, le-leb value 2147483648 s.small)
 
-  module _ (l : to ≤ length text) (h : place < to) where
-    pub read-stop : (r : Digits) → digits_of r ≡ bounded (digits_from value (get_or text place 0 ∷ [])) → r ≡ D.Malformed
-        → none ≡ bounded (digits_from 0 (slice from to text))
-    read-stop r e m =
-        let f : none ≡ bounded (digits_from value (get_or text place 0 ∷ [])) = rw m at e in
-        sym
-        (ap bounded (sym s.whole ∙ ap (digits_from value) (slice-cons place to text 0 h l))
-        ∙ more-none value (get_or text place 0) (slice (suc place) to text) f)
+  module _ (h : place < length digits) where
+    next : drop place digits ≡ get_or digits place 0 ∷ drop (suc place) digits
+    next = drop-cons digits place 0 h
 
-    pub read_next : (r : Digits) (v : ℕ) → digits_of r ≡ bounded (digits_from value (get_or text place 0 ∷ [])) → r ≡ D.Value v
-        → Reading text from to v (place + 1)
-    read_next r v e m =
-        let f : some v ≡ bounded (digits_from value (get_or text place 0 ∷ [])) = rw m at e in
-        let g = more-some value (get_or text place 0) v (slice (suc place) to text) f in
+    pub read-stop : none ≡ bounded (digits_from value (get_or digits place 0 ∷ [])) → none ≡ bounded (digits_from 0 digits)
+    read-stop e =
+        sym (ap bounded (sym s.whole ∙ ap (digits_from value) next) ∙ more-none value (get_or digits place 0) (drop (suc place) digits) e)
+
+    pub read_next : (v : ℕ) → some v ≡ bounded (digits_from value (get_or digits place 0 ∷ [])) → Reading digits v (place + 1)
+    read_next v e =
+        let g = more-some value (get_or digits place 0) v (drop (suc place) digits) e in
         record {
-          whole =
-              ap (λ (n : ℕ). digits_from v (slice n to text)) (add-one place)
-              ∙ sym g.0
-              ∙ ap (digits_from value) (sym (slice-cons place to text 0 h l))
-              ∙ s.whole;
+          whole = ap (λ (n : ℕ). digits_from v (drop n digits)) (add-one place) ∙ sym g.0 ∙ ap (digits_from value) (sym next) ∙ s.whole;
           small = g.1;
-          inside = omega arith;
         }
 
 -- ---- signs
 
-abbrev decimal : Bool → ℕ → Decimal
-decimal b n = record { negative = b; size = n }
-
-bounded-some : (o : Option ℕ) (n : ℕ) → some n ≡ bounded o → (o ≡ some n) × (n ≤ 2147483648)
+pub bounded-some : (o : Option ℕ) (n : ℕ) → some n ≡ bounded o → (o ≡ some n) × (n ≤ 2147483648)
 unfolding bounded
 bounded-some none n e = let z : ◌≡◌ {A = ℕ} 0 1 = cc in absurd (omega arith)
 bounded-some (some m) n e = go (leb m 2147483648) refl
@@ -190,181 +140,82 @@ bounded-none (some m) e = go (leb m 2147483648) refl
     go true f = let z : none ≡ some m = rw f at e in let y : ◌≡◌ {A = ℕ} 0 1 = cc in absurd (omega arith)
     go false f = let l = leb-false m 2147483648 f in (rw f, rw (lt-leb m 2147483647 (omega arith)))
 
--- a part that is not empty
-magnitude-some : (p : List ℕ) → 0 < length p → magnitude p ≡ digits_from 0 p
+-- without a digit there is no magnitude
+pub magnitude-none : (digits : List ℕ) → length digits ≡ 0 → none ≡ bounded (magnitude digits)
+unfolding bounded magnitude
+magnitude-none [] h = refl
+magnitude-none (b ∷ bs) h = absurd (omega arith)
+
+pub magnitude-some : (digits : List ℕ) → 0 < length digits → digits_from 0 digits ≡ magnitude digits
 unfolding magnitude
 magnitude-some [] h = absurd (omega arith)
 magnitude-some (b ∷ bs) h = refl
 
-magnitude-none : (p : List ℕ) → length p ≡ 0 → magnitude p ≡ none
-unfolding magnitude
-magnitude-none [] h = refl
-magnitude-none (b ∷ bs) h = absurd (omega arith)
-
-module _ (p : List ℕ) where
-  pub negative-empty : length p ≡ 0 → negative (magnitude p) ≡ none
-  unfolding negative
-  negative-empty h = rw (magnitude-none p h)
-
-  pub positive-empty : length p ≡ 0 → not_negative (magnitude p) ≡ none
-  unfolding not_negative
-  positive-empty h = rw (magnitude-none p h)
-
-  pub number-empty : length p ≡ 0 → number p ≡ none
-  unfolding number
-  number-empty h = go p h
-    where
-      go : (q : List ℕ) → length q ≡ 0 → number q ≡ none
-      go [] h = refl
-      go (b ∷ bs) h = absurd (omega arith)
-
-  module _ (some' : 0 < length p) (r : Digits) (e : digits_of r ≡ bounded (digits_from 0 p)) where
-    pub negative-bad : r ≡ D.Malformed → negative (magnitude p) ≡ none
-    negative-bad m = ap negative (magnitude-some p some') ∙ (bounded-none (digits_from 0 p) (rw m at e)).0
-
-    pub positive-bad : r ≡ D.Malformed → not_negative (magnitude p) ≡ none
-    positive-bad m = ap not_negative (magnitude-some p some') ∙ (bounded-none (digits_from 0 p) (rw m at e)).1
-
-    pub negative-good : (n : ℕ) → r ≡ D.Value n → Parsed (N.Value (decimal true n)) (negative (magnitude p))
-    unfolding negative
-    negative-good n m =
-        let b = bounded-some (digits_from 0 p) n (rw m at e) in
-        (rw (magnitude-some p some', b.0, le-leb n 2147483648 b.1), b.1)
-
-    pub positive-large : (n : ℕ) → r ≡ D.Value n → 2147483647 < n → not_negative (magnitude p) ≡ none
-    unfolding not_negative
-    positive-large n m h =
-        let b = bounded-some (digits_from 0 p) n (rw m at e) in
-        rw (magnitude-some p some', b.0, lt-leb n 2147483647 h)
-
-    pub positive-good : (n : ℕ) → r ≡ D.Value n → n ≤ 2147483647 → Parsed (N.Value (decimal false n)) (not_negative (magnitude p))
-    unfolding not_negative
-    positive-good n m h =
-        let b = bounded-some (digits_from 0 p) n (rw m at e) in
-        (rw (magnitude-some p some', b.0, le-leb n 2147483647 h), h)
-
-module _ (text : List ℕ) (from to : ℕ) (l : to ≤ length text) (h : from < to) where
-  pub number-negative : (r : Number) → get_or text from 0 ≡ 45 → Parsed r (negative (magnitude (slice (from + 1) to text))) → Parsed r (number (slice from to text))
-  unfolding number
-  number-negative r e q =
-      rw (slice-cons from to text 0 h l, number, eq-eqb (get_or text from 0) 45 e, ← (add-one from)) q
-
-  pub number-positive : (r : Number) → (get_or text from 0 ≡ 45 → ⊥) → Parsed r (not_negative (magnitude (slice from to text))) → Parsed r (number (slice from to text))
-  unfolding number
-  number-positive r e q =
-      let z : number (slice from to text) ≡ not_negative (magnitude (slice from to text)) =
-      rw (slice-cons from to text 0 h l, number, ne_eqb (get_or text from 0) 45 e)
-      in
-      rw z q
-
--- ---- a number's value
-
-module _ (d : Decimal) where
-  pub asked-below : d.negative ≡ true → 0 < d.size → 9 ≡ asked_of (value_of d)
-  asked-below e h = rw e (go d.size h)
-    where
-      go : (n : ℕ) → 0 < n → 9 ≡ asked_of (neg_ℤ (pos n))
-      go zero h = absurd (omega arith)
-      go (suc n) h = refl
-
-  pub asked-zero : d.negative ≡ true → d.size ≤ 0 → d.size ≡ asked_of (value_of d)
-  asked-zero e h = rw e (go d.size h)
-    where
-      go : (n : ℕ) → n ≤ 0 → n ≡ asked_of (neg_ℤ (pos n))
-      go zero h = refl
-      go (suc n) h = absurd (omega arith)
-
-  pub size_below : d.negative ≡ true → 0 ≡ size_of (value_of d)
-  unfolding size_of
-  size_below e = rw e (go d.size)
-    where
-      go : (n : ℕ) → 0 ≡ size_of (neg_ℤ (pos n))
-      go zero = refl
-      go (suc n) = refl
-
-  pub size_above : d.negative ≡ false → d.size ≡ size_of (value_of d)
-  unfolding size_of
-  size_above e = rw e
-
-  pub above_most : (most : ℕ) → most < d.size → none ≡ up_to most (value_of d)
-  above_most most h = go d.negative d.size h
-    where
-      go : (b : Bool) (n : ℕ) → most < n → none ≡ up_to most (cond b (neg_ℤ (pos n)) (pos n))
-      go true zero h = absurd (omega arith)
-      go true (suc n) h = refl
-      go false n h = rw (lt-leb n most h)
-
-  pub below-zero : (most : ℕ) → d.negative ≡ true → 0 < d.size → none ≡ up_to most (value_of d)
-  below-zero most e h = rw e (go d.size h)
-    where
-      go : (n : ℕ) → 0 < n → none ≡ up_to most (neg_ℤ (pos n))
-      go zero h = absurd (omega arith)
-      go (suc n) h = refl
-
-  pub zero-within : (most : ℕ) → d.size ≤ most → d.negative ≡ true → d.size ≤ 0 → some d.size ≡ up_to most (value_of d)
-  zero-within most k e h = rw e (go d.size h k)
-    where
-      go : (n : ℕ) → n ≤ 0 → n ≤ most → some n ≡ up_to most (neg_ℤ (pos n))
-      go zero h k = rw (le-leb 0 most k)
-      go (suc n) h k = absurd (omega arith)
-
-  pub above_within : (most : ℕ) → d.size ≤ most → d.negative ≡ false → some d.size ≡ up_to most (value_of d)
-  above_within most k e = rw (e, le-leb d.size most k)
-
-  pub signed_below : d.negative ≡ true → neg_ℤ (pos d.size) ≡ value_of d
-  signed_below e = rw e
-
-  pub signed_above : d.negative ≡ false → pos d.size ≡ value_of d
-  signed_above e = rw e
-
-  pub fitting-below : d.negative ≡ true → Fitting d → d.size ≤ 2147483648
-  fitting-below e h = rw e at h
-
-  pub fitting-above : d.negative ≡ false → Fitting d → d.size ≤ 2147483647
-  fitting-above e h = rw e at h
-
--- ---- a negative i32 by way of 64 bits
-
-module _ (n : ℕ) (h : n ≤ 2147483648) where
-  pub below-is : pos 0 -ℤ to_z w64 n ≡ neg_ℤ (pos n)
-  below-is = ap (λ (z : ℤ). pos 0 -ℤ z) (to_z_pos w64 n (omega arith)) ∙ +ℤ_idl (neg_ℤ (pos n))
-
-  neg-mag : mag (neg_ℤ (pos n)) < 2147483648
-  neg-mag = go n h
-    where
-      go : (m : ℕ) → m ≤ 2147483648 → mag (neg_ℤ (pos m)) < 2147483648
-      go zero h = omega arith
-      go (suc m) h = omega arith
-
-  pub below-wide : SFits w64 (pos 0 -ℤ to_z w64 n)
-  below-wide = let k = neg-mag in rw below-is (record { sfits = omega arith })
-
-  pub below-back : to_z w64 (of_z w64 (pos 0 -ℤ to_z w64 n)) ≡ neg_ℤ (pos n)
-  below-back = to_z-of_z w64 (pos 0 -ℤ to_z w64 n) below-wide ∙ below-is
-
-  pub below-narrow : SFits w32 (to_z w64 (of_z w64 (pos 0 -ℤ to_z w64 n)))
-  below-narrow = rw below-back (record { sfits = neg-mag })
-
-  pub below-same : to_z w32 (of_z w32 (to_z w64 (of_z w64 (pos 0 -ℤ to_z w64 n)))) ≡ neg_ℤ (pos n)
-  below-same = to_z-of_z w32 (to_z w64 (of_z w64 (pos 0 -ℤ to_z w64 n))) below-narrow ∙ below-back
-
-  pub signed_back : (z : ℤ) → z ≡ neg_ℤ (pos n) → to_z w32 (of_z w32 z) ≡ z
-  signed_back z e = to_z-of_z w32 z (rw e (record { sfits = neg-mag }))
-
--- a value that fits comes back from its bits
-pub signed_same : (d : Decimal) (z : ℤ) → Fitting d → z ≡ value_of d → to_z w32 (of_z w32 z) ≡ value_of d
-signed_same d z h e = to_z-of_z w32 z (rw e (go d.negative d.size h)) ∙ e
+-- a part begins with a hyphen if its first byte is taken off as one
+number-hyphen : (part : List ℕ) → pointwise eqb (take 1 part) (45 ∷ []) ≡ true → number part ≡ negative (magnitude (drop 1 part))
+unfolding number
+number-hyphen [] h = let z : ◌≡◌ {A = ℕ} 0 1 = cc in absurd (omega arith)
+number-hyphen (b ∷ bs) h = go (eqb b 45) refl
   where
-    go : (b : Bool) (n : ℕ) → n ≤ cond b 2147483648 2147483647 → SFits w32 (cond b (neg_ℤ (pos n)) (pos n))
-    go true n h = record { sfits = neg-mag n h }
-    go false n h = record { sfits = omega arith }
+    go : (t : Bool) → eqb b 45 ≡ t → number (b ∷ bs) ≡ negative (magnitude bs)
+    go true e = rw (e, number)
+    go false e = let f : false ≡ true = rw e at h in let z : ◌≡◌ {A = ℕ} 0 1 = cc in absurd (omega arith)
+
+number-plain : (part : List ℕ) → pointwise eqb (take 1 part) (45 ∷ []) ≡ false → number part ≡ not_negative (magnitude part)
+unfolding number magnitude not_negative
+number-plain [] h = refl
+number-plain (b ∷ bs) h = go (eqb b 45) refl
+  where
+    go : (t : Bool) → eqb b 45 ≡ t → number (b ∷ bs) ≡ not_negative (magnitude (b ∷ bs))
+    go true e = let f : true ≡ false = rw e at h in let z : ◌≡◌ {A = ℕ} 0 1 = cc in absurd (omega arith)
+    go false e = rw (e, number)
+
+module _ (part : List ℕ) where
+  module _ (h : pointwise eqb (take 1 part) (45 ∷ []) ≡ true) where
+    pub negative-bad : none ≡ bounded (magnitude (drop 1 part)) → none ≡ number part
+    negative-bad e = sym (number-hyphen part h ∙ (bounded-none (magnitude (drop 1 part)) e).0)
+
+    pub negative-good : (n : ℕ) → some n ≡ bounded (magnitude (drop 1 part)) → some (neg_ℤ (pos n)) ≡ number part
+    unfolding negative
+    negative-good n e =
+        let b = bounded-some (magnitude (drop 1 part)) n e in
+        sym (number-hyphen part h ∙ rw (b.0, le-leb n 2147483648 b.1))
+
+  module _ (h : pointwise eqb (take 1 part) (45 ∷ []) ≡ false) where
+    pub positive-bad : none ≡ bounded (magnitude part) → none ≡ number part
+    positive-bad e = sym (number-plain part h ∙ (bounded-none (magnitude part) e).1)
+
+    pub positive-good : {E : Type 0} (n : ℕ) (r : Result ℤ E) → some n ≡ bounded (magnitude part) → OkIff r (FitsSigned w32 (pos n)) (pos n)
+        → told (result_ok r) ≡ number part
+    unfolding not_negative
+    positive-good n (Err x) e k =
+        let b = bounded-some (magnitude part) n e in
+        sym (number-plain part h ∙ rw (b.0, lt-leb n 2147483647 (go (leb n 2147483647) refl)))
+      where
+        go : (t : Bool) → leb n 2147483647 ≡ t → 2147483647 < n
+        go true f = let l = leb-true n 2147483647 f in absurd (k (record { sfits = omega arith }))
+        go false f = leb-false n 2147483647 f
+    positive-good n (Ok z) e k =
+        let b = bounded-some (magnitude part) n e in
+        let f = k.0.sfits in
+        ap (λ (x : ℤ). some x) k.1 ∙ sym (number-plain part h ∙ rw (b.0, le-leb n 2147483647 (omega arith)))
 
 -- ---- what the settings ask of a value
 
-pub byte-up : (z : ℤ) → byte_of z ≡ up_to 255 z
-unfolding byte_of
-byte-up (pos n) = refl
-byte-up (negsuc n) = refl
+module _ {E : Type 0} where
+  pub byte-told : (z : ℤ) (r : Result ℕ E) → OkIff r (FitsUnsignedBits 8 z) (unsigned_abs z) → told (result_ok r) ≡ byte_of z
+  unfolding byte_of
+  byte-told (pos n) (Ok m) h = let e : m ≡ n = h.1 in rw (e, le-leb n 255 (omega (arith, h.0)))
+  byte-told (pos n) (Err e) h = rw (lt-leb n 255 (omega (arith, h)))
+  byte-told (negsuc n) (Ok m) h = absurd (h.0)
+  byte-told (negsuc n) (Err e) h = refl
+
+  pub size-told : (z : ℤ) (r : Result ℕ E) → SFits w32 z → OkIff r (FitsUnsignedBits 32 z) (unsigned_abs z) → result_unwrap_or r 0 ≡ size_of z
+  unfolding size_of
+  size-told (pos n) (Ok m) f h = h.1
+  size-told (pos n) (Err e) f h = absurd (let g = f.sfits in h (omega arith))
+  size-told (negsuc n) (Ok m) f h = absurd (h.0)
+  size-told (negsuc n) (Err e) f h = refl
 
 pub k-within : (z : ℤ) → k_within z ≡ k_fits (size_of z)
 unfolding k_within size_of k_fits

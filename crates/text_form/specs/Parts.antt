@@ -1,9 +1,11 @@
 -- The parts of a text that a byte ends, as a search for that byte finds them.
-use Rattle.std.specs.Prelude.{◌≡◌, refl, ◌⊎◌, Bool, true, false, List, [], ◌∷◌, ◌++◌, ℕ, zero, suc, ◌+◌, ◌-◌, ◌<◌, ◌≤◌, eqb, length, take, drop, get_or}
-use Rattle.std.proofs.Common.{sym, ap, ◌∙◌, inl, inr, add-one, arith, length-append, length-drop, drop_of_length-le, drop-drop, take-take, length-take-le, eq-eqb, ne_eqb}
+use Rattle.std.specs.Prelude.{◌≡◌, refl, ◌⊎◌, Bool, true, false, cond, List, [], ◌∷◌, ◌++◌, ℕ, zero, suc, ◌+◌, ◌-◌, ◌<◌, ◌≤◌, eqb, length, take, drop, Option as Maybe, Some, None, unwrap_or, position as find_position}
+use Rattle.std.proofs.Common.{sym, ap, ◌∙◌, inl, inr, arith, length-append, length-drop, drop_of_length-le, drop-drop, eq-eqb, ltb, ltb-true, ltb-false}
 use Rattle.std.proofs.Math.Option.{Option, none, some}
-use Rattle.std.proofs.Math.Seq.{slice, slice-cons, slice_empty, length-slice, take-nil, take-length}
+use Rattle.std.proofs.Math.Seq.{slice, take-nil, take-length}
 use Rattle.std.proofs.lemmas.List.{drop-append-le, take-append-le}
+use Rattle.std.proofs.lemmas.List.Recursion.{is_position_or_len}
+use Rattle.std.specs.List.{position_or_len}
 use Rattle.laws.specs.Lists.{position}
 use Rattle.definition.specs.Text.{parts, longer, in_front}
 
@@ -11,44 +13,24 @@ use Rattle.definition.specs.Text.{parts, longer, in_front}
 abbrev pub first_at : ℕ → List ℕ → ℕ
 first_at stop t = position (λ (b : ℕ). eqb b stop) t
 
--- ---- the search
-
--- place is reached, and the search from there finds what the whole search finds
-pub record Seeking (stop : ℕ) (text : List ℕ) (from to place : ℕ) : Type 0 where
-  pub found : place + first_at stop (slice place to text) ≡ from + first_at stop (slice from to text)
-  pub inside : place ≤ to
-
-pub seek-start : (stop : ℕ) (text : List ℕ) (from to : ℕ) → from ≤ to → Seeking stop text from to from
-seek-start stop text from to h = record { found = refl; inside = h }
+-- a search for a byte found it at its first place, or it doesn't stand there
+abbrev pub Found : ℕ → List ℕ → Maybe ℕ → Type 0
+Found byte t None = first_at byte t ≡ length t
+Found byte t (Some n) = (n ≡ first_at byte t) × (n < length t)
 
 first-here : (stop b : ℕ) (bs : List ℕ) → b ≡ stop → first_at stop (b ∷ bs) ≡ 0
 first-here stop b bs e = rw (eq-eqb b stop e, position)
 
-first-later : (stop b : ℕ) (bs : List ℕ) → (b ≡ stop → ⊥) → first_at stop (b ∷ bs) ≡ suc (first_at stop bs)
-first-later stop b bs e = rw (ne_eqb b stop e, position)
-
-module _ {stop : ℕ} {text : List ℕ} {from to place : ℕ} (s : Seeking stop text from to place) (l : to ≤ length text) where
-  pub seek_found : place < to → get_or text place 0 ≡ stop → place ≡ from + first_at stop (slice from to text)
-  seek_found h e =
-      let c = slice-cons place to text 0 h l in
-      let f : first_at stop (slice place to text) ≡ 0 = ap (first_at stop) c ∙ first-here stop (get_or text place 0) (slice (suc place) to text) e in
-      let g = s.found in
-      omega arith
-
-  pub seek-next : place < to → (get_or text place 0 ≡ stop → ⊥) → Seeking stop text from to (place + 1)
-  seek-next h e =
-      let c = slice-cons place to text 0 h l in
-      let f : first_at stop (slice place to text) ≡ suc (first_at stop (slice (suc place) to text)) = ap (first_at stop) c ∙ first-later stop (get_or text place 0) (slice (suc place) to text) e in
-      let g = s.found in
-      let k : first_at stop (slice (place + 1) to text) ≡ first_at stop (slice (suc place) to text) = ap (λ (n : ℕ). first_at stop (slice n to text)) (add-one place) in
-      record { found = omega arith; inside = omega arith }
-
-  pub seek-end : to ≤ place → place ≡ from + first_at stop (slice from to text)
-  seek-end h =
-      let e : place ≡ to = (let k = s.inside in omega arith) in
-      let f : first_at stop (slice place to text) ≡ 0 = ap (λ (n : ℕ). first_at stop (slice n to text)) e ∙ ap (first_at stop) (slice_empty to text) in
-      let g = s.found in
-      omega arith
+-- the first place as the library's search counts it
+first-or-len : (byte : ℕ) (t : List ℕ) → first_at byte t ≡ position_or_len (λ (b : ℕ). eqb b byte) t
+first-or-len byte = is_position_or_len (first_at byte) (λ (b : ℕ). eqb b byte) refl more
+  where
+    more : (b : ℕ) (bs : List ℕ) → first_at byte (b ∷ bs) ≡ cond (eqb b byte) 0 (1 + first_at byte bs)
+    more b bs = go (eqb b byte) refl
+      where
+        go : (x : Bool) → eqb b byte ≡ x → first_at byte (b ∷ bs) ≡ cond x 0 (1 + first_at byte bs)
+        go true e = rw (e, position)
+        go false e = rw (e, position) (omega arith)
 
 pub first-most : (stop : ℕ) (t : List ℕ) → first_at stop t ≤ length t
 first-most stop [] = omega arith
@@ -58,13 +40,24 @@ first-most stop (b ∷ bs) = go (eqb b stop) refl (first-most stop bs)
     go true e ih = rw (e, position) (omega arith)
     go false e ih = rw (e, position) (omega arith)
 
--- what a search between two places finds lies between them
-pub found_within : (stop : ℕ) (text : List ℕ) (from to r : ℕ) → from ≤ to → to ≤ length text → r ≡ from + first_at stop (slice from to text)
-    → (from ≤ r) × (r ≤ to)
-found_within stop text from to r h l e =
-    let a = first-most stop (slice from to text) in
-    let b = length-slice from to text l in
-    (omega arith, omega arith)
+pub found-first : (byte : ℕ) (t : List ℕ) (r : Maybe ℕ) → r ≡ find_position (λ (b : ℕ). eqb b byte) t → Found byte t r
+found-first byte t r e = go (ltb (position_or_len (λ (b : ℕ). eqb b byte) t) (length t)) refl
+  where
+    go : (x : Bool) → ltb (position_or_len (λ (b : ℕ). eqb b byte) t) (length t) ≡ x → Found byte t r
+    go true f =
+        let g : r ≡ Some (position_or_len (λ (b : ℕ). eqb b byte) t) = rw f at e in
+        let l = ltb-true _ _ f in
+        rw g (sym (first-or-len byte t), l)
+    go false f =
+        let g : r ≡ None = rw f at e in
+        let l = ltb-false _ _ f in
+        let m = first-most byte t in
+        let w = first-or-len byte t in
+        rw g (omega arith)
+
+pub found-or : (byte : ℕ) (t : List ℕ) (r : Maybe ℕ) → Found byte t r → unwrap_or r (length t) ≡ first_at byte t
+found-or byte t None h = sym h
+found-or byte t (Some n) h = h.0
 
 -- ---- the first part
 
@@ -130,12 +123,6 @@ module _ {A : Type 0} where
   pub drop-whole : (at : ℕ) (xs : List A) → slice at (length xs) xs ≡ drop at xs
   drop-whole at xs = ap (drop at) (take-length xs)
 
-  pub slice-none : (f t : ℕ) (xs : List A) → t ≤ length xs → t ≤ f → length (slice f t xs) ≡ 0
-  slice-none f t xs l h = let e = length-slice f t xs l in omega arith
-
-  pub slice-some : (f t : ℕ) (xs : List A) → t ≤ length xs → f < t → 0 < length (slice f t xs)
-  slice-some f t xs l h = let e = length-slice f t xs l in omega arith
-
   -- a part of a slice as a loan has it
   abbrev pub part : ℕ → ℕ → List A → List A
   part a e xs = take (e - a) (drop a xs)
@@ -143,26 +130,24 @@ module _ {A : Type 0} where
   pub part_slice : (a e : ℕ) (xs : List A) → a ≤ e → part a e xs ≡ slice a e xs
   part_slice a e xs h = let z : a + (e - a) ≡ e = omega arith in take-slice (e - a) a xs ∙ ap (λ (n : ℕ). slice a n xs) z
 
--- a line ends at place r
-pub line_first : (text : List ℕ) (at r : ℕ) → at ≤ length text → r ≡ at + first_at 10 (slice at (length text) text) → r < length text
-    → parts 10 (drop at text) ≡ in_front (slice at r text) (parts 10 (drop (r + 1) text))
-line_first text at r h e k =
-    let w = drop-whole at text in
-    let n : ℕ = first_at 10 (drop at text) in
-    let f : r ≡ at + n = e ∙ ap (λ (l : List ℕ). at + first_at 10 l) w in
-    let l = length-drop at text in
-    let g : at + suc n ≡ r + 1 = omega arith in
-    parts_first 10 (drop at text) (omega arith)
-    ∙ rw (take-slice n at text, drop-drop (suc n) at text, g, ← f)
+  -- all behind a place as a loan has it
+  pub part_rest : (a : ℕ) (xs : List A) → part a (length xs) xs ≡ drop a xs
+  part_rest a xs = ap (λ (n : ℕ). take n (drop a xs)) (sym (length-drop-sub a xs)) ∙ take-length (drop a xs)
+    where
+      length-drop-sub : (a : ℕ) (xs : List A) → length (drop a xs) ≡ length xs - a
+      length-drop-sub a xs = let l = length-drop a xs in omega arith
+
+-- a line ends n bytes behind a place
+pub line_first : (text : List ℕ) (at n : ℕ) → n ≡ first_at 10 (drop at text) → n < length (drop at text)
+    → parts 10 (drop at text) ≡ in_front (slice at (at + n) text) (parts 10 (drop (at + n + 1) text))
+line_first text at n e k =
+    let g : at + suc n ≡ at + n + 1 = omega arith in
+    parts_first 10 (drop at text) (rw (← e) k)
+    ∙ rw (← e, take-slice n at text, drop-drop (suc n) at text, g)
 
 -- no line feed is left
-pub line-unended : (text : List ℕ) (at r : ℕ) → at < length text → r ≡ at + first_at 10 (slice at (length text) text) → length text ≤ r
-    → parts 10 (drop at text) ≡ none
-line-unended text at r h e k =
-    let w = drop-whole at text in
-    let f : r ≡ at + first_at 10 (drop at text) = e ∙ ap (λ (l : List ℕ). at + first_at 10 l) w in
-    let l = length-drop at text in
-    parts-unended 10 (drop at text) (omega arith) (omega arith)
+pub line-unended : (text : List ℕ) (at : ℕ) → at < length text → first_at 10 (drop at text) ≡ length (drop at text) → parts 10 (drop at text) ≡ none
+line-unended text at h e = let l = length-drop at text in parts-unended 10 (drop at text) (omega arith) (omega arith)
 
 -- ---- parts of a line with one more end behind it
 
@@ -175,46 +160,32 @@ first-append stop (b ∷ bs) = go (eqb b stop) refl (first-append stop bs)
     go false e ih = rw (e, position) (ap suc ih)
 
 -- what is left of a line from place `at` on, with one more `stop` behind it
-abbrev pub left_of : ℕ → List ℕ → ℕ → ℕ → List ℕ
-left_of stop text end at = drop at (take end text ++ stop ∷ [])
+abbrev pub left_of : ℕ → List ℕ → ℕ → List ℕ
+left_of stop line at = drop at (line ++ stop ∷ [])
 
-module _ (stop : ℕ) (text : List ℕ) (end : ℕ) (inside : end ≤ length text) where
-  line-long : length (take end text) ≡ end
-  line-long = length-take-le end text inside
-
-  pub left-none : left_of stop text end (end + 1) ≡ []
+module _ (stop : ℕ) (line : List ℕ) where
+  pub left-none : left_of stop line (length line + 1) ≡ []
   left-none =
-      let l = line-long in
-      let a = length-append (take end text) (stop ∷ []) in
-      drop_of_length-le (take end text ++ stop ∷ []) {i = end + 1} (omega arith)
+      let a = length-append line (stop ∷ []) in
+      drop_of_length-le (line ++ stop ∷ []) {i = length line + 1} (omega arith)
 
-  pub left-some : (at : ℕ) → at ≤ end → 0 < length (left_of stop text end at)
+  pub left-some : (at : ℕ) → at ≤ length line → 0 < length (left_of stop line at)
   left-some at h =
-      let l = line-long in
-      let a = length-append (take end text) (stop ∷ []) in
-      let d = length-drop at (take end text ++ stop ∷ []) in
+      let a = length-append line (stop ∷ []) in
+      let d = length-drop at (line ++ stop ∷ []) in
       omega arith
 
-  pub field-first : (at r : ℕ) → at ≤ end → r ≡ at + first_at stop (slice at end text)
-      → parts stop (left_of stop text end at) ≡ in_front (slice at r text) (parts stop (left_of stop text end (r + 1)))
-  field-first at r h e =
-      let l = line-long in
-      let s : List ℕ = slice at end text in
-      let n : ℕ = first_at stop s in
-      let q : left_of stop text end at ≡ s ++ stop ∷ [] = drop-append-le at (take end text) (stop ∷ []) (omega arith) in
-      let m : n ≤ length s = first-most stop s in
-      let ls : length s ≡ end - at = length-slice at end text inside in
-      let fa : first_at stop (left_of stop text end at) ≡ n = ap (first_at stop) q ∙ first-append stop s in
-      let la : length (left_of stop text end at) ≡ length s + 1 = ap length q ∙ length-append s (stop ∷ []) in
-      let ta : take n (left_of stop text end at) ≡ slice at r text =
-      ap (take n) q
-      ∙ take-append-le n s (stop ∷ []) m
-      ∙ take-slice n at (take end text)
-      ∙ ap (drop at) (take-take (at + n) end text (omega arith))
-      ∙ ap (λ (i : ℕ). slice at i text) (sym e)
-      in
-      let g : at + suc n ≡ r + 1 = omega arith in
-      let da : drop (suc n) (left_of stop text end at) ≡ left_of stop text end (r + 1) = drop-drop (suc n) at (take end text ++ stop ∷ []) ∙ ap (left_of stop text end) g in
-      let p = parts_first stop (left_of stop text end at) (omega arith) in
-      let p' : parts stop (left_of stop text end at) ≡ in_front (take n (left_of stop text end at)) (parts stop (drop (suc n) (left_of stop text end at))) = rw fa at p in
-      p' ∙ ap (λ (x : List ℕ). in_front x (parts stop (drop (suc n) (left_of stop text end at)))) ta ∙ ap (λ (x : List ℕ). in_front (slice at r text) (parts stop x)) da
+  pub field-first : (at n : ℕ) → at ≤ length line → n ≡ first_at stop (drop at line)
+      → parts stop (left_of stop line at) ≡ in_front (take n (drop at line)) (parts stop (left_of stop line (at + n + 1)))
+  field-first at n h e =
+      let s : List ℕ = drop at line in
+      let q : left_of stop line at ≡ s ++ stop ∷ [] = drop-append-le at line (stop ∷ []) h in
+      let m : first_at stop s ≤ length s = first-most stop s in
+      let fa : first_at stop (left_of stop line at) ≡ n = ap (first_at stop) q ∙ first-append stop s ∙ sym e in
+      let la : length (left_of stop line at) ≡ length s + 1 = ap length q ∙ length-append s (stop ∷ []) in
+      let ta : take n (left_of stop line at) ≡ take n s = ap (take n) q ∙ take-append-le n s (stop ∷ []) (omega arith) in
+      let g : at + suc n ≡ at + n + 1 = omega arith in
+      let da : drop (suc n) (left_of stop line at) ≡ left_of stop line (at + n + 1) = drop-drop (suc n) at (line ++ stop ∷ []) ∙ ap (left_of stop line) g in
+      let p = parts_first stop (left_of stop line at) (omega arith) in
+      let p' : parts stop (left_of stop line at) ≡ in_front (take n (left_of stop line at)) (parts stop (drop (suc n) (left_of stop line at))) = rw fa at p in
+      p' ∙ ap (λ (x : List ℕ). in_front x (parts stop (drop (suc n) (left_of stop line at)))) ta ∙ ap (λ (x : List ℕ). in_front (take n s) (parts stop x)) da

@@ -1,31 +1,21 @@
 -- The lines behind the first as they are read: pair by pair, each with what is left behind it.
-use Rattle.std.specs.Prelude.{◌≡◌, Bool, ◌&&◌, ℕ, suc, ◌+◌, ◌-◌, ◌<◌, ◌≤◌, eqb, take, drop, get_or}
-use Rattle.std.proofs.Math.Path.{refl, sym, ap}
-use Rattle.std.proofs.Common.{◌∙◌, add-one, arith, length-append}
-use Rattle.std.proofs.Math.Bool.{true, false, and-true}
-use mathlib.Core.List.{List, [], ◌∷◌, ◌++◌, append-nil}
+use Rattle.std.specs.Prelude.{◌≡◌, Bool, true, false, ◌&&◌, ℕ, ◌+◌, ◌-◌, ◌<◌, ◌≤◌, eqb, leb, List, [], ◌∷◌, ◌++◌, length, take, drop, refl, Option as Maybe, Some, None}
+use Rattle.std.proofs.Common.{sym, ap, ◌∙◌, arith, length-append, length-drop, append-nil, leb-true, leb-false, le-leb}
+use Rattle.std.proofs.Math.Bool.{and-true}
 use Rattle.std.proofs.Math.Option.{Option, none, some}
-use Rattle.std.proofs.Math.Dec.{leb}
-use Rattle.std.proofs.Math.ListN.{length}
 use Rattle.std.proofs.lemmas.List.{length-map}
-use Rattle.std.proofs.Math.Seq.{slice, slice-cons, slice_empty, length-slice, drop-length}
-use borrow.Author.Tests.{leb-true, leb-false, le-leb, lt-leb}
+use Rattle.std.proofs.lemmas.Bool.{lt-leb}
+use Rattle.std.proofs.Math.Seq.{slice, length-slice, drop-length}
+use Rattle.std.specs.List.{list_all}
+use Rattle.std.specs.Char.{is_ascii_graphic}
 use Rattle.laws.specs.Lists.{all}
 use Rattle.definition.specs.Text.{Header, ReadLines, Text, parts, header, is_quality, values, reads_of, from_lines, text_of, even_read, with, in_front}
-use Rattle.text_form.specs.Parts.{first_at, line_first, line-unended, found_within}
+use Rattle.text_form.specs.Parts.{first_at, line_first, line-unended}
 use Rattle.text_form.specs.Headers.{shown, HeaderSays}
-use Rattle.text_form.specs.declared.header.Header as H
-use Rattle.text_form.specs.declared.header.Header.TheVariants as HV
 use Rattle.text_form.specs.declared.header.Settings.{Settings}
 use Rattle.text_form.specs.declared.reads.Lines.{Lines}
-use Rattle.text_form.specs.declared.reads.Pair.{Pair}
-use Rattle.text_form.specs.declared.reads.Pair.TheVariants as P
 use Rattle.text_form.specs.declared.reads.Tally.{Tally}
-use Rattle.text_form.specs.declared.reads.Scan.{Scan}
-use Rattle.text_form.specs.declared.reads.Scan.TheVariants as S
 use Rattle.text_form.specs.declared.reads.Layout.{Layout}
-use Rattle.text_form.specs.declared.reads.Form.{Form}
-use Rattle.text_form.specs.declared.reads.Form.TheVariants as F
 
 -- ---- what the answers say
 
@@ -44,13 +34,13 @@ pub record PairAt (text : List ℕ) (at : ℕ) (l : Lines) : Type 0 where
   pub inside : l.qualities < length text
   pub good : all is_quality (slice (l.bases + 1) l.qualities text) ≡ true
 
-abbrev pub PairSays : List ℕ → ℕ → Pair → Type 0
-PairSays text at (P.At l) = PairAt text at l
-PairSays text at P.Malformed = reads_from text at ≡ none
+abbrev pub PairSays : List ℕ → ℕ → Maybe Lines → Type 0
+PairSays text at (Some l) = PairAt text at l
+PairSays text at None = reads_from text at ≡ none
 
-abbrev pub ScanSays : Scan → Option (List ReadLines) → Type 0
-ScanSays r none = r ≡ S.Malformed
-ScanSays r (some rs) = r ≡ S.Reads (record { count = length rs; even = all even_read rs })
+abbrev pub ScanSays : Maybe Tally → Option (List ReadLines) → Type 0
+ScanSays r none = r ≡ None
+ScanSays r (some rs) = r ≡ Some (record { count = length rs; even = all even_read rs })
 
 -- where the parts of a text stand
 pub record Laid (text : List ℕ) (l : Layout) (t : Text) : Type 0 where
@@ -64,47 +54,16 @@ pub record Laid (text : List ℕ) (l : Layout) (t : Text) : Type 0 where
   pub behind : l.reads ≡ l.past + 1
   pub inside : l.reads ≤ length text
 
-abbrev pub FormSays : List ℕ → Form → Option Text → Type 0
-FormSays text r none = r ≡ F.Malformed
-FormSays text r (some t) = (l : Layout) × (r ≡ F.Read l) × Laid text l t
+abbrev pub FormSays : List ℕ → Maybe Layout → Option Text → Type 0
+FormSays text r none = r ≡ None
+FormSays text r (some t) = (l : Layout) × (r ≡ Some l) × Laid text l t
 
 -- ---- the qualities
 
-pub record Good (text : List ℕ) (from to place : ℕ) : Type 0 where
-  pub whole : all is_quality (slice place to text) ≡ all is_quality (slice from to text)
-  pub inside : place ≤ to
-
-pub good_start : (text : List ℕ) (from to : ℕ) → from ≤ to → Good text from to from
-good_start text from to h = record { whole = refl; inside = h }
-
-module _ {text : List ℕ} {from to place : ℕ} (g : Good text from to place) where
-  pub good-end : to ≤ place → true ≡ all is_quality (slice from to text)
-  good-end h =
-      let e : place ≡ to = (let k = g.inside in omega arith) in
-      sym (ap (λ (n : ℕ). all is_quality (slice n to text)) e ∙ ap (all is_quality) (slice_empty to text)) ∙ g.whole
-
-  module _ (l : to ≤ length text) (h : place < to) where
-    front : all is_quality (slice place to text) ≡ (is_quality (get_or text place 0) && all is_quality (slice (suc place) to text))
-    front = ap (all is_quality) (slice-cons place to text 0 h l)
-
-    pub good-low : get_or text place 0 < 33 → false ≡ all is_quality (slice from to text)
-    unfolding is_quality
-    good-low k = sym (rw (lt-leb 33 (get_or text place 0) k) at front) ∙ g.whole
-
-    pub good-high : 126 < get_or text place 0 → false ≡ all is_quality (slice from to text)
-    unfolding is_quality
-    good-high k = sym (rw (le-leb 33 (get_or text place 0) (omega arith), lt-leb (get_or text place 0) 126 k) at front) ∙ g.whole
-
-    pub good-next : 33 ≤ get_or text place 0 → get_or text place 0 ≤ 126 → Good text from to (place + 1)
-    unfolding is_quality
-    good-next k m =
-        record {
-          whole =
-              ap (λ (n : ℕ). all is_quality (slice n to text)) (add-one place)
-              ∙ sym (rw (le-leb 33 (get_or text place 0) k, le-leb (get_or text place 0) 126 m) at front)
-              ∙ g.whole;
-          inside = omega arith;
-        }
+pub graphic-all : (line : List ℕ) → list_all is_ascii_graphic line ≡ all is_quality line
+unfolding is_quality
+graphic-all [] = refl
+graphic-all (b ∷ bs) = ap (λ (t : Bool). is_ascii_graphic b && t) (graphic-all bs)
 
 -- ---- a pair of lines
 
@@ -136,54 +95,59 @@ pair-bad : (b q : List ℕ) (o : Option (List (List ℕ))) → all is_quality q 
 pair-bad b q none e = refl
 pair-bad b q (some ls) e = reads-bad b q ls e
 
-module _ (text : List ℕ) (at : ℕ) (b : ℕ) (h : at < length text) (e : b ≡ at + first_at 10 (slice at (length text) text)) where
-  pub bases-unended : length text ≤ b → reads_from text at ≡ none
+module _ (text : List ℕ) (at : ℕ) where
+  pub bases-unended : at < length text → first_at 10 (drop at text) ≡ length (drop at text) → reads_from text at ≡ none
   unfolding reads_from
-  bases-unended k = let f = line-unended text at b h e k in rw f
+  bases-unended h k = let f = line-unended text at h k in rw f
 
-  module _ (k : b < length text) where
+  module _ (n : ℕ) (e : n ≡ first_at 10 (drop at text)) (k : n < length (drop at text)) where
+    abbrev b : ℕ
+    b = at + n
+
     first-line : parts 10 (drop at text) ≡ in_front (slice at b text) (parts 10 (drop (b + 1) text))
-    first-line = line_first text at b (omega arith) e k
+    first-line = line_first text at n e k
 
-    module _ (q : ℕ) (f : q ≡ (b + 1) + first_at 10 (slice (b + 1) (length text) text)) where
-      pub qualities-unended : length text ≤ q → reads_from text at ≡ none
-      unfolding reads_from reads_of
-      qualities-unended m = go (leb (length text) (b + 1)) refl
-        where
-          go : (t : Bool) → leb (length text) (b + 1) ≡ t → with (parts 10 (drop at text)) reads_of ≡ none
-          go true x =
-              let y : b + 1 ≡ length text = (let z = leb-true (length text) (b + 1) x in omega arith) in
-              let w : parts 10 (drop (b + 1) text) ≡ some [] = ap (λ (n : ℕ). parts 10 (drop n text)) y ∙ no_lines text in
-              rw (first-line, w)
-          go false x =
-              let y = leb-false (length text) (b + 1) x in
-              let w = line-unended text (b + 1) q y f m in
-              rw (first-line, w)
+    pub qualities-unended : first_at 10 (drop (b + 1) text) ≡ length (drop (b + 1) text) → reads_from text at ≡ none
+    unfolding reads_from reads_of
+    qualities-unended m = go (leb (length text) (b + 1)) refl
+      where
+        go : (t : Bool) → leb (length text) (b + 1) ≡ t → with (parts 10 (drop at text)) reads_of ≡ none
+        go true x =
+            let l = length-drop at text in
+            let y : b + 1 ≡ length text = (let z = leb-true (length text) (b + 1) x in omega arith) in
+            let w : parts 10 (drop (b + 1) text) ≡ some [] = ap (λ (n : ℕ). parts 10 (drop n text)) y ∙ no_lines text in
+            rw (first-line, w)
+        go false x =
+            let y = leb-false (length text) (b + 1) x in
+            let w = line-unended text (b + 1) y m in
+            rw (first-line, w)
 
-      module _ (m : q < length text) where
-        both-lines : parts 10 (drop at text) ≡ in_front (slice at b text) (in_front (slice (b + 1) q text) (parts 10 (drop (q + 1) text)))
-        both-lines = first-line ∙ ap (in_front (slice at b text)) (line_first text (b + 1) q (omega arith) f m)
+    module _ (i : ℕ) (f : i ≡ first_at 10 (drop (b + 1) text)) (m : i < length (drop (b + 1) text)) where
+      abbrev q : ℕ
+      q = b + 1 + i
 
-        pub qualities-bad : (t : Bool) → t ≡ all is_quality (slice (b + 1) q text) → t ≡ false → reads_from text at ≡ none
-        unfolding reads_from
-        qualities-bad t x y =
-            ap (λ (o : Option (List (List ℕ))). with o reads_of) both-lines
-            ∙ pair-bad (slice at b text) (slice (b + 1) q text) (parts 10 (drop (q + 1) text)) (sym x ∙ y)
+      both-lines : parts 10 (drop at text) ≡ in_front (slice at b text) (in_front (slice (b + 1) q text) (parts 10 (drop (q + 1) text)))
+      both-lines = first-line ∙ ap (in_front (slice at b text)) (line_first text (b + 1) i f m)
 
-        pub pair_read : (t : Bool) → t ≡ all is_quality (slice (b + 1) q text) → t ≡ true → PairAt text at (record { bases = b; qualities = q })
-        unfolding reads_from
-        pair_read t x y =
-            let w = found_within 10 text at (length text) b (omega arith) (omega arith) e in
-            let z = found_within 10 text (b + 1) (length text) q (omega arith) (omega arith) f in
-            record {
-              reads =
-                  ap (λ (o : Option (List (List ℕ))). with o reads_of) both-lines
-                  ∙ pair-good (slice at b text) (slice (b + 1) q text) (parts 10 (drop (q + 1) text)) (sym x ∙ y);
-              rising = w.0;
-              behind = (let u = z.0 in omega arith);
-              inside = m;
-              good = sym x ∙ y;
-            }
+      pub qualities-bad : false ≡ all is_quality (slice (b + 1) q text) → reads_from text at ≡ none
+      unfolding reads_from
+      qualities-bad x =
+          ap (λ (o : Option (List (List ℕ))). with o reads_of) both-lines
+          ∙ pair-bad (slice at b text) (slice (b + 1) q text) (parts 10 (drop (q + 1) text)) (sym x)
+
+      pub pair_read : true ≡ all is_quality (slice (b + 1) q text) → PairAt text at (record { bases = b; qualities = q })
+      unfolding reads_from
+      pair_read x =
+          let l = length-drop (b + 1) text in
+          record {
+            reads =
+                ap (λ (o : Option (List (List ℕ))). with o reads_of) both-lines
+                ∙ pair-good (slice at b text) (slice (b + 1) q text) (parts 10 (drop (q + 1) text)) (sym x);
+            rising = omega arith;
+            behind = omega arith;
+            inside = omega arith;
+            good = sym x;
+          }
 
 -- ---- all reads
 
@@ -237,7 +201,7 @@ even_is text at b q h k l =
     rw (x, y, z)
 
 module _ {text : List ℕ} {from at count : ℕ} {even : Bool} (s : Scanning text from at count even) where
-  pub scan-end : length text ≤ at → ScanSays (S.Reads (record { count = count; even = even })) (reads_from text from)
+  pub scan-end : length text ≤ at → ScanSays (Some (record { count = count; even = even })) (reads_from text from)
   unfolding reads_from reads_of
   scan-end h =
       let e : at ≡ length text = (let k = s.inside in omega arith) in
@@ -245,19 +209,14 @@ module _ {text : List ℕ} {from at count : ℕ} {even : Bool} (s : Scanning tex
       let g : reads_from text from ≡ some s.done = s.whole ∙ ap (ahead s.done) f ∙ ahead-some s.done [] ∙ ap (λ (l : List ReadLines). some l) (append-nil s.done) in
       rw (g, s.many, s.flag) refl
 
-  pub scan-stop : (r : Pair) → PairSays text at r → r ≡ P.Malformed → ScanSays S.Malformed (reads_from text from)
-  scan-stop r q m =
-      let f : reads_from text at ≡ none = rw m at q in
+  pub scan-stop : reads_from text at ≡ none → ScanSays None (reads_from text from)
+  scan-stop f =
       let g : reads_from text from ≡ none = s.whole ∙ ap (ahead s.done) f ∙ ahead_none s.done in
       rw g refl
 
-  module _ (r : Pair) (l : Lines) (q : PairSays text at r) (m : r ≡ P.At l) where
-    pub scan-pair : PairAt text at l
-    scan-pair = rw m at q
-
+  module _ (l : Lines) (p : PairAt text at l) where
     pub scan-next : (t : Bool) → t ≡ (even && eqb (l.bases - at) (l.qualities - l.bases - 1)) → Scanning text from (l.qualities + 1) (count + 1) t
     scan-next t e =
-        let p = scan-pair in
         let R : ReadLines = read_at text at l.bases l.qualities in
         let x = p.rising in
         let y = p.behind in
@@ -286,7 +245,7 @@ text-short : (text : List ℕ) → length text ≤ 8192 → text_of text ≡ wit
 unfolding text_of
 text-short text h = rw (le-leb (length text) 8192 h, text_of)
 
-pub form-long : (text : List ℕ) → 8192 < length text → FormSays text F.Malformed (text_of text)
+pub form-long : (text : List ℕ) → 8192 < length text → FormSays text None (text_of text)
 form-long text h = let e = text-long text h in rw e refl
 
 abbrev text_with : List ℕ → Option Header → Option (List ReadLines) → Option Text
@@ -301,30 +260,28 @@ unfolding from_lines
 lines-text h r none = no_reads r (header h)
 lines-text h r (some ls) = refl
 
-header-bad : (r : H.Header) (o : Option Header) → HeaderSays r o → r ≡ HV.Malformed → o ≡ none
-header-bad r none q m = refl
-header-bad r (some h) q m = let z : ◌≡◌ {A = ℕ} 0 1 = cc in absurd (omega arith)
+header-good : (o : Option Header) (s : Settings) → HeaderSays (Some s) o → (h : Header) × (o ≡ some h) × (s ≡ shown h)
+header-good none s q = let z : ◌≡◌ {A = ℕ} 0 1 = cc in absurd (omega arith)
+header-good (some h) s q = (h, refl, (let f : s ≡ shown h = cc in f))
 
-header-good : (r : H.Header) (o : Option Header) (s : Settings) → HeaderSays r o → r ≡ HV.Read s → (h : Header) × (o ≡ some h) × (s ≡ shown h)
-header-good r none s q m = let z : ◌≡◌ {A = ℕ} 0 1 = cc in absurd (omega arith)
-header-good r (some h) s q m = let e : HV.Read s ≡ HV.Read (shown h) = sym m ∙ q in (h, refl, (let f : s ≡ shown h = cc in f))
+header-bad : (o : Option Header) → HeaderSays None o → o ≡ none
+header-bad none q = refl
+header-bad (some h) q = let z : ◌≡◌ {A = ℕ} 0 1 = cc in absurd (omega arith)
 
-scan-bad : (r : Scan) (o : Option (List ReadLines)) → ScanSays r o → r ≡ S.Malformed → o ≡ none
-scan-bad r none q m = refl
-scan-bad r (some rs) q m = let z : ◌≡◌ {A = ℕ} 0 1 = cc in absurd (omega arith)
+scan-bad : (o : Option (List ReadLines)) → ScanSays None o → o ≡ none
+scan-bad none q = refl
+scan-bad (some rs) q = let z : ◌≡◌ {A = ℕ} 0 1 = cc in absurd (omega arith)
 
-scan_good : (r : Scan) (o : Option (List ReadLines)) (t : Tally) → ScanSays r o → r ≡ S.Reads t
+scan_good : (o : Option (List ReadLines)) (t : Tally) → ScanSays (Some t) o
     → (rs : List ReadLines) × (o ≡ some rs) × (t ≡ record { count = length rs; even = all even_read rs })
-scan_good r none t q m = let z : ◌≡◌ {A = ℕ} 0 1 = cc in absurd (omega arith)
-scan_good r (some rs) t q m =
-    let e : S.Reads t ≡ S.Reads (record { count = length rs; even = all even_read rs }) = sym m ∙ q in
-    (rs, refl, (let f : t ≡ record { count = length rs; even = all even_read rs } = cc in f))
+scan_good none t q = let z : ◌≡◌ {A = ℕ} 0 1 = cc in absurd (omega arith)
+scan_good (some rs) t q = (rs, refl, (let f : t ≡ record { count = length rs; even = all even_read rs } = cc in f))
 
-module _ (text : List ℕ) (small : length text ≤ 8192) (a : ℕ) (e : a ≡ 0 + first_at 10 (slice 0 (length text) text)) where
-  none-says : text_of text ≡ none → FormSays text F.Malformed (text_of text)
+module _ (text : List ℕ) (small : length text ≤ 8192) where
+  none-says : text_of text ≡ none → FormSays text None (text_of text)
   none-says f = rw f refl
 
-  pub first-unended : length text ≤ a → FormSays text F.Malformed (text_of text)
+  pub first-unended : first_at 10 text ≡ length text → FormSays text None (text_of text)
   unfolding from_lines parts
   first-unended k = none-says (text-short text small ∙ go text refl)
     where
@@ -332,73 +289,74 @@ module _ (text : List ℕ) (small : length text ≤ 8192) (a : ℕ) (e : a ≡ 0
       go [] x = rw x
       go (b ∷ bs) x =
           let l = ap length x in
-          let f : parts 10 (drop 0 text) ≡ none = line-unended text 0 a (omega arith) e k in
+          let f : parts 10 (drop 0 text) ≡ none = line-unended text 0 (omega arith) k in
           rw f
 
-  module _ (k : a < length text) where
+  module _ (a : ℕ) (e : a ≡ first_at 10 text) (k : a < length text) where
     first_ended : parts 10 text ≡ in_front (take a text) (parts 10 (drop (a + 1) text))
-    first_ended = line_first text 0 a (omega arith) e k
+    first_ended = let z : 0 + a ≡ a = omega arith in let f = line_first text 0 a e k in rw z at f
 
-    module _ (b : ℕ) (f : b ≡ (a + 1) + first_at 10 (slice (a + 1) (length text) text)) where
-      pub second-unended : length text ≤ b → FormSays text F.Malformed (text_of text)
-      unfolding from_lines
-      second-unended m = none-says (text-short text small ∙ go (leb (length text) (a + 1)) refl)
-        where
-          go : (t : Bool) → leb (length text) (a + 1) ≡ t → with (parts 10 text) from_lines ≡ none
-          go true x =
-              let y : a + 1 ≡ length text = (let z = leb-true (length text) (a + 1) x in omega arith) in
-              let w : parts 10 (drop (a + 1) text) ≡ some [] = ap (λ (n : ℕ). parts 10 (drop n text)) y ∙ no_lines text in
-              ap (λ (o : Option (List (List ℕ))). with o from_lines) (first_ended ∙ ap (in_front (take a text)) w)
-          go false x =
-              let y = leb-false (length text) (a + 1) x in
-              let w = line-unended text (a + 1) b y f m in
-              ap (λ (o : Option (List (List ℕ))). with o from_lines) (first_ended ∙ ap (in_front (take a text)) w)
+    pub second-unended : first_at 10 (drop (a + 1) text) ≡ length (drop (a + 1) text) → FormSays text None (text_of text)
+    unfolding from_lines
+    second-unended m = none-says (text-short text small ∙ go (leb (length text) (a + 1)) refl)
+      where
+        go : (t : Bool) → leb (length text) (a + 1) ≡ t → with (parts 10 text) from_lines ≡ none
+        go true x =
+            let y : a + 1 ≡ length text = (let z = leb-true (length text) (a + 1) x in omega arith) in
+            let w : parts 10 (drop (a + 1) text) ≡ some [] = ap (λ (n : ℕ). parts 10 (drop n text)) y ∙ no_lines text in
+            ap (λ (o : Option (List (List ℕ))). with o from_lines) (first_ended ∙ ap (in_front (take a text)) w)
+        go false x =
+            let y = leb-false (length text) (a + 1) x in
+            let w = line-unended text (a + 1) y m in
+            ap (λ (o : Option (List (List ℕ))). with o from_lines) (first_ended ∙ ap (in_front (take a text)) w)
 
-      module _ (m : b < length text) where
-        text-is : text_of text ≡ text_with (slice (a + 1) b text) (header (take a text)) (reads_from text (b + 1))
-        unfolding reads_from
-        text-is =
-            text-short text small
-            ∙ ap (λ (o : Option (List (List ℕ))). with o from_lines) (first_ended ∙ ap (in_front (take a text)) (line_first text (a + 1) b (omega arith) f m))
-            ∙ lines-text (take a text) (slice (a + 1) b text) (parts 10 (drop (b + 1) text))
+    module _ (n : ℕ) (f : n ≡ first_at 10 (drop (a + 1) text)) (m : n < length (drop (a + 1) text)) where
+      abbrev past : ℕ
+      past = a + 1 + n
 
-        pub form-header : (r : H.Header) → HeaderSays r (header (take a text)) → r ≡ HV.Malformed → FormSays text F.Malformed (text_of text)
-        form-header r q x =
-            let y = header-bad r (header (take a text)) q x in
-            none-says (text-is ∙ ap (λ (o : Option Header). text_with (slice (a + 1) b text) o (reads_from text (b + 1))) y)
+      text-is : text_of text ≡ text_with (slice (a + 1) past text) (header (take a text)) (reads_from text (past + 1))
+      unfolding reads_from
+      text-is =
+          text-short text small
+          ∙ ap (λ (o : Option (List (List ℕ))). with o from_lines) (first_ended ∙ ap (in_front (take a text)) (line_first text (a + 1) n f m))
+          ∙ lines-text (take a text) (slice (a + 1) past text) (parts 10 (drop (past + 1) text))
 
-        pub form-reads : (r : Scan) → ScanSays r (reads_from text (b + 1)) → r ≡ S.Malformed → FormSays text F.Malformed (text_of text)
-        form-reads r q x =
-            let y = scan-bad r (reads_from text (b + 1)) q x in
-            none-says
-            (text-is
-            ∙ ap (text_with (slice (a + 1) b text) (header (take a text))) y
-            ∙ sym (no_reads (slice (a + 1) b text) (header (take a text))))
+      pub form-header : HeaderSays None (header (take a text)) → FormSays text None (text_of text)
+      form-header q =
+          let y = header-bad (header (take a text)) q in
+          none-says (text-is ∙ ap (λ (o : Option Header). text_with (slice (a + 1) past text) o (reads_from text (past + 1))) y)
 
-        pub form-read : (r : H.Header) (s : Settings) → HeaderSays r (header (take a text)) → r ≡ HV.Read s
-            → (c : Scan) (t : Tally) → ScanSays c (reads_from text (b + 1)) → c ≡ S.Reads t
-            → FormSays text (F.Read (record { settings = s; reference = a + 1; past = b; reads = b + 1; count = t.count; even = t.even })) (text_of text)
-        form-read r s q x c t y z =
-            let u = header-good r (header (take a text)) s q x in
-            let v = scan_good c (reads_from text (b + 1)) t y z in
-            let w = found_within 10 text (a + 1) (length text) b (omega arith) (omega arith) f in
-            let i : text_of text ≡ some (record { header = u.0; reference = slice (a + 1) b text; reads = v.0 }) =
-            text-is
-            ∙ ap (λ (o : Option Header). text_with (slice (a + 1) b text) o (reads_from text (b + 1))) u.1
-            ∙ ap (text_with (slice (a + 1) b text) (some u.0)) v.1
-            in
-            rw i (
-              record { settings = s; reference = a + 1; past = b; reads = b + 1; count = t.count; even = t.even },
-              refl,
-              record {
-                settings = u.2;
-                reference = refl;
-                reads = v.1;
-                count = ap (λ (n : Tally). n.count) v.2;
-                even = ap (λ (n : Tally). n.even) v.2;
-                small = small;
-                rising = w.0;
-                behind = refl;
-                inside = omega arith;
-              },
-            )
+      pub form-reads : ScanSays None (reads_from text (past + 1)) → FormSays text None (text_of text)
+      form-reads q =
+          let y = scan-bad (reads_from text (past + 1)) q in
+          none-says
+          (text-is
+          ∙ ap (text_with (slice (a + 1) past text) (header (take a text))) y
+          ∙ sym (no_reads (slice (a + 1) past text) (header (take a text))))
+
+      pub form-read : (s : Settings) → HeaderSays (Some s) (header (take a text)) → (t : Tally) → ScanSays (Some t) (reads_from text (past + 1))
+          → FormSays text (Some (record { settings = s; reference = a + 1; past = past; reads = past + 1; count = t.count; even = t.even })) (text_of text)
+      form-read s q t y =
+          let u = header-good (header (take a text)) s q in
+          let v = scan_good (reads_from text (past + 1)) t y in
+          let w = length-drop (a + 1) text in
+          let i : text_of text ≡ some (record { header = u.0; reference = slice (a + 1) past text; reads = v.0 }) =
+          text-is
+          ∙ ap (λ (o : Option Header). text_with (slice (a + 1) past text) o (reads_from text (past + 1))) u.1
+          ∙ ap (text_with (slice (a + 1) past text) (some u.0)) v.1
+          in
+          rw i (
+            record { settings = s; reference = a + 1; past = past; reads = past + 1; count = t.count; even = t.even },
+            refl,
+            record {
+              settings = u.2;
+              reference = refl;
+              reads = v.1;
+              count = ap (λ (n : Tally). n.count) v.2;
+              even = ap (λ (n : Tally). n.even) v.2;
+              small = small;
+              rising = omega arith;
+              behind = refl;
+              inside = omega arith;
+            },
+          )

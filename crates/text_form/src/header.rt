@@ -1,12 +1,9 @@
 // The first line: five numbers, one space apart.
-ghost use Rattle.std.specs.Prelude.{[], ◌∷◌, ◌+◌, ◌≤◌, length, take};
+ghost use Rattle.std.specs.Prelude.{[], ◌∷◌, ◌+◌, ◌≤◌, length};
 ghost use Rattle.definition.specs.Text.{settings, header};
-ghost use Rattle.text_form.specs.Numbers.{value_of, Fitting};
 ghost use Rattle.text_form.specs.Headers.{FieldSays, HeaderSays};
 
-use crate::numbers::{
-    Decimal, Digits, Number, asked_of, find_byte, read_number, signed, size_of, up_to,
-};
+use crate::numbers::{asked_of, byte_of, find_byte, flag_of, read_number, size_of};
 
 // The settings as the calls take them: k is 0 where it was below, and the paths asked are 9 where they were below 0.
 #[derive(Clone, Copy)]
@@ -21,90 +18,53 @@ pub struct Settings {
 // A number, and the place behind the space that ends it.
 #[derive(Clone, Copy)]
 pub struct Taken {
-    pub number: Decimal,
+    pub number: i32,
     pub next: usize,
 }
 
-#[derive(Clone, Copy)]
-pub enum Field {
-    Read(Taken),
-    Malformed,
-}
-
-#[derive(Clone, Copy)]
-pub enum Header {
-    Read(Settings),
-    Malformed,
-}
-
-// The number at a place of the line that ends at `end`.
-fn read_field(text: &[u8], at: usize, end: usize) -> Field
-    requires { (end ≤ length text.now) × (at ≤ end + 1) }
-    ensures { FieldSays text.now end at result }
+// The number at a place of the line.
+fn read_field(line: &[u8], at: usize) -> Option<Taken>
+    requires { at ≤ length line.now + 1 }
+    ensures { FieldSays line.now at result }
 {
-    if at > end {
-        return Field::Malformed;
+    if at > line.len() {
+        return None;
     }
-    let stop = find_byte(text, at, end, b' ');
-    let number = read_number(text, at, stop);
-    let Number::Value(d) = number else {
-        return Field::Malformed;
-    };
-    Field::Read(Taken {
-        number: d,
-        next: stop + 1,
+    let rest = &line[at..];
+    let size = find_byte(rest, b' ').unwrap_or(rest.len());
+    let number = read_number(&rest[..size])?;
+    Some(Taken {
+        number,
+        next: at + size + 1,
     })
 }
 
 // The five numbers as settings.
-fn make_settings(k: Decimal, q: Decimal, n: Decimal, t: Decimal, r: Decimal) -> Header
-    requires { Fitting t }
-    ensures { HeaderSays result (settings (value_of k ∷ value_of q ∷ value_of n ∷ value_of t ∷ value_of r ∷ [])) }
+fn make_settings(k: i32, q: i32, n: i32, t: i32, r: i32) -> Option<Settings>
+    ensures { HeaderSays result (settings (k ∷ q ∷ n ∷ t ∷ r ∷ [])) }
 {
-    let least = up_to(255, q);
-    let Digits::Value(quality) = least else {
-        return Header::Malformed;
-    };
-    let flag = up_to(1, r);
-    let Digits::Value(recovery) = flag else {
-        return Header::Malformed;
-    };
-    Header::Read(Settings {
+    let quality = byte_of(q)?;
+    let recovery = flag_of(r)?;
+    Some(Settings {
         k: size_of(k),
-        quality: quality as u8,
+        quality,
         asked: asked_of(n),
-        threshold: signed(t),
-        recovery: recovery == 1,
+        threshold: t,
+        recovery,
     })
 }
 
-// The first line, which ends at `end`.
-pub fn read_header(text: &[u8], end: usize) -> Header
-    requires { end ≤ length text.now }
-    ensures { HeaderSays result (header (take end text.now)) }
+// The first line, without the line feed that ends it.
+pub fn read_header(line: &[u8]) -> Option<Settings>
+    ensures { HeaderSays result (header line.now) }
 {
-    let first = read_field(text, 0, end);
-    let Field::Read(k) = first else {
-        return Header::Malformed;
-    };
-    let second = read_field(text, k.next, end);
-    let Field::Read(q) = second else {
-        return Header::Malformed;
-    };
-    let third = read_field(text, q.next, end);
-    let Field::Read(n) = third else {
-        return Header::Malformed;
-    };
-    let fourth = read_field(text, n.next, end);
-    let Field::Read(t) = fourth else {
-        return Header::Malformed;
-    };
-    let fifth = read_field(text, t.next, end);
-    let Field::Read(r) = fifth else {
-        return Header::Malformed;
-    };
-    if r.next <= end {
-        return Header::Malformed;
+    let k = read_field(line, 0)?;
+    let q = read_field(line, k.next)?;
+    let n = read_field(line, q.next)?;
+    let t = read_field(line, n.next)?;
+    let r = read_field(line, t.next)?;
+    if r.next <= line.len() {
+        return None;
     }
     make_settings(k.number, q.number, n.number, t.number, r.number)
 }

@@ -1,55 +1,19 @@
 -- The lent lists, as the table's columns; what each function asks and ensures.
-use Rattle.std.specs.Prelude.{◌≡◌, List, get_or}
-use Rattle.std.proofs.Math.Path.{refl, sym, ap}
-use Rattle.std.proofs.Common.{◌∙◌, inl, inr, arith, mul-le-mul_right, suc-mul}
-use Prim.Native.Nat.{ℕ, zero, suc, ◌+◌, ◌-◌, ◌*◌, ◌<◌, ◌≤◌, Ordering}
+use Rattle.std.specs.Prelude.{◌≡◌, List, get_or, Option, Some, None, Result, Ok, Err, IfErr, [], ◌∷◌, refl, ℕ, zero, suc, ◌+◌, ◌-◌, ◌*◌, ◌<◌, ◌≤◌}
+use Rattle.std.proofs.Common.{sym, ap, ◌∙◌, inl, inr, arith, mul-le-mul_right, suc-mul}
+use Prim.Native.Nat.{Ordering}
 use Rattle.definition.specs.Threading.{Ends, compare_ends}
-use Rattle.threading_node.specs.Ends.{ends, Less, lt-less, less-lt, less-gt, same-eq, ends-path, compare-named}
-use Rattle.threading_node.specs.Nodes.{Nodes, nil, node, seek_n, Above, Rising}
+use Rattle.threading_node.specs.Ends.{ends, Less, lt-less, less-lt, less-gt, eq_self, ends-path, compare-named}
+use Rattle.threading_node.specs.Links.{slot_at, link_to, Linked, link_is, linked_at, some-link, none-link}
+use Rattle.threading_node.specs.Nodes.{Nodes, nil, node, seek_n, Above, Rising, Place, Here, Between}
 use Rattle.threading_node.specs.Rows.{seek_n-lt, seek_n-eq, seek_n-gt}
 use Rattle.threading_node.specs.Slots.{cols, Slot, every-from, every-to}
-use Rattle.threading_node.specs.declared.Place.{Place}
-use Rattle.threading_node.specs.declared.Place.TheVariants.{Here, Gap}
+use Rattle.threading_node.specs.declared.Gap.{Gap}
 
--- ---- a comparison as a number
-
-abbrev pub rank : Ordering → ℕ
-rank Ordering.lt = 0
-rank Ordering.eq = 1
-rank Ordering.gt = 2
-
-pub rank_lt : (e f : Ends) → rank (compare_ends e f) ≡ 0 → compare_ends e f ≡ Ordering.lt
-rank_lt e f h = go (compare_ends e f) refl h
-  where
-    go : (o : Ordering) → compare_ends e f ≡ o → rank o ≡ 0 → compare_ends e f ≡ Ordering.lt
-    go Ordering.lt z y = z
-    go Ordering.eq z y = absurd (omega arith)
-    go Ordering.gt z y = absurd (omega arith)
-
-pub rank-eq : (e f : Ends) → rank (compare_ends e f) ≡ 1 → compare_ends e f ≡ Ordering.eq
-rank-eq e f h = go (compare_ends e f) refl h
-  where
-    go : (o : Ordering) → compare_ends e f ≡ o → rank o ≡ 1 → compare_ends e f ≡ Ordering.eq
-    go Ordering.lt z y = absurd (omega arith)
-    go Ordering.eq z y = z
-    go Ordering.gt z y = absurd (omega arith)
-
-pub rank-gt : (e f : Ends) → (rank (compare_ends e f) ≡ 0 → ⊥) → (rank (compare_ends e f) ≡ 1 → ⊥) → compare_ends e f ≡ Ordering.gt
-rank-gt e f h k = go (compare_ends e f) refl
-  where
-    go : (o : Ordering) → compare_ends e f ≡ o → compare_ends e f ≡ Ordering.gt
-    go Ordering.lt z = absurd (h (rw z))
-    go Ordering.eq z = absurd (k (rw z))
-    go Ordering.gt z = z
-
-pub rank-is-0 : (a b c d : ℕ) → Less (ends a b) (ends c d) → 0 ≡ rank (compare_ends (ends a b) (ends c d))
-rank-is-0 a b c d h = rw (less-lt (ends a b) (ends c d) h)
-
-pub rank-is-1 : (a b c d : ℕ) → a ≡ c → b ≡ d → 1 ≡ rank (compare_ends (ends a b) (ends c d))
-rank-is-1 a b c d h k = rw (same-eq (ends a b) (ends c d) h k)
-
-pub rank-is-2 : (a b c d : ℕ) → Less (ends c d) (ends a b) → 2 ≡ rank (compare_ends (ends a b) (ends c d))
-rank-is-2 a b c d h = rw (less-gt (ends a b) (ends c d) h)
+-- the place that an answer tells
+abbrev pub place_of : Result ℕ Gap → Place
+place_of (Ok j) = Here j
+place_of (Err g) = Between (link_to g.after) (link_to g.before)
 
 -- ---- a row of siblings
 
@@ -64,15 +28,24 @@ unfoldable pub Row : List ℕ → ℕ → Nodes → Type 0
 Row ns l nil = l ≡ 0
 Row ns l (node i e c b x) = Sibling ns l i e × Row ns ((cols ns).next i) x
 
--- what the search asks: the link leads to a row in rising order
-pub record Rowed (ns : List ℕ) (l : ℕ) : Type 0 where
+-- what the search asks: a row in rising order begins at the slot
+pub record Rowed (ns : List ℕ) (start : Option ℕ) : Type 0 where
   pub row : Nodes
-  pub leads : Row ns l row
+  pub leads : Row ns (link_to start) row
   pub rising : Rising row
+  pub linked : Linked start
 
--- what it ensures: it found the place in that row
-pub record Sought (ns : List ℕ) (l : ℕ) (e : Ends) (r : Place) : Type 0 where
-  pub is : (t : Nodes) → Row ns l t → r ≡ seek_n e 0 t
+-- the place of the edge in that row
+pub record Stands (ns : List ℕ) (l : ℕ) (e : Ends) (p : Place) : Type 0 where
+  pub is : (t : Nodes) → Row ns l t → p ≡ seek_n e 0 t
+
+-- what it ensures: it found the place
+pub record Sought (ns : List ℕ) (start : Option ℕ) (e : Ends) (r : Result ℕ Gap) : Type 0 where
+  pub stands : Stands ns (link_to start) e (place_of r)
+  pub after : IfErr r (λ g. Linked g.after)
+
+pub after-linked : (ns : List ℕ) (start : Option ℕ) (e : Ends) (r : Result ℕ Gap) → Sought ns start e r → (g : Gap) → r ≡ Err g → Linked g.after
+after-linked ns start e r f g z = let h : IfErr {T = ℕ} (Err g) (λ (d : Gap). Linked d.after) = rw z at f.after in h
 
 -- the search at a later sibling goes on as the whole would
 pub record Seeking (ns : List ℕ) (start : ℕ) (e : Ends) (prev at : ℕ) : Type 0 where
@@ -97,32 +70,32 @@ module _ (ns : List ℕ) where
       dd = ends-path _ _ _ _ (sym p.0.from_is ∙ ap (λ (j : ℕ). (cols ns).from j) ii ∙ q.0.from_is) (sym p.0.to_is ∙ ap (λ (j : ℕ). (cols ns).to j) ii ∙ q.0.to_is)
 
       go : (o : Ordering) → compare_ends e d ≡ o → seek_n e i x ≡ seek_n e i x' → seek_n e prev (node i d c b x) ≡ seek_n e prev (node i' d' c' b' x')
-      go Ordering.lt z ih = seek_n-lt e prev i d c b x z ∙ ap (λ (j : ℕ). Gap prev j) ii ∙ sym (seek_n-lt e prev i' d' c' b' x' (rw dd at z))
+      go Ordering.lt z ih = seek_n-lt e prev i d c b x z ∙ ap (λ (j : ℕ). Between prev j) ii ∙ sym (seek_n-lt e prev i' d' c' b' x' (rw dd at z))
       go Ordering.eq z ih = seek_n-eq e prev i d c b x z ∙ ap Here ii ∙ sym (seek_n-eq e prev i' d' c' b' x' (rw dd at z))
       go Ordering.gt z ih = seek_n-gt e prev i d c b x z ∙ ih ∙ ap (λ (j : ℕ). seek_n e j x') ii ∙ sym (seek_n-gt e prev i' d' c' b' x' (rw dd at z))
 
   module _ (start : ℕ) (e : Ends) where
-    pub seeking-start : Rowed ns start → Seeking ns start e 0 start
-    seeking-start h = record { row = h.row; leads = h.leads; rising = h.rising; run = λ t k. seek-one e 0 start h.row t h.leads k }
+    seeking-start : (row : Nodes) → Row ns start row → Rising row → Seeking ns start e 0 start
+    seeking-start row h r = record { row = row; leads = h; rising = r; run = λ t k. seek-one e 0 start row t h k }
 
-    pub seeking-end : (prev at : ℕ) → Seeking ns start e prev at → at ≡ 0 → Sought ns start e (Gap prev 0)
+    seeking-end : (prev at : ℕ) → Seeking ns start e prev at → at ≡ 0 → Stands ns start e (Between prev 0)
     unfolding Row seek_n
     seeking-end prev at v h = record { is = λ t k. go v.row v.leads ∙ v.run t k }
       where
-        go : (w : Nodes) → Row ns at w → Gap prev 0 ≡ seek_n e prev w
+        go : (w : Nodes) → Row ns at w → Between prev 0 ≡ seek_n e prev w
         go nil l = refl
         go (node i d c b x) l = let y = l.0.some in let z = l.0.is in absurd (omega arith)
 
     -- the sibling that a link that is not 0 leads to
-    pub record Met (prev at : ℕ) : Type 0 where
+    record Met (prev at : ℕ) : Type 0 where
       pub slot : Slot at ns
-      pub before : compare_ends e (ends ((cols ns).from at) ((cols ns).to at)) ≡ Ordering.lt → Sought ns start e (Gap prev at)
-      pub there : compare_ends e (ends ((cols ns).from at) ((cols ns).to at)) ≡ Ordering.eq → Sought ns start e (Here at)
+      pub before : compare_ends e (ends ((cols ns).from at) ((cols ns).to at)) ≡ Ordering.lt → Stands ns start e (Between prev at)
+      pub there : compare_ends e (ends ((cols ns).from at) ((cols ns).to at)) ≡ Ordering.eq → Stands ns start e (Here at)
       pub on : compare_ends e (ends ((cols ns).from at) ((cols ns).to at)) ≡ Ordering.gt → Seeking ns start e at ((cols ns).next at)
       -- the next sibling, if there is one, has a later edge
       pub later : 0 < (cols ns).next at → Less (ends ((cols ns).from at) ((cols ns).to at)) (ends ((cols ns).from ((cols ns).next at)) ((cols ns).to ((cols ns).next at)))
 
-    pub seeking-met : (prev at : ℕ) → Seeking ns start e prev at → (at ≡ 0 → ⊥) → Met prev at
+    seeking-met : (prev at : ℕ) → Seeking ns start e prev at → (at ≡ 0 → ⊥) → Met prev at
     unfolding Row Rising Above
     seeking-met prev at v ne = go v.row v.leads v.rising v.run
       where
@@ -165,43 +138,84 @@ less-lex : (W a b c d : ℕ) → b < W → Less (ends a b) (ends c d) → a * W 
 less-lex W a b c d h (inl k) = lex W a b c d h k
 less-lex W a b c d h (inr k) = let p : a * W ≡ c * W = ap (λ (x : ℕ). x * W) k.0 in let q = k.1 in omega arith
 
+-- more than any number of the table
+unfoldable pub above-all : List ℕ → ℕ
+above-all [] = 1
+above-all (n ∷ ns) = n + above-all ns
+
+under-all : (ns : List ℕ) (i : ℕ) → get_or ns i 0 < above-all ns
+unfolding above-all
+under-all [] i = omega arith
+under-all (n ∷ ns) zero = let h = under-all ns 0 in omega arith
+under-all (n ∷ ns) (suc i) = let h = under-all ns i in omega arith
+
 unfoldable pub left : ℕ → List ℕ → ℕ → ℕ
 left W ns zero = 0
 left W ns (suc at) = suc (W * W - ((cols ns).from (suc at) * W + (cols ns).to (suc at)))
 
-pub left-falls : (W : ℕ) (ns : List ℕ) (at x : ℕ) → (at ≡ 0 → ⊥) → (cols ns).to at < W → (cols ns).from x < W → (cols ns).to x < W
-    → (0 < x → Less (ends ((cols ns).from at) ((cols ns).to at)) (ends ((cols ns).from x) ((cols ns).to x))) → left W ns x < left W ns at
+pub left-falls : (ns : List ℕ) (at x : ℕ) → (at ≡ 0 → ⊥) → (0 < x → Less (ends ((cols ns).from at) ((cols ns).to at)) (ends ((cols ns).from x) ((cols ns).to x)))
+    → left (above-all ns) ns x < left (above-all ns) ns at
 unfolding left
-left-falls W ns zero x ne b c d h = absurd (ne refl)
-left-falls W ns (suc at) zero ne b c d h = omega arith
-left-falls W ns (suc at) (suc x) ne b c d h =
-    falls (W * W) _ _ (less-lex W ((cols ns).from (suc at)) ((cols ns).to (suc at)) ((cols ns).from (suc x)) ((cols ns).to (suc x)) b (h (omega arith))) (within W ((cols ns).from (suc x)) ((cols ns).to (suc x)) c d)
+left-falls ns zero x ne d = absurd (ne refl)
+left-falls ns (suc at) zero ne d = omega arith
+left-falls ns (suc at) (suc x) ne d =
+    let W = above-all ns in
+    let h : (i : ℕ) → get_or ns i 0 < W = under-all ns in
+    falls (W * W) _ _ (less-lex W ((cols ns).from (suc at)) ((cols ns).to (suc at)) ((cols ns).from (suc x)) ((cols ns).to (suc x)) (every-to ns (λ n. n < W) h (suc at)) (d (omega arith)))
+    (within W ((cols ns).from (suc x)) ((cols ns).to (suc x)) (every-from ns (λ n. n < W) h (suc x)) (every-to ns (λ n. n < W) h (suc x)))
 
--- ---- one turn of the search, as the code makes it: the sibling's edge is (c, d), the order of (a, b) against it is o, and nx is the next link
+-- ---- the search, as the code makes it
 
-module _ (ns : List ℕ) (start a b prev at c d o : ℕ) (v : Seeking ns start (ends a b) prev at) (ne : at ≡ 0 → ⊥) (hc : c ≡ (cols ns).from at)
-    (hd : d ≡ (cols ns).to at) (ho : o ≡ rank (compare_ends (ends a b) (ends c d))) where
-  told : o ≡ rank (compare_ends (ends a b) (ends ((cols ns).from at) ((cols ns).to at)))
-  told = ho ∙ ap (λ (z : Ends). rank (compare_ends (ends a b) z)) (ends-path c d ((cols ns).from at) ((cols ns).to at) hc hd)
+-- where it stands: after the slot `after`, at the slot `at`
+pub record Searching (ns : List ℕ) (start : Option ℕ) (e : Ends) (after at : Option ℕ) : Type 0 where
+  pub seeking : Seeking ns (link_to start) e (link_to after) (link_to at)
+  pub behind : Linked after
+  pub ahead : Linked at
 
-  edge : Ends
-  edge = ends ((cols ns).from at) ((cols ns).to at)
+module _ (ns : List ℕ) (start : Option ℕ) (e : Ends) where
+  pub searching-start : Rowed ns start → Searching ns start e None start
+  searching-start h = record { seeking = seeking-start ns (link_to start) e h.row h.leads h.rising; behind = tt; ahead = h.linked }
 
-  pub stops-before : o ≡ 0 → Sought ns start (ends a b) (Gap prev at)
-  unfolding edge
-  stops-before z = (seeking-met ns start (ends a b) prev at v ne).before (rank_lt (ends a b) edge (sym told ∙ z))
+  module _ (after at : Option ℕ) (v : Searching ns start e after at) where
+    pub searching-end : ((s : ℕ) → at ≡ Some s → ⊥) → Sought ns start e (Err (record { after = after; before = None }))
+    searching-end ne = record { stands = seeking-end ns (link_to start) e (link_to after) (link_to at) v.seeking (none-link at ne); after = v.behind }
 
-  pub stops-there : o ≡ 1 → Sought ns start (ends a b) (Here at)
-  unfolding edge
-  stops-there z = (seeking-met ns start (ends a b) prev at v ne).there (rank-eq (ends a b) edge (sym told ∙ z))
+    -- one turn, at the sibling in slot s with the edge f
+    module _ (s : ℕ) (is : at ≡ Some s) where
+      some : s ≡ 0 → ⊥
+      some = some-link at s v.ahead is
 
-  module _ (nx : ℕ) (hn : nx ≡ (cols ns).next at) where
-    pub goes_on : (o ≡ 0 → ⊥) → (o ≡ 1 → ⊥) → Seeking ns start (ends a b) at nx
-    unfolding edge
-    goes_on p q = rw hn ((seeking-met ns start (ends a b) prev at v ne).on (rank-gt (ends a b) edge (λ z. p (told ∙ z)) (λ z. q (told ∙ z))))
+      seeking : Seeking ns (link_to start) e (link_to after) s
+      seeking = rw is at v.seeking
 
-    pub gets-less : (W : ℕ) → ((i : ℕ) → get_or ns i 0 < W) → left W ns nx < left W ns at
-    gets-less W h =
-        rw hn
-        (left-falls W ns at ((cols ns).next at) ne (every-to ns (λ n. n < W) h at) (every-from ns (λ n. n < W) h ((cols ns).next at)) (every-to ns (λ n. n < W) h ((cols ns).next at))
-        (seeking-met ns start (ends a b) prev at v ne).later)
+      met : Met ns (link_to start) e (link_to after) s
+      met = seeking-met ns (link_to start) e (link_to after) s seeking some
+
+      pub turn-slot : Slot s ns
+      turn-slot = met.slot
+
+      module _ (f : Ends) (hf : f ≡ ends ((cols ns).from s) ((cols ns).to s)) where
+        told : (o : Ordering) → compare_ends e f ≡ o → compare_ends e (ends ((cols ns).from s) ((cols ns).to s)) ≡ o
+        told o h = compare-named e f (ends ((cols ns).from s) ((cols ns).to s)) o hf h
+
+        pub stops-before : Less e f → Sought ns start e (Err (record { after = after; before = Some s }))
+        stops-before h = record { stands = met.before (told Ordering.lt (less-lt e f h)); after = v.behind }
+
+        pub stops-there : e ≡ f → Sought ns start e (Ok s)
+        stops-there h = record { stands = met.there (told Ordering.eq (rw h (eq_self f))); after = tt }
+
+        module _ (nx : Option ℕ) (hn : nx ≡ slot_at ((cols ns).next s)) where
+          link : link_to nx ≡ (cols ns).next s
+          link = ap link_to hn ∙ link_is ((cols ns).next s)
+
+          pub goes_on : Less f e → Searching ns start e (Some s) nx
+          goes_on h =
+              record {
+                seeking = rw link (met.on (told Ordering.gt (less-gt e f h)));
+                behind = rw is at v.ahead;
+                ahead = rw hn (linked_at ((cols ns).next s));
+              }
+
+          pub gets-less : left (above-all ns) ns (link_to nx) < left (above-all ns) ns (link_to at)
+          gets-less =
+              rw (link, is) (left-falls ns s ((cols ns).next s) some met.later)

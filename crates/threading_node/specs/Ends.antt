@@ -1,15 +1,24 @@
 -- The names of edges and their order (as in the definition), with the laws of the order.
-use Rattle.std.specs.Prelude.{◌≡◌, refl, ◌⊎◌, Bool, true, false, eqb}
+use Rattle.std.specs.Prelude.{◌≡◌, refl, ◌⊎◌, Bool, true, false, eqb, Option, Some, ℕ, ◌<◌}
 use Rattle.std.proofs.Common.{sym, ap, subst, ◌∙◌, inl, inr, arith, leb-true, leb-false, eqb-true, eq-eqb}
-use Prim.Native.Nat.{ℕ, ◌<◌, compare, Ordering}
+use Prim.Native.Nat.{compare, Ordering}
 use Rattle.definition.specs.Threading.{Ends, compare_ends, eq_ends}
 use Rattle.laws.specs.Numbers.{then}
+use Rattle.std.specs.declared.cmp.Ordering as Cmp
+use Rattle.std.specs.declared.cmp.Ordering.TheVariants.{Less as Smaller, Equal, Greater}
+use Rattle.std.specs.Ordering.{MatchOrdering, nat_cmp, partial_ordering_then, is_some_and, is_gt}
+use Rattle.std.proofs.lemmas.Cmp.{ranked}
+use Rattle.threading_node.specs.declared.Edge.{Edge}
 use Rattle.laws.specs.ListLaws.{and_left, and_right}
 use Rattle.std.proofs.Math.Dec.{is_le, compare_is_eq}
 use Rattle.std.proofs.lemmas.Bool.{eqb-false}
 
 abbrev pub ends : ℕ → ℕ → Ends
 ends a b = record { from = a; to = b }
+
+-- the code's edge
+abbrev pub ends_of : Edge → Ends
+ends_of e = ends e.from e.to
 
 pub ends-path : (a b c d : ℕ) → a ≡ c → b ≡ d → ends a b ≡ ends c d
 ends-path a b c d p q = cc
@@ -88,6 +97,32 @@ eq-same e f h = go (compare e.from f.from) refl
     go Ordering.lt c = absurd (let g : Ordering.lt ≡ Ordering.eq = rw c at h in let z : ◌≡◌ {A = ℕ} 0 1 = cc in omega arith)
     go Ordering.eq c = ends-path _ _ _ _ (cmp-eq _ _ c) (cmp-eq _ _ (rw c at h))
     go Ordering.gt c = absurd (let g : Ordering.gt ≡ Ordering.eq = rw c at h in let z : ◌≡◌ {A = ℕ} 0 1 = cc in omega arith)
+
+-- as the code compares two edges: by their first ends, then by their second
+abbrev compared : Ends → Ends → Option Cmp.Ordering
+compared e f = partial_ordering_then (Some (nat_cmp e.from f.from)) (Some (nat_cmp e.to f.to))
+
+pub told-greater : (e f : Ends) → true ≡ is_some_and is_gt (compared e f) → Less f e
+told-greater e f h = go (nat_cmp e.from f.from) (nat_cmp e.to f.to) (ranked e.from f.from _ refl) (ranked e.to f.to _ refl) h
+  where
+    go : (p q : Cmp.Ordering) → MatchOrdering p (e.from < f.from) (e.from ≡ f.from) (f.from < e.from) → MatchOrdering q (e.to < f.to) (e.to ≡ f.to) (f.to < e.to)
+        → true ≡ is_some_and is_gt (partial_ordering_then (Some p) (Some q)) → Less f e
+    go Smaller q m n z = cc
+    go Greater q m n z = inl m
+    go Equal Smaller m n z = cc
+    go Equal Greater m n z = inr (sym m, n)
+    go Equal Equal m n z = cc
+
+pub told-less : (e f : Ends) → false ≡ is_some_and is_gt (compared e f) → false ≡ eq_ends e f → Less e f
+told-less e f h k = go (nat_cmp e.from f.from) (nat_cmp e.to f.to) (ranked e.from f.from _ refl) (ranked e.to f.to _ refl) h
+  where
+    go : (p q : Cmp.Ordering) → MatchOrdering p (e.from < f.from) (e.from ≡ f.from) (f.from < e.from) → MatchOrdering q (e.to < f.to) (e.to ≡ f.to) (f.to < e.to)
+        → false ≡ is_some_and is_gt (partial_ordering_then (Some p) (Some q)) → Less e f
+    go Smaller q m n z = inl m
+    go Greater q m n z = cc
+    go Equal Smaller m n z = inr (m, n)
+    go Equal Greater m n z = cc
+    go Equal Equal m n z = let y : false ≡ true = k ∙ rw (eq-eqb e.from f.from m, eq-eqb e.to f.to n) in cc
 
 less-trans : (e f g : Ends) → Less e f → Less f g → Less e g
 less-trans e f g (inl p) (inl q) = inl (omega arith)

@@ -1,12 +1,6 @@
 -- A list whose front has been written over: xs, and then what was there. One store more, and a row of stores of any width.
-use Rattle.std.specs.Prelude.{◌≡◌, refl, length, drop, set}
-use Rattle.std.proofs.Math.Path.{sym, ap}
-use Rattle.std.proofs.Common.{◌∙◌, add-one, zero-add, zero-mul}
-use Prim.Native.Nat.{ℕ, suc, ◌+◌, ◌*◌, ◌<◌, ◌≤◌}
-use Rattle.std.proofs.Math.Nat.{suc-mul}
-use mathlib.Core.List.{List, [], ◌∷◌, ◌++◌, append_assoc}
-use native.Mathlib.Omega.{arith}
-use Rattle.std.proofs.Math.ListN.{length-append}
+use Rattle.std.specs.Prelude.{◌≡◌, refl, length, drop, set, ℕ, suc, ◌+◌, ◌*◌, ◌<◌, ◌≤◌, List, [], ◌∷◌, ◌++◌}
+use Rattle.std.proofs.Common.{sym, ap, ◌∙◌, add-one, zero-add, zero-mul, suc-mul, append_assoc, arith, length-append}
 use Rattle.laws.specs.Records.{put_from}
 use Rattle.definition.specs.Calls.{written_at, flat}
 

@@ -1,14 +1,12 @@
 -- The invariant of the node table, and that one change keeps it.
-use Rattle.std.specs.Prelude.{◌≡◌, cond, List, [], ◌∷◌, ◌++◌, eqb}
-use Rattle.std.proofs.Math.Path.{refl, sym}
-use Rattle.std.proofs.Common.{ap, ◌∙◌, append_assoc, arith, zero-add, eq-eqb, ne_eqb}
-use Prim.Native.Nat.{ℕ, suc, ◌+◌, ◌<◌, ◌≤◌, Ordering}
+use Rattle.std.specs.Prelude.{◌≡◌, cond, List, [], ◌∷◌, ◌++◌, eqb, refl, ℕ, suc, ◌+◌, ◌<◌, ◌≤◌}
+use Rattle.std.proofs.Common.{sym, ap, ◌∙◌, append_assoc, arith, zero-add, eq-eqb, ne_eqb}
+use Prim.Native.Nat.{Ordering}
 use Rattle.definition.specs.Threading.{Ends, compare_ends}
 use Rattle.threading_node.specs.Ends.{eq_ends-self}
-use Rattle.threading_node.specs.Nodes.{Nodes, nil, node, size, reach_n, take_n, seek_n, head_link, landed, At, here, down, along, kids_at, Rising, Fields, Links, Own, take_n-here, take_n-down, take_n-along, rising-take}
+use Rattle.threading_node.specs.Nodes.{Nodes, nil, node, size, reach_n, take_n, seek_n, head_link, landed, At, here, down, along, kids_at, Rising, Fields, Links, Own, take_n-here, take_n-down, take_n-along, rising-take, Here, Between}
 use Rattle.threading_node.specs.Table.{Agree, Res, links-take}
 use Rattle.threading_node.specs.Rows.{Found, Bumped, Added, Stopped, head, inside, none, seek-here, seek-gap, bumped-off, row-bumped, added-off, row-added, seek_n-lt, seek_n-eq, seek_n-gt, gap_here, here-same}
-use Rattle.threading_node.specs.declared.Place.TheVariants.{Here, Gap}
 
 -- the table with n nodes holds the numbered tree t
 pub record Good (f : Fields) (n : ℕ) (t : Nodes) : Type 0 where
@@ -111,12 +109,12 @@ module _ (m : ℕ) (e : Ends) (k : ℕ) where
       go Ordering.eq z ih = rw (z, reach_n) (omega arith)
       go Ordering.gt z ih = let y = ih (sym (seek_n-gt e prev i d c b x z) ∙ h) in rw (z, reach_n) (omega arith)
 
-  pub size-gap : (u v prev : ℕ) (t : Nodes) → seek_n e prev t ≡ Gap u v → size (reach_n m e k t) ≡ 1 + size t
+  pub size-gap : (u v prev : ℕ) (t : Nodes) → seek_n e prev t ≡ Between u v → size (reach_n m e k t) ≡ 1 + size t
   unfolding size reach_n seek_n
   size-gap u v prev nil h = refl
   size-gap u v prev (node i d c b x) h = go (compare_ends e d) refl (λ z. size-gap u v i x z)
     where
-      go : (w : Ordering) → compare_ends e d ≡ w → (seek_n e i x ≡ Gap u v → size (reach_n m e k x) ≡ 1 + size x) → size (reach_n m e k (node i d c b x)) ≡ 1 + size (node i d c b x)
+      go : (w : Ordering) → compare_ends e d ≡ w → (seek_n e i x ≡ Between u v → size (reach_n m e k x) ≡ 1 + size x) → size (reach_n m e k (node i d c b x)) ≡ 1 + size (node i d c b x)
       go Ordering.lt z ih = rw (z, reach_n) (omega arith)
       go Ordering.eq z ih = absurd (gap_here (sym h ∙ seek_n-eq e prev i d c b x z))
       go Ordering.gt z ih = let y = ih (sym (seek_n-gt e prev i d c b x z) ∙ h) in rw (z, reach_n) (omega arith)
@@ -141,12 +139,12 @@ module _ (m : ℕ) (e : Ends) (k : ℕ) where
       go Ordering.eq z ih = rw (z, landed) (here-same (sym (seek_n-eq e prev i d c b x z) ∙ h))
       go Ordering.gt z ih = rw (z, landed) (ih (sym (seek_n-gt e prev i d c b x z) ∙ h))
 
-  pub landed-gap : (u v prev : ℕ) (t : Nodes) → seek_n e prev t ≡ Gap u v → landed e k t ≡ k
+  pub landed-gap : (u v prev : ℕ) (t : Nodes) → seek_n e prev t ≡ Between u v → landed e k t ≡ k
   unfolding landed seek_n
   landed-gap u v prev nil h = refl
   landed-gap u v prev (node i d c b x) h = go (compare_ends e d) refl (λ z. landed-gap u v i x z)
     where
-      go : (w : Ordering) → compare_ends e d ≡ w → (seek_n e i x ≡ Gap u v → landed e k x ≡ k) → landed e k (node i d c b x) ≡ k
+      go : (w : Ordering) → compare_ends e d ≡ w → (seek_n e i x ≡ Between u v → landed e k x ≡ k) → landed e k (node i d c b x) ≡ k
       go Ordering.lt z ih = rw (z, landed)
       go Ordering.eq z ih = absurd (gap_here (sym h ∙ seek_n-eq e prev i d c b x z))
       go Ordering.gt z ih = rw (z, landed) (ih (sym (seek_n-gt e prev i d c b x z) ∙ h))
@@ -211,7 +209,7 @@ module _ (f g : Fields) (n m : ℕ) (e : Ends) (s : ℕ) {t : Nodes} (p : List E
       kid-0 x = x.kid
 
   -- the child is new
-  pub good-added : (u u' : ℕ) → seek_n e 0 (kids_at a) ≡ Gap u u' → Added f g m e s (suc n) u u' → Good g (suc n) (take_n m e (suc n) t p)
+  pub good-added : (u u' : ℕ) → seek_n e 0 (kids_at a) ≡ Between u u' → Added f g m e s (suc n) u u' → Good g (suc n) (take_n m e (suc n) t p)
   good-added u u' h w =
       let mi = mine f g n m e s v a in
       let lk = row-of f g n m e s v a in

@@ -1,4 +1,5 @@
 pub mod Ends
+pub mod Links
 pub mod Nodes
 pub mod Table
 pub mod Rows
@@ -7,5 +8,4 @@ pub mod Slots
 pub mod Cells
 pub mod Take
 pub mod Open
-pub mod Fit
 pub mod Front

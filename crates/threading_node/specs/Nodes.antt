@@ -1,14 +1,17 @@
 -- The node table as a numbered tree: what the table's links hold, and the two changes of it. A slot is a number from 1; slot 0 stands for the place
 -- whose children are the roots.
-use Rattle.std.specs.Prelude.{◌≡◌, refl, Bool, true, false, cond, List, [], ◌∷◌, ◌++◌}
+use Rattle.std.specs.Prelude.{◌≡◌, refl, Bool, true, false, cond, List, [], ◌∷◌, ◌++◌, ℕ, suc, ◌+◌, ◌<◌, ◌≤◌}
 use Rattle.std.proofs.Common.{sym}
-use Prim.Native.Nat.{ℕ, suc, ◌+◌, ◌<◌, ◌≤◌, Ordering}
+use Prim.Native.Nat.{Ordering}
 use Rattle.definition.specs.Threading.{Ends, compare_ends, eq_ends}
 use Rattle.threading_node.specs.Ends.{lt_trans, gt-lt, lt-ne, eq-same, eq_ends-self, eq_ends-ne}
 use Rattle.laws.specs.Lists.{is_empty}
 use Rattle.definition.specs.Evidence.{Branches, bare, branch}
-use Rattle.threading_node.specs.declared.Place.{Place}
-use Rattle.threading_node.specs.declared.Place.TheVariants.{Here, Gap}
+
+-- where an edge stands in a row of siblings, or between which slots it is to stand: 0 is before the first, and after the last
+pub data Place : Type 0 where
+  Here : ℕ → Place
+  Between : ℕ → ℕ → Place
 
 -- number, edge, count, the branches below, the branches after
 pub data Nodes : Type 0 where
@@ -43,8 +46,8 @@ take_n m e k (node i f c b x) (d ∷ p) =
 
 -- where the child for e stands among these, or is to stand: after which slot (0: first), before which (0: last)
 unfoldable pub seek_n : Ends → ℕ → Nodes → Place
-seek_n e prev nil = Gap prev 0
-seek_n e prev (node i f c b x) = elim (compare_ends e f) [ Ordering.lt ↦ Gap prev i | Ordering.eq ↦ Here i | Ordering.gt ↦ seek_n e i x ]
+seek_n e prev nil = Between prev 0
+seek_n e prev (node i f c b x) = elim (compare_ends e f) [ Ordering.lt ↦ Between prev i | Ordering.eq ↦ Here i | Ordering.gt ↦ seek_n e i x ]
 
 -- the link to the first of them, after the change
 unfoldable pub head_link : Ends → ℕ → ℕ → Nodes → ℕ

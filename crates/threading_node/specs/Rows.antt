@@ -1,19 +1,16 @@
 -- The two sets of stores of one change, against the row of children that they are made in.
-use Rattle.std.specs.Prelude.{◌≡◌, ◌⊎◌, List, [], ◌∷◌, ◌++◌}
-use Rattle.std.proofs.Math.Path.{refl, sym, ap}
-use Rattle.std.proofs.Common.{◌∙◌, inl, inr, append_assoc}
-use Prim.Native.Nat.{ℕ, suc, ◌+◌, ◌<◌, ◌≤◌, Ordering}
-use native.Mathlib.Omega.{arith}
+use Rattle.std.specs.Prelude.{◌≡◌, ◌⊎◌, List, [], ◌∷◌, ◌++◌, refl, ℕ, suc, ◌+◌, ◌<◌, ◌≤◌}
+use Rattle.std.proofs.Common.{sym, ap, ◌∙◌, inl, inr, append_assoc, arith}
+use Prim.Native.Nat.{Ordering}
 use Rattle.definition.specs.Threading.{Ends, compare_ends}
 use Rattle.threading_node.specs.Ends.{ends-path, gt-lt, lt-ne, eq-same}
-use Rattle.threading_node.specs.Nodes.{Nodes, nil, node, reach_n, seek_n, head_link, Above, Rising, Fields, Cell, Links, Own, reach_n-eq, reach_n-gt, above-less}
+use Rattle.threading_node.specs.Nodes.{Nodes, nil, node, reach_n, seek_n, head_link, Above, Rising, Fields, Cell, Links, Own, reach_n-eq, reach_n-gt, above-less, Here, Between}
 use Rattle.threading_node.specs.Table.{long-not, Agree, Off, Gained, NotPre, frame, cell_same, cell-gained}
-use Rattle.threading_node.specs.declared.Place.TheVariants.{Here, Gap}
 
 -- ---- the cases of a search, as laws
 
 module _ (e : Ends) (prev i : ℕ) (f : Ends) (c : ℕ) (b x : Nodes) where
-  pub seek_n-lt : compare_ends e f ≡ Ordering.lt → seek_n e prev (node i f c b x) ≡ Gap prev i
+  pub seek_n-lt : compare_ends e f ≡ Ordering.lt → seek_n e prev (node i f c b x) ≡ Between prev i
   unfolding seek_n
   seek_n-lt h = rw (h, seek_n)
 
@@ -25,16 +22,16 @@ module _ (e : Ends) (prev i : ℕ) (f : Ends) (c : ℕ) (b x : Nodes) where
   unfolding seek_n
   seek_n-gt h = rw (h, seek_n)
 
-pub gap_here : {u v j : ℕ} → Gap u v ≡ Here j → ⊥
+pub gap_here : {u v j : ℕ} → Between u v ≡ Here j → ⊥
 gap_here h = let z : ◌≡◌ {A = ℕ} 0 1 = cc in omega arith
 
 pub here-same : {i j : ℕ} → Here i ≡ Here j → i ≡ j
 here-same h = cc
 
-gap-after : {u v u' v' : ℕ} → Gap u v ≡ Gap u' v' → u ≡ u'
+gap-after : {u v u' v' : ℕ} → Between u v ≡ Between u' v' → u ≡ u'
 gap-after h = cc
 
-pub gap-before : {u v u' v' : ℕ} → Gap u v ≡ Gap u' v' → v ≡ v'
+pub gap-before : {u v u' v' : ℕ} → Between u v ≡ Between u' v' → v ≡ v'
 gap-before h = cc
 
 -- what a search that found says of the slot
@@ -135,7 +132,7 @@ pub data Stopped (own : ℕ → List Ends) (Q : List Ends) (f : Fields) (e : End
   inside : (h : Ends) → 0 < u → u ≤ n → own u ≡ Q ++ h ∷ [] → f.from u ≡ h.from → f.to u ≡ h.to → ((a : Ends) → Above a t → compare_ends a h ≡ Ordering.lt)
       → head_link e k l t ≡ l → Stopped own Q f e k n u prev l t
 
-pub seek-gap : (own : ℕ → List Ends) (Q : List Ends) (f : Fields) (e : Ends) (k n u v prev l : ℕ) (t : Nodes) → seek_n e prev t ≡ Gap u v → Links f n l t → Own own Q t
+pub seek-gap : (own : ℕ → List Ends) (Q : List Ends) (f : Fields) (e : Ends) (k n u v prev l : ℕ) (t : Nodes) → seek_n e prev t ≡ Between u v → Links f n l t → Own own Q t
     → Stopped own Q f e k n u prev l t
 unfolding Links Own Above seek_n head_link
 seek-gap own Q f e k n u v prev l nil h w o = head (sym (gap-after h)) refl
@@ -149,7 +146,7 @@ seek-gap own Q f e k n u v prev l (node i d c b x) h w o = go (compare_ends e d)
         inside d (rw p w.0.some) (rw p w.0.live) (rw p o.0) (rw p w.0.from) (rw p w.0.to) (λ a y. y.0) (stay z)
     up z (inside y p1 p2 p3 p4 p5 p6 q) = inside y p1 p2 p3 p4 p5 (λ a r. p6 a r.1) (stay z)
 
-    go : (y : Ordering) → compare_ends e d ≡ y → (seek_n e i x ≡ Gap u v → Stopped own Q f e k n u i (f.next i) x) → Stopped own Q f e k n u prev l (node i d c b x)
+    go : (y : Ordering) → compare_ends e d ≡ y → (seek_n e i x ≡ Between u v → Stopped own Q f e k n u i (f.next i) x) → Stopped own Q f e k n u prev l (node i d c b x)
     go Ordering.lt z ih = head (sym (gap-after (sym (seek_n-lt e prev i d c b x z) ∙ h))) (rw (z, head_link))
     go Ordering.eq z ih = absurd (gap_here (sym h ∙ seek_n-eq e prev i d c b x z))
     go Ordering.gt z ih = up z (ih (sym (seek_n-gt e prev i d c b x z) ∙ h))
@@ -188,7 +185,7 @@ module _ (own : ℕ → List Ends) (Q : List Ends) (m : ℕ) (e : Ends) (k n s u
       not-u z (inr y) = lt-ne a d h.0 (ends-path _ _ _ _ (sym y.0 ∙ sym (ap f.from z) ∙ p.0.from) (sym y.1 ∙ sym (ap f.to z) ∙ p.0.to))
 
   -- the row with the new slot in it
-  pub row-added : (prev l : ℕ) (t : Nodes) → seek_n e prev t ≡ Gap u v → Links f n l t → Own own Q t → Rising t → Past f prev t → Links g k (head_link e k l t) (reach_n m e k t)
+  pub row-added : (prev l : ℕ) (t : Nodes) → seek_n e prev t ≡ Between u v → Links f n l t → Own own Q t → Rising t → Past f prev t → Links g k (head_link e k l t) (reach_n m e k t)
   unfolding Links Own Above Rising seek_n reach_n head_link
   row-added prev l nil h p o r y = (record { is = refl; some = omega arith; live = omega arith; from = w.from; to = w.to; count = w.count }, w.kid, w.next ∙ sym (gap-before h))
   row-added prev l (node i d c b x) h p o r y = go (compare_ends e d) refl (λ z y. row-added i (f.next i) x z p.2 o.2 r.2 y)
@@ -220,16 +217,16 @@ module _ (own : ℕ → List Ends) (Q : List Ends) (m : ℕ) (e : Ends) (k n s u
       under : Links g k (f.kid i) b
       under = frame own Q n k f g more added-off (Q ++ d ∷ []) (f.kid i) b p.1 o.1 (under-not d)
 
-      go : (y : Ordering) → compare_ends e d ≡ y → (seek_n e i x ≡ Gap u v → Past f i x → Links g k (head_link e k (f.next i) x) (reach_n m e k x))
+      go : (y : Ordering) → compare_ends e d ≡ y → (seek_n e i x ≡ Between u v → Past f i x → Links g k (head_link e k (f.next i) x) (reach_n m e k x))
           → Links g k (head_link e k l (node i d c b x)) (reach_n m e k (node i d c b x))
       go Ordering.lt z ih =
-          let q : Gap prev i ≡ Gap u v = sym (seek_n-lt e prev i d c b x z) ∙ h in
+          let q : Between prev i ≡ Between u v = sym (seek_n-lt e prev i d c b x z) ∙ h in
           let nx : g.next k ≡ l = w.next ∙ sym (gap-before q) ∙ sym p.0.is in
           rw (z, head_link, reach_n)
           (record { is = refl; some = omega arith; live = omega arith; from = w.from; to = w.to; count = w.count }, w.kid, rw nx (kept z (sym (gap-after q)) y))
       go Ordering.eq z ih = absurd (gap_here (sym h ∙ seek_n-eq e prev i d c b x z))
       go Ordering.gt z ih =
-          let q : seek_n e i x ≡ Gap u v = sym (seek_n-gt e prev i d c b x z) ∙ h in
+          let q : seek_n e i x ≡ Between u v = sym (seek_n-gt e prev i d c b x z) ∙ h in
           let st : Stopped own Q f e k n u i (f.next i) x = seek-gap own Q f e k n u v i (f.next i) x q p.2 o.2 in
           let cl = pass st in
           rw (z, head_link, reach_n)

@@ -1,11 +1,8 @@
 -- The node table in one list, five numbers a slot: from, to, count, first child, next sibling. The table's columns, and the three stores that a
 -- change is made of, each with what it leaves alone. Only this file and the accessors of the code know where a field stands.
-use Rattle.std.specs.Prelude.{◌≡◌, List, [], ◌∷◌, length, get_or}
-use Rattle.std.proofs.Math.Path.{refl}
-use Rattle.std.proofs.Common.{sym, ap, ◌∙◌, arith, get_or-set_other}
-use Prim.Native.Nat.{ℕ, zero, suc, ◌+◌, ◌*◌, ◌-◌, ◌<◌, ◌≤◌}
+use Rattle.std.specs.Prelude.{◌≡◌, List, [], ◌∷◌, length, get_or, refl, ℕ, zero, suc, ◌+◌, ◌*◌, ◌-◌, ◌<◌, ◌≤◌}
+use Rattle.std.proofs.Common.{sym, ap, ◌∙◌, arith, get_or-set_other, length-set}
 use Rattle.std.proofs.Math.Decide.{ℕ_discrete}
-use Rattle.std.proofs.Math.ListN.{length-set}
 use Rattle.laws.specs.Records.{field, put_field, put_from, field-same, field-other, row_other, length-put_from, put_from-row, put_from-at}
 use Rattle.threading_node.specs.Ends.{ends}
 use Rattle.threading_node.specs.Nodes.{Fields}
@@ -31,9 +28,6 @@ module _ (x : List ℕ) (P : ℕ → Type 0) (h : (i : ℕ) → P (get_or x i 0)
 
   pub every-to : (l : ℕ) → P ((cols x).to l)
   every-to l = h (l * 5 + 1)
-
-  pub every-count : (l : ℕ) → P ((cols x).count l)
-  every-count l = h (l * 5 + 2)
 
 -- a zeroed table has no child of slot 0, and no count
 module _ (x : List ℕ) (cap : ℕ) (h : (i : ℕ) → i < told cap → get_or x i 0 ≡ 0) where

@@ -1,8 +1,6 @@
 -- The table's stores against the numbered tree: what a store leaves alone, and that the stores of one change make the changed tree.
-use Rattle.std.specs.Prelude.{◌≡◌, refl, ℕ, ◌+◌, ◌<◌, ◌≤◌, cond, length}
-use Rattle.std.proofs.Math.Path.{sym}
-use Rattle.std.proofs.Common.{ap, ◌∙◌, arith, length-append}
-use mathlib.Core.List.{List, [], ◌∷◌, ◌++◌, append_assoc}
+use Rattle.std.specs.Prelude.{◌≡◌, refl, ℕ, ◌+◌, ◌<◌, ◌≤◌, cond, length, List, [], ◌∷◌, ◌++◌}
+use Rattle.std.proofs.Common.{sym, ap, ◌∙◌, arith, length-append, append_assoc}
 use Rattle.definition.specs.Threading.{Ends}
 use Rattle.threading_node.specs.Ends.{lt-ne, eq_ends-self, eq_ends-false}
 use Rattle.laws.specs.Lists.{is_empty}

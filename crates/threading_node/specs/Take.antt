@@ -1,23 +1,20 @@
 -- What taking an edge asks and ensures, and that the stores of the code are the change. (Rust: ThreadingNode::add_edge)
-use Rattle.std.specs.Prelude.{◌≡◌, refl, List, [], length}
+use Rattle.std.specs.Prelude.{◌≡◌, refl, List, [], length, Option, Result, Ok, Err, ℕ, suc, ◌+◌, ◌^◌, ◌<◌, ◌≤◌}
 use Rattle.std.proofs.Common.{sym, ap, ◌∙◌, arith, add-one}
-use Prim.Native.Nat.{ℕ, suc, ◌+◌, ◌^◌, ◌<◌, ◌≤◌, Ordering}
+use Prim.Native.Nat.{Ordering}
 use Rattle.definition.specs.Threading.{Ends, compare_ends}
-use Rattle.threading_node.specs.Nodes.{Nodes, nil, node, size, take_n, seek_n, landed, At, kids_at, Fields, Links}
+use Rattle.threading_node.specs.Nodes.{Nodes, nil, node, size, take_n, seek_n, landed, At, kids_at, Fields, Links, Here, Between}
 use Rattle.threading_node.specs.Table.{long-not}
 use Rattle.threading_node.specs.Rows.{Bumped, Added, Stopped, head, inside, seek-gap, seek_n-lt, seek_n-eq, seek_n-gt, gap_here, gap-before}
 use Rattle.threading_node.specs.Good.{Good, row-of, row-owned, row-rising, slot-live, mine, child-found, good-bumped, good-added, landed-here, landed-gap, size-take, size-gap}
 use Rattle.threading_node.specs.Slots.{cols, told, Slot, Beyond, raised, placed, linked, raised-length, raised-count, placed-length, placed_off, bumped-of, bumped-under, bumped-beyond, added_of, added-under, added-beyond}
-use Rattle.threading_node.specs.Cells.{Row, Rowed, Sought}
-use Rattle.threading_node.specs.declared.Place.{Place}
-use Rattle.threading_node.specs.declared.Place.TheVariants.{Here, Gap}
+use Rattle.threading_node.specs.Links.{slot_at, link_to, link_is, linked_at}
+use Rattle.threading_node.specs.Cells.{place_of, Row, Rowed, Sought}
 use Rattle.threading_node.specs.declared.Reached.{Reached}
-use Rattle.threading_node.specs.declared.Step.{Step}
-use Rattle.threading_node.specs.declared.Step.TheVariants.{Next, Refused}
-
-abbrev pub step_refusal : Step → ℕ
-step_refusal (Next st) = 0
-step_refusal (Refused k) = k
+use Rattle.threading_node.specs.declared.Gap.{Gap}
+use Rattle.refusals.specs.declared.Refusal.{Refusal}
+use Rattle.refusals.specs.declared.Refusal.TheVariants.{TreeNodes}
+use Rattle.refusals.specs.Numbers.{number}
 
 -- room for slots up to cap, and a slot is a number of the table
 pub record Wide (cap : ℕ) (x : List ℕ) : Type 0 where
@@ -60,11 +57,11 @@ pub record Full (cap n m : ℕ) (e : Ends) (x y : List ℕ) (t : Nodes) (p : Lis
   pub over : size (take_n m e (suc n) t p) ≡ suc cap
 
 -- by the answer: the tree has changed as defined and the child stands where told; or the node would be one too many, and nothing has changed
-abbrev pub After : ℕ → ℕ → ℕ → Ends → List ℕ → List ℕ → Nodes → List Ends → ℕ → Step → Type 0
-After cap n m e x y t p j (Next st) = Went cap n m e y t p j st
-After cap n m e x y t p j (Refused k) = Full cap n m e x y t p k
+abbrev pub After : ℕ → ℕ → ℕ → Ends → List ℕ → List ℕ → Nodes → List Ends → ℕ → Result Reached Refusal → Type 0
+After cap n m e x y t p j (Ok st) = Went cap n m e y t p j st
+After cap n m e x y t p j (Err k) = Full cap n m e x y t p (number k)
 
-pub record Taken (cap n s m : ℕ) (e : Ends) (x y : List ℕ) (r : Step) : Type 0 where
+pub record Taken (cap n s m : ℕ) (e : Ends) (x y : List ℕ) (r : Result Reached Refusal) : Type 0 where
   pub is : (t : Nodes) (p : List Ends) → Good (cols x) n t → (a : At t 0 p s) → After cap n m e x y t p (landed e (suc n) (kids_at a)) r
   pub counts : (l : ℕ) → (cols y).count l ≤ (cols x).count l + m
   pub beyond : Beyond (told cap) x y
@@ -81,12 +78,12 @@ links-row cap n l x (node i e c b y) h w v =
     )
 
 -- the slot before which a new child is to stand
-gap-live : (f : Fields) (e : Ends) (n u w prev l : ℕ) (t : Nodes) → seek_n e prev t ≡ Gap u w → Links f n l t → w ≤ n
+gap-live : (f : Fields) (e : Ends) (n u w prev l : ℕ) (t : Nodes) → seek_n e prev t ≡ Between u w → Links f n l t → w ≤ n
 unfolding Links seek_n
 gap-live f e n u w prev l nil h v = let z = gap-before h in omega arith
 gap-live f e n u w prev l (node i d c b x) h v = go (compare_ends e d) refl (λ z. gap-live f e n u w i (f.next i) x z v.2)
   where
-    go : (o : Ordering) → compare_ends e d ≡ o → (seek_n e i x ≡ Gap u w → w ≤ n) → w ≤ n
+    go : (o : Ordering) → compare_ends e d ≡ o → (seek_n e i x ≡ Between u w → w ≤ n) → w ≤ n
     go Ordering.lt z ih = let y = gap-before (sym (seek_n-lt e prev i d c b x z) ∙ h) in let q = v.0.live in omega arith
     go Ordering.eq z ih = absurd (gap_here (sym h ∙ seek_n-eq e prev i d c b x z))
     go Ordering.gt z ih = ih (sym (seek_n-gt e prev i d c b x z) ∙ h)
@@ -110,23 +107,30 @@ module _ (cap n s m : ℕ) (e : Ends) (x : List ℕ) where
   kids-row : (t : Nodes) (p : List Ends) (g : Good (cols x) n t) (a : At t 0 p s) → Ready cap n s m e x → Row x ((cols x).kid s) (kids_at a)
   kids-row t p g a v = links-row cap n ((cols x).kid s) x (kids_at a) v.room v.wide (row-of (cols x) (cols x) n m e s g a)
 
-  module _ (start : ℕ) (is : start ≡ (cols x).kid s) where
+  module _ (start : Option ℕ) (is : start ≡ slot_at ((cols x).kid s)) where
+    link : link_to start ≡ (cols x).kid s
+    link = ap link_to is ∙ link_is ((cols x).kid s)
+
     pub rowed : Ready cap n s m e x → Rowed x start
     rowed v =
-        rw is
-        (record { row = kids_at v.at; leads = kids-row v.tree v.path v.good v.at v; rising = row-rising (cols x) (cols x) n m e s v.good v.at })
+        record {
+          row = kids_at v.at;
+          leads = rw link (kids-row v.tree v.path v.good v.at v);
+          rising = row-rising (cols x) (cols x) n m e s v.good v.at;
+          linked = rw is (linked_at ((cols x).kid s));
+        }
 
     -- what the search's answer tells
-    module _ (r : Place) (v : Ready cap n s m e x) (f : Sought x start e r) where
-      place_is : (t : Nodes) (p : List Ends) (g : Good (cols x) n t) (a : At t 0 p s) → seek_n e 0 (kids_at a) ≡ r
-      place_is t p g a = sym (f.is (kids_at a) (rw is (kids-row t p g a v)))
+    module _ (r : Result ℕ Gap) (v : Ready cap n s m e x) (f : Sought x start e r) where
+      place_is : (t : Nodes) (p : List Ends) (g : Good (cols x) n t) (a : At t 0 p s) → seek_n e 0 (kids_at a) ≡ place_of r
+      place_is t p g a = sym (f.stands.is (kids_at a) (rw link (kids-row t p g a v)))
 
       pub record IsHere (j : ℕ) : Type 0 where
         pub some : 0 < j
         pub live : j ≤ n
         pub other : j ≡ s → ⊥
 
-      pub is-here : (j : ℕ) → r ≡ Here j → IsHere j
+      pub is-here : (j : ℕ) → place_of r ≡ Here j → IsHere j
       is-here j h =
           let q = child-found (cols x) (cols x) n m e s v.good v.at j (place_is v.tree v.path v.good v.at ∙ h) in
           record { some = q.some; live = q.live; other = λ z. long-not v.path e [] (sym q.path ∙ ap v.good.own z ∙ mine (cols x) (cols x) n m e s v.good v.at) }
@@ -136,13 +140,13 @@ module _ (cap n s m : ℕ) (e : Ends) (x : List ℕ) where
         pub other : 0 < u → u ≡ s → ⊥
         pub next : w ≤ n
 
-      pub is-gap : (u w : ℕ) → r ≡ Gap u w → IsGap u w
+      pub is-gap : (u w : ℕ) → place_of r ≡ Between u w → IsGap u w
       is-gap u w h =
           go
           (seek-gap v.good.own v.path (cols x) e (suc n) n u w 0 ((cols x).kid s) (kids_at v.at) here-gap (row-of (cols x) (cols x) n m e s v.good v.at)
           (row-owned (cols x) (cols x) n m e s v.good v.at))
         where
-          here-gap : seek_n e 0 (kids_at v.at) ≡ Gap u w
+          here-gap : seek_n e 0 (kids_at v.at) ≡ Between u w
           here-gap = place_is v.tree v.path v.good v.at ∙ h
 
           after : w ≤ n
@@ -154,7 +158,7 @@ module _ (cap n s m : ℕ) (e : Ends) (x : List ℕ) where
               record { live = p2; other = λ y i. long-not v.path d [] (sym p3 ∙ ap v.good.own i ∙ mine (cols x) (cols x) n m e s v.good v.at); next = after }
 
       -- refused: one node too many, nothing changed
-      pub taken-full : (u w : ℕ) → r ≡ Gap u w → cap < n + 1 → Taken cap n s m e x x (Refused 9)
+      pub taken-full : (u w : ℕ) → place_of r ≡ Between u w → cap < n + 1 → Taken cap n s m e x x (Err TreeNodes)
       taken-full u w h k =
           record {
             is = λ t p g a.
@@ -167,8 +171,8 @@ module _ (cap n s m : ℕ) (e : Ends) (x : List ℕ) where
             beyond = λ i q. refl;
           }
 
-      taken_here : (j : ℕ) (y : List ℕ) → r ≡ Here j → Bumped (cols x) (cols y) m s j → ((l : ℕ) → (cols y).count l ≤ (cols x).count l + m) → Beyond (told cap) x y
-          → Taken cap n s m e x y (Next (record { nodes = n; at = j }))
+      taken_here : (j : ℕ) (y : List ℕ) → place_of r ≡ Here j → Bumped (cols x) (cols y) m s j → ((l : ℕ) → (cols y).count l ≤ (cols x).count l + m) → Beyond (told cap) x y
+          → Taken cap n s m e x y (Ok (record { nodes = n; at = j }))
       taken_here j y h b q f =
           record {
             is = λ t p g a.
@@ -181,8 +185,8 @@ module _ (cap n s m : ℕ) (e : Ends) (x : List ℕ) where
             beyond = f;
           }
 
-      taken-gap : (u w : ℕ) (y : List ℕ) → r ≡ Gap u w → n < cap → Added (cols x) (cols y) m e s (suc n) u w → ((l : ℕ) → (cols y).count l ≤ (cols x).count l + m) → Beyond (told cap) x y
-          → Taken cap n s m e x y (Next (record { nodes = n + 1; at = n + 1 }))
+      taken-gap : (u w : ℕ) (y : List ℕ) → place_of r ≡ Between u w → n < cap → Added (cols x) (cols y) m e s (suc n) u w → ((l : ℕ) → (cols y).count l ≤ (cols x).count l + m) → Beyond (told cap) x y
+          → Taken cap n s m e x y (Ok (record { nodes = n + 1; at = n + 1 }))
       taken-gap u w y h k b q f =
           rw add-one
           (record {
@@ -198,7 +202,7 @@ module _ (cap n s m : ℕ) (e : Ends) (x : List ℕ) where
 
       -- ---- the code's ways: the child is there
 
-      module _ (j : ℕ) (h : r ≡ Here j) (y1 : List ℕ) (e1 : y1 ≡ raised x s m) where
+      module _ (j : ℕ) (h : place_of r ≡ Here j) (y1 : List ℕ) (e1 : y1 ≡ raised x s m) where
         pub child-slot : Slot j y1
         child-slot = let q = slot_of v j (is-here j h).live in let p = raised-length x s m in rw e1 (omega arith)
 
@@ -210,7 +214,7 @@ module _ (cap n s m : ℕ) (e : Ends) (x : List ℕ) where
             let p = raised-count x s m j (is-here j h).other in
             rw e1 (omega arith)
 
-        pub code_here : (y : List ℕ) → y ≡ raised y1 j m → Taken cap n s m e x y (Next (record { nodes = n; at = j }))
+        pub code_here : (y : List ℕ) → y ≡ raised y1 j m → Taken cap n s m e x y (Ok (record { nodes = n; at = j }))
         code_here y e2 =
             let q = is-here j h in
             let li = q.live in
@@ -222,7 +226,7 @@ module _ (cap n s m : ℕ) (e : Ends) (x : List ℕ) where
             (bumped-under x s j m q.other (node-slot v) (slot_of v j li)) (bumped-beyond x s j m q.other (node-slot v) (slot_of v j li) cap (omega arith) (omega arith)))
 
       -- the child is new
-      module _ (u w : ℕ) (h : r ≡ Gap u w) (less : n + 1 ≤ cap) where
+      module _ (u w : ℕ) (h : place_of r ≡ Between u w) (less : n + 1 ≤ cap) where
         pub new-slot : Slot (n + 1) x
         new-slot = wide-slot v.wide (n + 1) (omega arith)
 
@@ -253,7 +257,7 @@ module _ (cap n s m : ℕ) (e : Ends) (x : List ℕ) where
             pub sibling-slot : Slot u y2
             sibling-slot = let q = slot_of v u (is-gap u w h).live in let p = long2 in omega arith
 
-            pub code-gap : (y : List ℕ) → y ≡ linked y2 s u (n + 1) → Taken cap n s m e x y (Next (record { nodes = n + 1; at = n + 1 }))
+            pub code-gap : (y : List ℕ) → y ≡ linked y2 s u (n + 1) → Taken cap n s m e x y (Ok (record { nodes = n + 1; at = n + 1 }))
             code-gap y e3 =
                 let q = is-gap u w h in
                 let ul = q.live in

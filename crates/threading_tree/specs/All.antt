@@ -1,11 +1,7 @@
 -- Every group of a walk takes an edge: the loop over the groups.
-use Rattle.std.specs.Prelude.{◌≡◌, Bool, true, false, replicate}
-use Rattle.std.proofs.Math.Path.{refl, ap}
-use Rattle.std.proofs.Common.{sym, ◌∙◌, add-one, length-set, get_or-set_other}
-use Prim.Native.Nat.{ℕ, zero, suc, ◌+◌, ◌*◌, ◌^◌, ◌<◌, ◌≤◌, Ordering}
-use mathlib.Core.List.{List, [], ◌∷◌, ◌++◌, map, append_assoc}
-use native.Mathlib.Omega.{arith}
-use Rattle.std.proofs.Math.ListN.{length, length-append}
+use Rattle.std.specs.Prelude.{◌≡◌, Bool, true, false, replicate, Result, Ok, Err, refl, ℕ, zero, suc, ◌+◌, ◌*◌, ◌^◌, ◌<◌, ◌≤◌, List, [], ◌∷◌, ◌++◌, map, length}
+use Rattle.std.proofs.Common.{ap, sym, ◌∙◌, add-one, length-set, get_or-set_other, append_assoc, arith, length-append}
+use Prim.Native.Nat.{Ordering}
 use Rattle.laws.specs.Records.{field, put_field, field-same, field-other, row_other}
 use Rattle.definition.specs.Threading.{Ends, compare_ends, eq_ends}
 use Rattle.definition.specs.Evidence.{Branches}
@@ -13,13 +9,11 @@ use Rattle.threading_node.specs.Nodes.{Fields, Nodes, nil, node, erase, size, re
 use Rattle.threading_node.specs.Good.{Good, at-live}
 use Rattle.threading_tree.specs.Forest.{erase-times}
 use Rattle.threading_tree.specs.Walks.{Group, onward, spread, grow_m, Stand}
-use Rattle.threading_node.specs.Take.{step_refusal, Wide, wide-kept, Packable, Ready, Went, Full, Taken}
+use Rattle.threading_node.specs.Take.{Wide, wide-kept, Packable, Ready, Went, Full, Taken}
 use Rattle.threading_node.specs.Slots.{cols, told, Beyond}
 use Rattle.threading_node.specs.declared.Reached as SD
-use Rattle.threading_node.specs.declared.Step.{Step}
-use Rattle.threading_node.specs.declared.Step.TheVariants.{Next, Refused}
-use Rattle.threading_tree.specs.declared.Grown.{Grown}
-use Rattle.threading_tree.specs.declared.Grown.TheVariants.{Nodes as Many, Refused as Stopped}
+use Rattle.refusals.specs.declared.Refusal.{Refusal}
+use Rattle.refusals.specs.Numbers.{number}
 
 -- each group in turn, a new node with the next number
 unfoldable pub grow_n : Ends → List Group → Nodes → Nodes
@@ -124,10 +118,6 @@ new-live f n m e k a g = at-live f n (f.kid 0) (at_new m e k a) g.links (omega a
 
 -- ---- what the loop asks, keeps and ensures
 
-abbrev pub grown_refusal : Grown → ℕ
-grown_refusal (Many n) = 0
-grown_refusal (Stopped k) = k
-
 pub record Walking (cap n w : ℕ) (e : Ends) (x op : List ℕ) : Type 0 where
   pub tree : Nodes
   pub groups : List Group
@@ -150,11 +140,11 @@ pub record Over (cap : ℕ) (e : Ends) (t : Nodes) (gs : List Group) (k : ℕ) :
   pub number : k ≡ 9
   pub over : cap < size (grow_n e gs t)
 
-abbrev pub Ends-in : ℕ → Ends → List ℕ → List ℕ → List ℕ → Nodes → List Group → Grown → Type 0
-Ends-in cap e x y op t gs (Many n) = Grew cap e x y op t gs n
-Ends-in cap e x y op t gs (Stopped k) = Over cap e t gs k
+abbrev pub Ends-in : ℕ → Ends → List ℕ → List ℕ → List ℕ → Nodes → List Group → Result ℕ Refusal → Type 0
+Ends-in cap e x y op t gs (Ok n) = Grew cap e x y op t gs n
+Ends-in cap e x y op t gs (Err k) = Over cap e t gs (number k)
 
-pub record TookAll (cap n w : ℕ) (e : Ends) (x y op op' : List ℕ) (r : Grown) : Type 0 where
+pub record TookAll (cap n w : ℕ) (e : Ends) (x y op op' : List ℕ) (r : Result ℕ Refusal) : Type 0 where
   pub is : (t : Nodes) (gs : List Group) → Good (cols x) n t → Standing t op 0 gs → length gs ≡ w → Ends-in cap e x y op' t gs r
   pub beyond : Beyond (told cap) x y
   pub beyond-open : Beyond (w * 2) op op'
@@ -201,7 +191,7 @@ module _ (cap w : ℕ) (e : Ends) (x y op : List ℕ) (n i : ℕ) (t : Nodes) (g
           record { tree = s.tree; group = g; rest = rs; done = s.done; good = s.good; run = a; now = b.0; ahead = b.1; behind = s.behind; split = c; passed = s.passed; left = omega arith; counts = f }
 
   -- the group has taken the edge
-  go_on : (y' : List ℕ) (st : SD.Reached) → i * 2 < length op → Turn cap w e x y op n i t gs → Taken cap n (field op 2 i 0) (field op 2 i 1) e y y' (Next st)
+  go_on : (y' : List ℕ) (st : SD.Reached) → i * 2 < length op → Turn cap w e x y op n i t gs → Taken cap n (field op 2 i 0) (field op 2 i 1) e y y' (Ok st)
       → State cap w e x y' (put_field op 2 i 0 st.at) st.nodes (suc i) t gs
   unfolding grow_n
   go_on y' st h u k =
@@ -236,10 +226,10 @@ module _ (cap w : ℕ) (e : Ends) (x y op : List ℕ) (n i : ℕ) (t : Nodes) (g
       }
 
   -- the table is full
-  stop : (y' : List ℕ) (k : ℕ) → Turn cap w e x y op n i t gs → Taken cap n (field op 2 i 0) (field op 2 i 1) e y y' (Refused k) → Over cap e t gs k
+  stop : (y' : List ℕ) (k : Refusal) → Turn cap w e x y op n i t gs → Taken cap n (field op 2 i 0) (field op 2 i 1) e y y' (Err k) → Over cap e t gs (number k)
   unfolding grow_n
   stop y' k u q =
-      let a : Full cap n (field op 2 i 1) e y y' u.tree u.group.path k = q.is u.tree u.group.path u.good u.now.at in
+      let a : Full cap n (field op 2 i 1) e y y' u.tree u.group.path (number k) = q.is u.tree u.group.path u.good u.now.at in
       let z : take_n (field op 2 i 1) e (suc n) u.tree u.group.path ≡ take_n u.group.mult e (suc (size u.tree)) u.tree u.group.path = rw (u.now.mult-is, u.good.full) in
       let b = grow-grows e u.rest (take_n u.group.mult e (suc (size u.tree)) u.tree u.group.path) in
       let c = a.over in
@@ -290,12 +280,6 @@ module _ (cap n₀ w : ℕ) (e : Ends) (x op₀ : List ℕ) (p : Walking cap n�
     pub track-open : i < w → i * 2 + 2 ≤ length op
     track-open h = let a = p.in-open in let b = k.opened in omega arith
 
-    pub track-index : i < w → i * 2 + 0 < length op
-    track-index h = let a = track-open h in omega arith
-
-    pub track-index₀ : i < w → i * 2 + 0 < length op₀
-    track-index₀ h = let a = p.in-open in omega arith
-
     module _ (s m : ℕ) (hs : s ≡ field op 2 i 0) (hm : m ≡ field op 2 i 1) where
       pub track-ready : i < w → Ready cap n s m e y
       track-ready h =
@@ -313,12 +297,12 @@ module _ (cap n₀ w : ℕ) (e : Ends) (x op₀ : List ℕ) (p : Walking cap n�
             ends = p.ends;
           })
 
-      module _ (y' : List ℕ) (r : Step) (h : i < w) (q : Taken cap n s m e y y' r) where
+      module _ (y' : List ℕ) (r : Result SD.Reached Refusal) (h : i < w) (q : Taken cap n s m e y y' r) where
         as-held : Taken cap n (field op 2 i 0) (field op 2 i 1) e y y' r
         as-held = rw (hs, hm) at q
 
-        module _ (st : SD.Reached) (z : r ≡ Next st) where
-          q' : Taken cap n (field op 2 i 0) (field op 2 i 1) e y y' (Next st)
+        module _ (st : SD.Reached) (z : r ≡ Ok st) where
+          q' : Taken cap n (field op 2 i 0) (field op 2 i 1) e y y' (Ok st)
           q' = rw z at as-held
 
           u : Turn cap w e x y op n i p.tree p.groups
@@ -349,17 +333,15 @@ module _ (cap n₀ w : ℕ) (e : Ends) (x op₀ : List ℕ) (p : Walking cap n�
                 opened = length-set op (i * 2 + 0) st.at ∙ k.opened;
               })
 
-        pub track-stop : (m' : ℕ) → r ≡ Refused m' → (o : ℕ) → o ≡ step_refusal r → TookAll cap n₀ w e x y' op₀ op (Stopped o)
-        track-stop m' z o d =
-            let same : o ≡ m' = d ∙ ap step_refusal z in
-            let q' : Taken cap n (field op 2 i 0) (field op 2 i 1) e y y' (Refused m') = rw z at as-held in
-            rw same
-            (record {
-              is = λ t gs g s' l. stop cap w e x y op n i t gs y' m' (turn cap w e x y op n i t gs (k.all t gs g s' l) h) q';
+        pub track-stop : (k' : Refusal) → r ≡ Err k' → TookAll cap n₀ w e x y' op₀ op (Err k')
+        track-stop k' z =
+            let q' : Taken cap n (field op 2 i 0) (field op 2 i 1) e y y' (Err k') = rw z at as-held in
+            record {
+              is = λ t gs g s' l. stop cap w e x y op n i t gs y' k' (turn cap w e x y op n i t gs (k.all t gs g s' l) h) q';
               beyond = λ j f. q.beyond j f ∙ k.beyond j f;
               beyond-open = k.beyond-open;
-            })
+            }
 
-    pub track-end : w ≤ i → TookAll cap n₀ w e x y op₀ op (Many n)
+    pub track-end : w ≤ i → TookAll cap n₀ w e x y op₀ op (Ok n)
     track-end h =
         record { is = λ t gs g s l. ended cap w e x y op n i t gs (k.all t gs g s l) h k.room; beyond = k.beyond; beyond-open = k.beyond-open }

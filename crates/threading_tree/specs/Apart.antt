@@ -1,10 +1,8 @@
 -- Distinct groups stand at distinct slots, so there are no more of them than nodes. And the walk as a whole: the groups take an edge as the definition's
 -- open trees do.
-use Rattle.std.specs.Prelude.{◌≡◌, refl, ℕ, zero, suc, ◌<◌, ◌≤◌, length}
-use Rattle.std.proofs.Common.{sym, ap, ◌∙◌, length-append}
+use Rattle.std.specs.Prelude.{◌≡◌, refl, ℕ, zero, suc, ◌<◌, ◌≤◌, length, List, [], ◌∷◌, ◌++◌, map}
+use Rattle.std.proofs.Common.{sym, ap, ◌∙◌, length-append, arith}
 use Rattle.std.proofs.Math.Decide.{ℕ_discrete}
-use mathlib.Core.List.{List, [], ◌∷◌, ◌++◌, map}
-use native.Mathlib.Omega.{arith}
 use Rattle.laws.specs.Records.{field}
 use Rattle.definition.specs.Threading.{Ends}
 use Rattle.threading_node.specs.Ends.{eq_ends-false}

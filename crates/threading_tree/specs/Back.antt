@@ -1,8 +1,7 @@
 -- No child of slot 0 comes from elsewhere: after a change below, or after another root is reached, the roots are those that were there.
-use Rattle.std.specs.Prelude.{◌≡◌, ◌⊎◌, Bool, true, false, List, [], ◌∷◌}
-use Rattle.std.proofs.Math.Path.{refl}
+use Rattle.std.specs.Prelude.{◌≡◌, ◌⊎◌, Bool, true, false, List, [], ◌∷◌, refl, ℕ, suc}
 use Rattle.std.proofs.Common.{inl, inr}
-use Prim.Native.Nat.{ℕ, suc, Ordering}
+use Prim.Native.Nat.{Ordering}
 use Rattle.definition.specs.Threading.{Ends, compare_ends, eq_ends}
 use Rattle.threading_node.specs.Nodes.{Nodes, nil, node, size, reach_n, take_n, At, here, down, along, reach_n-lt, reach_n-eq, reach_n-gt, take_n-down, take_n-along}
 use Rattle.threading_tree.specs.Walks.{Group}

@@ -1,7 +1,7 @@
 -- Steps of the definition at paths that are there can be made in any order; so open trees may be counted instead of listed.
-use Rattle.std.specs.Prelude.{◌≡◌, refl, true, false, cond, List, [], ◌∷◌}
+use Rattle.std.specs.Prelude.{◌≡◌, refl, true, false, cond, List, [], ◌∷◌, ℕ, suc}
 use Rattle.std.proofs.Common.{sym, ap, ◌∙◌, arith}
-use Prim.Native.Nat.{ℕ, suc, compare, Ordering}
+use Prim.Native.Nat.{compare, Ordering}
 use Rattle.definition.specs.Threading.{Ends, compare_ends, eq_ends}
 use Rattle.threading_node.specs.Ends.{ends, compare_ends-same, lt_trans, lt-ne, eq_ends-self, eq_ends-ne, cmp-eq, cmp-lt, eq-cmp}
 use Rattle.laws.specs.Lists.{is_empty}

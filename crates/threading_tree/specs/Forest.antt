@@ -1,8 +1,8 @@
 -- The numbered tree against the definition: the trees of the definition are one row of branches whose edges are (v, v); to open a tree is to reach
 -- (v, v) in that row, and to take an edge in the tree of v at a path is to take it at that path after (v, v).
-use Rattle.std.specs.Prelude.{◌≡◌, refl, Bool, true, false, cond, List, [], ◌∷◌}
+use Rattle.std.specs.Prelude.{◌≡◌, refl, Bool, true, false, cond, List, [], ◌∷◌, ℕ, zero, suc, ◌+◌}
 use Rattle.std.proofs.Common.{sym, ap, ◌∙◌, add-one, add-suc}
-use Prim.Native.Nat.{ℕ, zero, suc, ◌+◌, compare, Ordering}
+use Prim.Native.Nat.{compare, Ordering}
 use Rattle.definition.specs.Threading.{Ends, compare_ends, eq_ends}
 use Rattle.threading_node.specs.Ends.{ends, eq_self, cmp-eq}
 use Rattle.laws.specs.Lists.{is_empty}

@@ -1,7 +1,7 @@
 -- The definition's trees only grow, so a step that was refused for want of a node refuses the whole run; and how many open trees a step leaves.
-use Rattle.std.specs.Prelude.{◌≡◌, refl, Bool, true, false, List, [], ◌∷◌, ◌++◌, map, ltb, eqb, length, take, drop}
+use Rattle.std.specs.Prelude.{◌≡◌, refl, Bool, true, false, List, [], ◌∷◌, ◌++◌, map, ltb, eqb, length, take, drop, ℕ, suc, ◌+◌, ◌*◌, ◌^◌, ◌<◌, ◌≤◌}
 use Rattle.std.proofs.Common.{ap, suc-mul, mul-suc, mul-le-mul_right, arith, length-append}
-use Prim.Native.Nat.{ℕ, suc, ◌+◌, ◌*◌, ◌^◌, ◌<◌, ◌≤◌, compare, Ordering}
+use Prim.Native.Nat.{compare, Ordering}
 use Rattle.std.proofs.Math.Option.{Option, none, some}
 use Rattle.definition.specs.Stretch.{Stretch}
 use Rattle.definition.specs.Threading.{Ends, compare_ends, eq_ends, Edge, Graph, leaving, follow, number_of}

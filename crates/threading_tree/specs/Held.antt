@@ -1,5 +1,5 @@
 -- ONE relation for callers: the tables hold a walk of the definition. It holds of the zeroed table, and each call keeps it.
-use Rattle.std.specs.Prelude.{◌≡◌, refl, ℕ, zero, suc, ◌+◌, ◌*◌, ◌^◌, ◌<◌, ◌≤◌, List, [], ◌∷◌, map, length, get_or, replicate}
+use Rattle.std.specs.Prelude.{◌≡◌, refl, ℕ, zero, suc, ◌+◌, ◌*◌, ◌^◌, ◌<◌, ◌≤◌, List, [], ◌∷◌, map, length, get_or, replicate, Option, Some, None, Ok, Err}
 use Rattle.std.proofs.Common.{sym, ap, ◌∙◌, arith, length-append}
 use Rattle.std.proofs.Math.Decide.{ℕ_discrete}
 use Rattle.definition.specs.Threading.{Ends}
@@ -14,12 +14,21 @@ use Rattle.threading_tree.specs.All.{grow_n, total, Standing, Walking, TookAll, 
 use Rattle.threading_tree.specs.Apart.{Apart, apart-onward, walk-takes, groups-few}
 use Rattle.threading_tree.specs.Back.{at-reach-back, at-grow-back}
 use Rattle.threading_node.specs.Take.{Wide, wide-kept, Packable}
+use Rattle.threading_node.specs.Links.{link_to, Linked}
 use Rattle.threading_node.specs.Open.{RootAt}
 use Rattle.threading_tree.specs.Join.{Joinable, JoinedTo, Joins, Turns, opened}
 use Rattle.threading_tree.specs.Listed.{size_b, size-erase, forest-nodes}
 use Rattle.threading_tree.specs.declared.ThreadingState as TS
-use Rattle.threading_tree.specs.declared.Grown.TheVariants.{Nodes as Many, Refused as Stopped}
-use Rattle.threading_tree.specs.declared.Joined.TheVariants.{Next as Holds, Refused as Turned}
+use Rattle.refusals.specs.declared.Refusal.{Refusal}
+use Rattle.refusals.specs.Numbers.{number}
+
+-- a slot told as the root of v is that root's; 0 tells nothing
+abbrev pub RootSlot : ℕ → ℕ → Nodes → Type 0
+RootSlot root v t = (root ≡ 0 → ⊥) → At t 0 (ends v v ∷ []) root
+
+root-told : (v k : ℕ) (t : Nodes) (r : Option ℕ) → k ≡ link_to r → Linked r → RootSlot k v t → RootAt r v t
+root-told v k t None e l h = tt
+root-told v k t (Some s) e l h = rw e at (h (λ z. omega arith))
 
 -- The table `x` of at most cap nodes has n of them; the first g pairs of `op` are the open trees; `root v` is the slot of v's root, 0 where v has no
 -- tree; no count is above b. A caller keeps b below 2 ^ 32: it grows by 1 at an opening, and by the number of open trees where an edge is taken.
@@ -27,7 +36,7 @@ pub record HeldWalk (w : Walk) (cap n g b : ℕ) (root : ℕ → ℕ) (x op : Li
   pub tree : Nodes
   pub groups : List Group
   pub good : Good (cols x) n tree
-  pub rooted : (v : ℕ) → RootAt (root v) v tree
+  pub rooted : (v : ℕ) → RootSlot (root v) v tree
   pub unrooted : (v : ℕ) → root v ≡ 0 → (s : ℕ) → At tree 0 (ends v v ∷ []) s → ⊥
   pub standing : Standing tree op 0 groups
   pub many : length groups ≡ g
@@ -192,7 +201,7 @@ module _ (w : Walk) (cap n g b : ℕ) (root : ℕ → ℕ) (x op : List ℕ) (h 
 
   module _ (y op' : List ℕ) where
     -- the walk has taken the edge
-    pub held-takes : (n' : ℕ) → TookAll cap n g e x y op op' (Many n') → length y ≡ length x → length op' ≡ length op
+    pub held-takes : (n' : ℕ) → TookAll cap n g e x y op op' (Ok n') → length y ≡ length x → length op' ≡ length op
         → HeldWalk (take_edge e w) cap n' g (b + length w.opened) root y op'
     held-takes n' k ly lo =
         let q : Grew cap e x y op' h.tree h.groups n' = k.is h.tree h.groups h.good h.standing h.many in
@@ -215,9 +224,9 @@ module _ (w : Walk) (cap n g b : ℕ) (root : ℕ → ℕ) (x op : List ℕ) (h 
         }
 
     -- refused: the trees of the walk that has taken the edge have more nodes than the maximum
-    pub held-full : (m : ℕ) → TookAll cap n g e x y op op' (Stopped m) → (m ≡ 9) × (cap < length (nodes (take_edge e w).trees))
+    pub held-full : (m : Refusal) → TookAll cap n g e x y op op' (Err m) → (number m ≡ 9) × (cap < length (nodes (take_edge e w).trees))
     held-full m k =
-        let q : Over cap e h.tree h.groups m = k.is h.tree h.groups h.good h.standing h.many in
+        let q : Over cap e h.tree h.groups (number m) = k.is h.tree h.groups h.good h.standing h.many in
         let s = walk-takes e w h.tree h.groups op h.good.rising h.standing h.same in
         let z : length (nodes (take_edge e w).trees) ≡ size (grow_n e h.groups h.tree)
         = forest-nodes (take_edge e w).trees ∙ ap size_b (sym s.trees) ∙ size-erase (grow_n e h.groups h.tree) in
@@ -226,8 +235,11 @@ module _ (w : Walk) (cap n g b : ℕ) (root : ℕ → ℕ) (x op : List ℕ) (h 
 
 -- ---- a tree is opened (add_tree_if_necessary)
 
-module _ (w : Walk) (cap n g b : ℕ) (root : ℕ → ℕ) (x op : List ℕ) (h : HeldWalk w cap n g b root x op) (v : ℕ) where
-  pub held-joinable : v < 2 ^ 16 → b + 1 < 2 ^ 32 → length w.opened + 1 < 2 ^ 32 → Joinable cap n v (root v) g x op
+module _ (w : Walk) (cap n g b : ℕ) (root : ℕ → ℕ) (x op : List ℕ) (h : HeldWalk w cap n g b root x op) (v : ℕ) (r : Option ℕ) (is : root v ≡ link_to r) (linked : Linked r) where
+  told-root : RootAt r v h.tree
+  told-root = root-told v (root v) h.tree r is linked (h.rooted v)
+
+  pub held-joinable : v < 2 ^ 16 → b + 1 < 2 ^ 32 → length w.opened + 1 < 2 ^ 32 → Joinable cap n v r g x op
   held-joinable pk sm so =
       let t = same_total w h.tree h.groups h.same in
       record {
@@ -235,7 +247,7 @@ module _ (w : Walk) (cap n g b : ℕ) (root : ℕ → ℕ) (x op : List ℕ) (h 
             record {
               tree = h.tree;
               good = h.good;
-              rooted = h.rooted v;
+              rooted = told-root;
               room = h.room;
               wide = h.wide;
               spare = λ l q. let u = h.under l q in omega arith;
@@ -250,18 +262,23 @@ module _ (w : Walk) (cap n g b : ℕ) (root : ℕ → ℕ) (x op : List ℕ) (h 
       }
 
   module _ (y op' : List ℕ) where
+    pub held-opened : (s : TS.ThreadingState) → JoinedTo cap n v r g x y op op' (Ok s) → Linked s.root
+    held-opened s k =
+        let q : Joins cap n v y op' h.tree h.groups s = k.is h.tree h.groups h.good told-root h.standing h.many h.apart in
+        rw q.at q.some
+
     -- the walk has opened the tree; the caller keeps the root's slot for v
-    pub held-opens : (s : TS.ThreadingState) (root' : ℕ → ℕ) → JoinedTo cap n v (root v) g x y op op' (Holds s) → length y ≡ length x → length op' ≡ length op
-        → root' v ≡ s.root → ((u : ℕ) → (u ≡ v → ⊥) → root' u ≡ root u) → HeldWalk (open_tree v w) cap s.nodes s.groups (b + 1) root' y op'
+    pub held-opens : (s : TS.ThreadingState) (root' : ℕ → ℕ) → JoinedTo cap n v r g x y op op' (Ok s) → length y ≡ length x → length op' ≡ length op
+        → root' v ≡ link_to s.root → ((u : ℕ) → (u ≡ v → ⊥) → root' u ≡ root u) → HeldWalk (open_tree v w) cap s.nodes s.groups (b + 1) root' y op'
     held-opens s root' k ly lo at off =
-        let q : Joins cap n v y op' h.tree h.groups s = k.is h.tree h.groups h.good (h.rooted v) h.standing h.many h.apart in
+        let q : Joins cap n v y op' h.tree h.groups s = k.is h.tree h.groups h.good told-root h.standing h.many h.apart in
         let io = h.in-open in
         record {
           tree = opened v n h.tree;
           groups = q.groups;
           good = q.good;
-          rooted = λ u. rooted u (ℕ_discrete u v) q.root;
-          unrooted = λ u. unrooted u (ℕ_discrete u v) q.some;
+          rooted = λ u. rooted u (ℕ_discrete u v) q.slot (at ∙ ap link_to q.at) q.root;
+          unrooted = λ u. unrooted u (ℕ_discrete u v) q.slot (at ∙ ap link_to q.at) q.some;
           standing = q.standing;
           many = q.many;
           apart = q.apart;
@@ -272,22 +289,22 @@ module _ (w : Walk) (cap n g b : ℕ) (root : ℕ → ℕ) (x op : List ℕ) (h 
           under = λ l f. let a = k.counts l in let c = h.under l f in omega arith;
         }
       where
-        rooted : (u : ℕ) → Dec (u ≡ v) → At (opened v n h.tree) 0 (ends v v ∷ []) s.root → RootAt (root' u) u (opened v n h.tree)
-        rooted u (yes z) a = rw (z, at) (λ y. a)
-        rooted u (no z) a = rw (off u z) (λ y. at_take 1 (ends v v) (suc n) [] (h.rooted u y) h.good.rising)
+        rooted : (u : ℕ) → Dec (u ≡ v) → (i : ℕ) → root' v ≡ i → At (opened v n h.tree) 0 (ends v v ∷ []) i → RootSlot (root' u) u (opened v n h.tree)
+        rooted u (yes z) i c a = rw (z, c) (λ y. a)
+        rooted u (no z) i c a = rw (off u z) (λ y. at_take 1 (ends v v) (suc n) [] (h.rooted u y) h.good.rising)
 
         other : (u : ℕ) → (u ≡ v → ⊥) → ends u u ≡ ends v v → ⊥
         other u z y = z (ap (λ (d : Ends). d.from) y)
 
-        unrooted : (u : ℕ) → Dec (u ≡ v) → 0 < s.root → root' u ≡ 0 → (i : ℕ) → At (opened v n h.tree) 0 (ends u u ∷ []) i → ⊥
-        unrooted u (yes z) f e i a = let y : root' v ≡ 0 = rw z at e in omega arith
-        unrooted u (no z) f e i a =
+        unrooted : (u : ℕ) → Dec (u ≡ v) → (j : ℕ) → root' v ≡ j → 0 < j → root' u ≡ 0 → (i : ℕ) → At (opened v n h.tree) 0 (ends u u ∷ []) i → ⊥
+        unrooted u (yes z) j c f e i a = let y : root' v ≡ 0 = rw z at e in omega arith
+        unrooted u (no z) j c f e i a =
             h.unrooted u (sym (off u z) ∙ e) i (at-reach-back 1 (ends v v) (suc n) 0 i (ends u u) h.tree (other u z) (rw (take_n-here 1 (ends v v) (suc n) h.tree) at a))
 
     -- refused: one node more than the maximum, and nothing has changed
-    pub held-turned : (m : ℕ) → JoinedTo cap n v (root v) g x y op op' (Turned m) → (m ≡ 9) × (cap < length (nodes (open_tree v w).trees))
+    pub held-turned : (m : Refusal) → JoinedTo cap n v r g x y op op' (Err m) → (number m ≡ 9) × (cap < length (nodes (open_tree v w).trees))
     held-turned m k =
-        let q : Turns cap n v x y op op' h.tree m = k.is h.tree h.groups h.good (h.rooted v) h.standing h.many h.apart in
+        let q : Turns cap n v x y op op' h.tree (number m) = k.is h.tree h.groups h.good told-root h.standing h.many h.apart in
         let s = same-opened v (suc n) w h.tree h.groups h.same in
         let z : length (nodes (open_tree v w).trees) ≡ size (opened v n h.tree)
         = forest-nodes (open_tree v w).trees ∙ ap size_b (sym s.trees) ∙ size-erase (reach_n 1 (ends v v) (suc n) h.tree)

@@ -1,7 +1,6 @@
 -- A tree is opened in a walk: its root joins the groups, or its group gains one. (Rust: add_tree_if_necessary)
-use Rattle.std.specs.Prelude.{◌≡◌, refl, ℕ, zero, suc, ◌+◌, ◌*◌, ◌^◌, ◌<◌, ◌≤◌, List, [], ◌∷◌, ◌++◌, length}
-use Rattle.std.proofs.Common.{ap, sym, subst, ◌∙◌, add-one, zero-add, length-set, length-append, get_or-set_other}
-use native.Mathlib.Omega.{arith}
+use Rattle.std.specs.Prelude.{◌≡◌, refl, ℕ, zero, suc, ◌+◌, ◌*◌, ◌^◌, ◌<◌, ◌≤◌, List, [], ◌∷◌, ◌++◌, length, Option, Some, None, Result, Ok, Err}
+use Rattle.std.proofs.Common.{ap, sym, subst, ◌∙◌, add-one, zero-add, length-set, length-append, get_or-set_other, arith}
 use Rattle.laws.specs.Records.{field, put_field, field-same, field-other, row_other}
 use Rattle.definition.specs.Threading.{Ends}
 use Rattle.definition.specs.Evidence.{Walk, open_tree}
@@ -12,26 +11,19 @@ use Rattle.threading_node.specs.Slots.{cols, told, Beyond}
 use Rattle.threading_tree.specs.Walks.{Group, raise, HasAt, first, after, Same, same-raised, same-opened}
 use Rattle.threading_tree.specs.All.{Standing1, Standing, total, new-live}
 use Rattle.threading_tree.specs.Apart.{at_one, path-one, Differs, Apart, apart-new, apart-raise, groups-few, groups-fewer}
-use Rattle.threading_node.specs.Take.{step_refusal, Went, Full}
+use Rattle.threading_node.specs.Take.{Went, Full}
 use Rattle.threading_node.specs.Open.{RootAt, Openable, OpenedAt}
 use Rattle.threading_node.specs.declared.Reached as SD
 use Rattle.threading_tree.specs.declared.ThreadingState as TS
-use Rattle.threading_node.specs.declared.Step.{Step}
-use Rattle.threading_node.specs.declared.Step.TheVariants.{Next, Refused}
-use Rattle.threading_tree.specs.declared.Joined.{Joined}
-use Rattle.threading_tree.specs.declared.Joined.TheVariants.{Next as Holds, Refused as Turned}
+use Rattle.refusals.specs.declared.Refusal.{Refusal}
+use Rattle.refusals.specs.Numbers.{number}
 
-abbrev pub joined_refusal : Joined → ℕ
-joined_refusal (Holds h) = 0
-joined_refusal (Turned k) = k
+-- one of the first w places, which holds the slot; or none of them does
+abbrev pub Sited : List ℕ → ℕ → ℕ → Option ℕ → Type 0
+Sited op w at (Some i) = (i < w) × (field op 2 i 0 ≡ at)
+Sited op w at None = (k : ℕ) → k < w → field op 2 k 0 ≡ at → ⊥
 
--- the first place among the first w that holds the slot, or w
-pub record Sited (op : List ℕ) (w at r : ℕ) : Type 0 where
-  pub within : r ≤ w
-  pub before : (k : ℕ) → k < r → field op 2 k 0 ≡ at → ⊥
-  pub there : r < w → field op 2 r 0 ≡ at
-
-pub record Joinable (cap n v root w : ℕ) (x op : List ℕ) : Type 0 where
+pub record Joinable (cap n v : ℕ) (root : Option ℕ) (w : ℕ) (x op : List ℕ) : Type 0 where
   pub openable : Openable cap n v root x
   pub groups : List Group
   pub standing : Standing openable.tree op 0 groups
@@ -46,8 +38,10 @@ opened v n t = take_n 1 (ends v v) (suc n) t []
 
 pub record Joins (cap n v : ℕ) (y op : List ℕ) (t : Nodes) (gs : List Group) (h : TS.ThreadingState) : Type 0 where
   pub good : Good (cols y) h.nodes (opened v n t)
-  pub root : At (opened v n t) 0 (ends v v ∷ []) h.root
-  pub some : 0 < h.root
+  pub slot : ℕ
+  pub at : h.root ≡ Some slot
+  pub root : At (opened v n t) 0 (ends v v ∷ []) slot
+  pub some : 0 < slot
   pub room : h.nodes ≤ cap
   pub groups : List Group
   pub standing : Standing (opened v n t) op 0 groups
@@ -61,11 +55,11 @@ pub record Turns (cap n v : ℕ) (x y op op' : List ℕ) (t : Nodes) (k : ℕ) :
   pub same : y ≡ x
   pub same-open : op' ≡ op
 
-abbrev pub Join : ℕ → ℕ → ℕ → List ℕ → List ℕ → List ℕ → List ℕ → Nodes → List Group → Joined → Type 0
-Join cap n v x y op op' t gs (Holds h) = Joins cap n v y op' t gs h
-Join cap n v x y op op' t gs (Turned k) = Turns cap n v x y op op' t k
+abbrev pub Join : ℕ → ℕ → ℕ → List ℕ → List ℕ → List ℕ → List ℕ → Nodes → List Group → Result TS.ThreadingState Refusal → Type 0
+Join cap n v x y op op' t gs (Ok h) = Joins cap n v y op' t gs h
+Join cap n v x y op op' t gs (Err k) = Turns cap n v x y op op' t (number k)
 
-pub record JoinedTo (cap n v root w : ℕ) (x y op op' : List ℕ) (r : Joined) : Type 0 where
+pub record JoinedTo (cap n v : ℕ) (root : Option ℕ) (w : ℕ) (x y op op' : List ℕ) (r : Result TS.ThreadingState Refusal) : Type 0 where
   pub is : (t : Nodes) (gs : List Group) → Good (cols x) n t → RootAt root v t → Standing t op 0 gs → length gs ≡ w → Apart gs → Join cap n v x y op op' t gs r
   pub counts : (l : ℕ) → (cols y).count l ≤ (cols x).count l + 1
   pub beyond : Beyond (told cap) x y
@@ -170,7 +164,7 @@ not-empty v h = let z : ◌≡◌ {A = ℕ} 0 1 = cc in omega arith
 
 -- ---- the code's answers
 
-module _ (cap n v root w : ℕ) (x op : List ℕ) (p : Joinable cap n v root w x op) where
+module _ (cap n v : ℕ) (root : Option ℕ) (w : ℕ) (x op : List ℕ) (p : Joinable cap n v root w x op) where
   pub join-few : w ≤ cap
   join-few =
       let a = groups-few (cols x) n p.openable.tree p.openable.good op p.groups p.apart p.standing in
@@ -181,21 +175,19 @@ module _ (cap n v root w : ℕ) (x op : List ℕ) (p : Joinable cap n v root w x
   pub join-search : w * 2 ≤ length op
   join-search = let a = join-few in let b = p.in-open in omega arith
 
-  module _ (y : List ℕ) (r : Step) (o : OpenedAt cap n v root x y r) where
-    pub join-turned : (k : ℕ) → r ≡ Refused k → (j : ℕ) → j ≡ step_refusal r → JoinedTo cap n v root w x y op op (Turned j)
-    join-turned k z j d =
-        let same : j ≡ k = d ∙ ap step_refusal z in
-        rw same
-        (record {
+  module _ (y : List ℕ) (r : Result SD.Reached Refusal) (o : OpenedAt cap n v root x y r) where
+    pub join-turned : (k : Refusal) → r ≡ Err k → JoinedTo cap n v root w x y op op (Err k)
+    join-turned k z =
+        record {
           is = λ t gs g ro s l a.
-              let q : Full cap n 1 (ends v v) x y t [] k = rw z at (o.is t g ro) in
+              let q : Full cap n 1 (ends v v) x y t [] (number k) = rw z at (o.is t g ro) in
               record { number = q.number; over = q.over; same = q.same; same-open = refl };
           counts = o.counts;
           beyond = o.beyond;
           beyond-open = λ i q. refl;
-        })
+        }
 
-    module _ (st : SD.Reached) (z : r ≡ Next st) where
+    module _ (st : SD.Reached) (z : r ≡ Ok st) where
       went : (t : Nodes) → Good (cols x) n t → RootAt root v t → Went cap n 1 (ends v v) y t [] (landed (ends v v) (suc n) t) st
       went t g ro = rw z at (o.is t g ro)
 
@@ -224,24 +216,21 @@ module _ (cap n v root w : ℕ) (x op : List ℕ) (p : Joinable cap n v root w x
           let d = p.openable.wide.few in
           omega arith
 
-      module _ (i : ℕ) (f : Sited op w st.at i) where
-        pub raised-in : i < w → i * 2 + 2 ≤ length op
-        raised-in h = let a = join-search in omega arith
+      module _ (i : ℕ) (h : i < w) (there : field op 2 i 0 ≡ st.at) where
+        pub raised-in : i * 2 + 2 ≤ length op
+        raised-in = let a = join-search in omega arith
 
-        pub raised-index : i < w → i * 2 + 1 < length op
-        raised-index h = let a = raised-in h in omega arith
-
-        pub raised-fits : i < w → (m : ℕ) → m ≡ field op 2 i 1 → m + 1 < 2 ^ 32
-        raised-fits h m hm =
+        pub raised-fits : field op 2 i 1 + 1 < 2 ^ 32
+        raised-fits =
             let m = p.many in
             let a = mult-under p.openable.tree op 0 i p.groups (omega arith) p.standing in
             let b = p.spare in
             let c : field op 2 (0 + i) 1 ≡ field op 2 i 1 = rw (zero-add i) in
             omega arith
 
-        pub join-raised : i < w → (m : ℕ) → m ≡ field op 2 i 1 → JoinedTo cap n v root w x y op (put_field op 2 i 1 (m + 1)) (Holds (record { nodes = st.nodes; groups = w; root = st.at }))
-        join-raised h m hm =
-            rw hm
+        pub join-raised : (op' : List ℕ) → op' ≡ put_field op 2 i 1 (field op 2 i 1 + 1) → JoinedTo cap n v root w x y op op' (Ok (record { nodes = st.nodes; groups = w; root = Some st.at }))
+        join-raised op' is =
+            rw is
             (record {
               is = λ t gs g ro s l a. one t gs g ro s l a;
               counts = o.counts;
@@ -250,15 +239,17 @@ module _ (cap n v root w : ℕ) (x op : List ℕ) (p : Joinable cap n v root w x
             })
           where
             one : (t : Nodes) (gs : List Group) → Good (cols x) n t → RootAt root v t → Standing t op 0 gs → length gs ≡ w → Apart gs
-                → Joins cap n v y (put_field op 2 i 1 (field op 2 i 1 + 1)) t gs (record { nodes = st.nodes; groups = w; root = st.at })
+                → Joins cap n v y (put_field op 2 i 1 (field op 2 i 1 + 1)) t gs (record { nodes = st.nodes; groups = w; root = Some st.at })
             one t gs g ro s l a =
                 let q = went t g ro in
                 let so = stand-opened v n t g.rising op 0 gs s in
                 let has : HasAt (ends v v ∷ []) gs i
-                = has-at (cols y) st.nodes (opened v n t) q.good op (ends v v ∷ []) st.at (root-at t g ro) 0 i gs (omega arith) (rw (zero-add i) (f.there h)) so in
-                let ri = raised-in h in
+                = has-at (cols y) st.nodes (opened v n t) q.good op (ends v v ∷ []) st.at (root-at t g ro) 0 i gs (omega arith) (rw (zero-add i) there) so in
+                let ri = raised-in in
                 record {
                   good = q.good;
+                  slot = st.at;
+                  at = refl;
                   root = root-at t g ro;
                   some = root-some t g ro;
                   room = q.room;
@@ -269,12 +260,13 @@ module _ (cap n v root w : ℕ) (x op : List ℕ) (p : Joinable cap n v root w x
                   walk = λ k m. rw (take_n-here 1 (ends v v) (suc n) t) (same-raised v (suc n) i k t gs m has);
                 }
 
-        none-there : w ≤ i → (t : Nodes) (gs : List Group) → Good (cols x) n t → RootAt root v t → Standing t op 0 gs → length gs ≡ w → Differs (ends v v ∷ []) gs
-        none-there h t gs g ro s l =
-            differs (opened v n t) op (ends v v ∷ []) st.at (root-at t g ro) 0 w gs (omega arith) (λ j k. f.before j (omega arith)) (stand-opened v n t g.rising op 0 gs s)
+      module _ (f : (k : ℕ) → k < w → field op 2 k 0 ≡ st.at → ⊥) where
+        none-there : (t : Nodes) (gs : List Group) → Good (cols x) n t → RootAt root v t → Standing t op 0 gs → length gs ≡ w → Differs (ends v v ∷ []) gs
+        none-there t gs g ro s l =
+            differs (opened v n t) op (ends v v ∷ []) st.at (root-at t g ro) 0 w gs (omega arith) f (stand-opened v n t g.rising op 0 gs s)
 
-        pub new_in : w ≤ i → w < cap
-        new_in h =
+        pub new_in : w < cap
+        new_in =
             let t = p.openable.tree in
             let g = p.openable.good in
             let ro = p.openable.rooted in
@@ -283,42 +275,39 @@ module _ (cap n v root w : ℕ) (x op : List ℕ) (p : Joinable cap n v root w x
             let ro2 = q.room in
             let e =
             groups-fewer (cols y) st.nodes (opened v n t) q.good op (ends v v ∷ []) st.at (root-at t g ro) (not-empty v) p.groups
-            (none-there h t p.groups g ro p.standing p.many) p.apart (stand-opened v n t g.rising op 0 p.groups p.standing) in
+            (none-there t p.groups g ro p.standing p.many) p.apart (stand-opened v n t g.rising op 0 p.groups p.standing) in
             omega arith
 
-        pub join-room : w ≤ i → w * 2 + 2 ≤ length op
-        join-room h = let a = new_in h in let b = p.in-open in omega arith
+        pub join-room : w * 2 + 2 ≤ length op
+        join-room = let a = new_in in let b = p.in-open in omega arith
 
-        pub join_first : w ≤ i → w * 2 + 0 < length op
-        join_first h = let a = join-room h in omega arith
-
-        pub join-second : w ≤ i → w * 2 + 1 < length op
-        join-second h = let a = join-room h in omega arith
-
-        pub join-new : w ≤ i → JoinedTo cap n v root w x y op (joined op w st.at) (Holds (record { nodes = st.nodes; groups = w + 1; root = st.at }))
-        join-new h =
-            record {
+        pub join-new : (op' : List ℕ) → op' ≡ joined op w st.at → JoinedTo cap n v root w x y op op' (Ok (record { nodes = st.nodes; groups = w + 1; root = Some st.at }))
+        join-new op' is =
+            rw is
+            (record {
               is = λ t gs g ro s l a. one t gs g ro s l a;
               counts = o.counts;
               beyond = o.beyond;
               beyond-open = λ j q.
-                  let a = new_in h in
+                  let a = new_in in
                   get_or-set_other (put_field op 2 w 0 st.at) (w * 2 + 1) j 1 0 (λ e. omega arith) ∙ get_or-set_other op (w * 2 + 0) j st.at 0 (λ e. omega arith);
-            }
+            })
           where
             one : (t : Nodes) (gs : List Group) → Good (cols x) n t → RootAt root v t → Standing t op 0 gs → length gs ≡ w → Apart gs
-                → Joins cap n v y (joined op w st.at) t gs (record { nodes = st.nodes; groups = w + 1; root = st.at })
+                → Joins cap n v y (joined op w st.at) t gs (record { nodes = st.nodes; groups = w + 1; root = Some st.at })
             one t gs g ro s l a =
                 let q = went t g ro in
                 let so = stand-opened v n t g.rising op 0 gs s in
                 record {
                   good = q.good;
+                  slot = st.at;
+                  at = refl;
                   root = root-at t g ro;
                   some = root-some t g ro;
                   room = q.room;
                   groups = gs ++ record { path = ends v v ∷ []; mult = 1 } ∷ [];
-                  standing = stand-new (opened v n t) op (ends v v ∷ []) st.at 0 w gs (omega arith) (join-room h) (root-at t g ro) so;
+                  standing = stand-new (opened v n t) op (ends v v ∷ []) st.at 0 w gs (omega arith) join-room (root-at t g ro) so;
                   many = length-append gs (record { path = ends v v ∷ []; mult = 1 } ∷ []) ∙ ap (λ (k : ℕ). k + 1) l;
-                  apart = apart-new (ends v v ∷ []) gs (not-empty v) (none-there h t gs g ro s l) a;
+                  apart = apart-new (ends v v ∷ []) gs (not-empty v) (none-there t gs g ro s l) a;
                   walk = λ k m. rw (take_n-here 1 (ends v v) (suc n) t) (same-opened v (suc n) k t gs m);
                 }

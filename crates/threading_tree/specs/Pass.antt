@@ -1,25 +1,21 @@
 -- One edge of a walk, as the definition passes it: the first vertex's tree is opened where that vertex warrants one, and every open tree takes the
 -- edge unless it is the only one that leaves. The contracts here are HeldWalk before and after.
-use Rattle.std.specs.Prelude.{◌≡◌, refl, Bool, cond, List, eqb, length}
+use Rattle.std.specs.Prelude.{◌≡◌, refl, Bool, cond, List, eqb, length, Result, Ok, Err, ℕ, ◌+◌, ◌*◌, ◌^◌, ◌<◌, ◌≤◌, true, false}
 use Rattle.std.proofs.Common.{sym, ◌∙◌, arith, eq-eqb, ne_eqb}
-use Rattle.std.proofs.Math.Path.{ap}
-use Prim.Native.Nat.{ℕ, ◌+◌, ◌*◌, ◌^◌, ◌<◌, ◌≤◌}
-use Rattle.std.proofs.Math.Bool.{true, false}
 use Rattle.std.proofs.Math.Decide.{ℕ_discrete}
 use Rattle.definition.specs.Threading.{Ends, Edge, leaving}
 use Rattle.definition.specs.Evidence.{Walk, opens, take_edge, open_tree, pass}
 use Rattle.threading_node.specs.Ends.{ends}
+use Rattle.threading_node.specs.Links.{link_to, Linked}
 use Rattle.threading_node.specs.Slots.{told, Beyond}
 use Rattle.threading_node.specs.Take.{Packable}
-use Rattle.threading_tree.specs.All.{grown_refusal, Walking, TookAll}
+use Rattle.threading_tree.specs.All.{Walking, TookAll}
 use Rattle.threading_tree.specs.Join.{Joinable, JoinedTo}
-use Rattle.threading_tree.specs.Held.{HeldWalk, held-roots, held-under, held-few, held-walking, held-takes, held-full, held-joinable, held-opens, held-turned}
+use Rattle.threading_tree.specs.Held.{HeldWalk, held-roots, held-under, held-few, held-walking, held-takes, held-full, held-joinable, held-opened, held-opens, held-turned}
 use Rattle.threading_tree.specs.Grows.{many, take-edge-grows, open-many}
 use Rattle.threading_tree.specs.declared.ThreadingState as TS
-use Rattle.threading_tree.specs.declared.Grown.{Grown}
-use Rattle.threading_tree.specs.declared.Grown.TheVariants.{Nodes as Many, Refused as Stopped}
-use Rattle.threading_tree.specs.declared.Joined.{Joined}
-use Rattle.threading_tree.specs.declared.Joined.TheVariants.{Next as Holds, Refused}
+use Rattle.refusals.specs.declared.Refusal.{Refusal}
+use Rattle.refusals.specs.Numbers.{number}
 
 -- ---- the definition's step in two halves
 
@@ -46,14 +42,14 @@ pass-is es e w = go (opens es e.from) (eqb (length (leaving es e.from)) 1) refl 
 -- ---- contracts over walks
 
 -- by the answer: the tables hold the walk that F makes, the caller keeping the root of v; or its trees have more nodes than the maximum
-abbrev pub SteppedTo : (Walk → Walk) → ℕ → ℕ → ℕ → (ℕ → ℕ) → Walk → List ℕ → List ℕ → Joined → Type 0
-SteppedTo F cap v b root w y op (Holds k) =
-    (root' : ℕ → ℕ) → root' v ≡ k.root → ((u : ℕ) → (u ≡ v → ⊥) → root' u ≡ root u) → HeldWalk (F w) cap k.nodes k.groups b root' y op
-SteppedTo F cap v b root w y op (Refused k) = (k ≡ 9) × (cap < many (F w))
+abbrev pub SteppedTo : (Walk → Walk) → ℕ → ℕ → ℕ → (ℕ → ℕ) → Walk → List ℕ → List ℕ → Result TS.ThreadingState Refusal → Type 0
+SteppedTo F cap v b root w y op (Ok k) =
+    Linked k.root × ((root' : ℕ → ℕ) → root' v ≡ link_to k.root → ((u : ℕ) → (u ≡ v → ⊥) → root' u ≡ root u) → HeldWalk (F w) cap k.nodes k.groups b root' y op)
+SteppedTo F cap v b root w y op (Err k) = (number k ≡ 9) × (cap < many (F w))
 
 -- `more w` is how much the bound of the counts grows
-pub record Steps (F : Walk → Walk) (more : Walk → ℕ) (cap v : ℕ) (h : TS.ThreadingState) (x y op op' : List ℕ) (r : Joined) : Type 0 where
-  pub is : (w : Walk) (b : ℕ) (root : ℕ → ℕ) → HeldWalk w cap h.nodes h.groups b root x op → root v ≡ h.root → SteppedTo F cap v (b + more w) root w y op' r
+pub record Steps (F : Walk → Walk) (more : Walk → ℕ) (cap v : ℕ) (h : TS.ThreadingState) (x y op op' : List ℕ) (r : Result TS.ThreadingState Refusal) : Type 0 where
+  pub is : (w : Walk) (b : ℕ) (root : ℕ → ℕ) → HeldWalk w cap h.nodes h.groups b root x op → root v ≡ link_to h.root → SteppedTo F cap v (b + more w) root w y op' r
   pub beyond : Beyond (told cap) x y
   pub beyond-open : Beyond (cap * 2) op op'
 
@@ -63,7 +59,8 @@ pub record Stepping (cap : ℕ) (e : Ends) (s : ℕ) (h : TS.ThreadingState) (x 
   pub bound : ℕ
   pub roots : ℕ → ℕ
   pub holds : HeldWalk walk cap h.nodes h.groups bound roots x op
-  pub root : roots e.from ≡ h.root
+  pub root : roots e.from ≡ link_to h.root
+  pub linked : Linked h.root
   pub ends : Packable e
   pub spare : bound + (length walk.opened + s) < 2 ^ 32
 
@@ -86,6 +83,7 @@ stepping-root cap a b s s' h x op q p =
       roots = p.roots;
       holds = p.holds;
       root = p.root;
+      linked = p.linked;
       ends = (p.ends.0, p.ends.0);
       spare = omega arith;
     }
@@ -100,10 +98,10 @@ agrees v r root root' a b off u = go (ℕ_discrete u v)
     go (no z) = off u z
 
 -- nothing is done: the bound may grow all the same
-stays : (F : Walk → Walk) (more : Walk → ℕ) (cap v : ℕ) (h : TS.ThreadingState) (x op : List ℕ) → ((w : Walk) → F w ≡ w) → Steps F more cap v h x x op op (Holds h)
-stays F more cap v h x op f =
+stays : (F : Walk → Walk) (more : Walk → ℕ) (cap v : ℕ) (h : TS.ThreadingState) (x op : List ℕ) → ((w : Walk) → F w ≡ w) → Linked h.root → Steps F more cap v h x x op op (Ok h)
+stays F more cap v h x op f l =
     record {
-      is = λ w b root k a root' e off. rw (f w) (held-under (b + more w) (omega arith) (held-roots root' (agrees v h.root root root' a e off) k));
+      is = λ w b root k a. (l, λ root' e off. rw (f w) (held-under (b + more w) (omega arith) (held-roots root' (agrees v (link_to h.root) root root' a e off) k)));
       beyond = λ i q. refl;
       beyond-open = λ i q. refl;
     }
@@ -112,23 +110,24 @@ module _ (cap : ℕ) (e : Ends) (h : TS.ThreadingState) (x op : List ℕ) (o : B
   pub open-joinable : Stepping cap e 1 h x op → Joinable cap h.nodes e.from h.root h.groups x op
   open-joinable p =
       let a = p.spare in
-      rw (← p.root)
-      (held-joinable p.walk cap h.nodes h.groups p.bound p.roots x op p.holds e.from p.ends.0 (omega arith) (omega arith))
+      held-joinable p.walk cap h.nodes h.groups p.bound p.roots x op p.holds e.from h.root p.root p.linked p.ends.0 (omega arith) (omega arith)
 
-  pub open-not : o ≡ false → Steps (open_where o e.from) opening cap e.from h x x op op (Holds h)
+  pub open-not : Stepping cap e 1 h x op → o ≡ false → Steps (open_where o e.from) opening cap e.from h x x op op (Ok h)
   unfolding open_where
-  open-not z = rw z (stays (open_where false e.from) opening cap e.from h x op (λ w. refl))
+  open-not p z = rw z (stays (open_where false e.from) opening cap e.from h x op (λ w. refl) p.linked)
 
-  pub open-does : o ≡ true → (y op' : List ℕ) (r : Joined) → JoinedTo cap h.nodes e.from h.root h.groups x y op op' r → length y ≡ length x → length op' ≡ length op
+  pub open-does : Stepping cap e 1 h x op → o ≡ true → (y op' : List ℕ) (r : Result TS.ThreadingState Refusal) → JoinedTo cap h.nodes e.from h.root h.groups x y op op' r → length y ≡ length x → length op' ≡ length op
       → Steps (open_where o e.from) opening cap e.from h x y op op' r
   unfolding open_where
-  open-does z y op' r j ly lo = rw z (record { is = go r j; beyond = j.beyond; beyond-open = j.beyond-open })
+  open-does p z y op' r j ly lo = rw z (record { is = go r j; beyond = j.beyond; beyond-open = j.beyond-open })
     where
-      go : (r : Joined) → JoinedTo cap h.nodes e.from h.root h.groups x y op op' r → (w : Walk) (b : ℕ) (root : ℕ → ℕ)
-          → HeldWalk w cap h.nodes h.groups b root x op → root e.from ≡ h.root → SteppedTo (open_where true e.from) cap e.from (b + 1) root w y op' r
-      go (Holds s) q w b root k a =
-          λ root' c off. held-opens w cap h.nodes h.groups b root x op k e.from y op' s root' (rw a q) ly lo c off
-      go (Refused m) q w b root k a = held-turned w cap h.nodes h.groups b root x op k e.from y op' m (rw a q)
+      go : (r : Result TS.ThreadingState Refusal) → JoinedTo cap h.nodes e.from h.root h.groups x y op op' r → (w : Walk) (b : ℕ) (root : ℕ → ℕ)
+          → HeldWalk w cap h.nodes h.groups b root x op → root e.from ≡ link_to h.root → SteppedTo (open_where true e.from) cap e.from (b + 1) root w y op' r
+      go (Ok s) q w b root k a = (
+        held-opened w cap h.nodes h.groups b root x op k e.from h.root a p.linked y op' s q,
+        λ root' c off. held-opens w cap h.nodes h.groups b root x op k e.from h.root a p.linked y op' s root' q ly lo c off,
+      )
+      go (Err m) q w b root k a = held-turned w cap h.nodes h.groups b root x op k e.from h.root a p.linked y op' m q
 
 -- ---- every open tree takes the edge, or nothing is done
 
@@ -136,31 +135,33 @@ module _ (cap : ℕ) (e : Ends) (h : TS.ThreadingState) (x op : List ℕ) (q : B
   pub take-walking : Stepping cap e 0 h x op → Walking cap h.nodes h.groups e x op
   take-walking p = let a = p.spare in held-walking p.walk cap h.nodes h.groups p.bound p.roots x op p.holds e p.ends (omega arith)
 
-  pub take-not : q ≡ true → Steps (take_unless q e) taking cap e.from h x x op op (Holds h)
+  pub take-not : Stepping cap e 0 h x op → q ≡ true → Steps (take_unless q e) taking cap e.from h x x op op (Ok h)
   unfolding take_unless
-  take-not z = rw z (stays (take_unless true e) taking cap e.from h x op (λ w. refl))
+  take-not p z = rw z (stays (take_unless true e) taking cap e.from h x op (λ w. refl) p.linked)
 
-  module _ (p : Stepping cap e 0 h x op) (z : q ≡ false) (y op' : List ℕ) (r : Grown) (t : TookAll cap h.nodes h.groups e x y op op' r) where
+  module _ (p : Stepping cap e 0 h x op) (z : q ≡ false) (y op' : List ℕ) (r : Result ℕ Refusal) (t : TookAll cap h.nodes h.groups e x y op op' r) where
     far : Beyond (cap * 2) op op'
     far i j = let a = held-few p.walk cap h.nodes h.groups p.bound p.roots x op p.holds e in t.beyond-open i (omega arith)
 
-    pub take-does : (k : ℕ) → r ≡ Many k → length y ≡ length x → length op' ≡ length op
-        → Steps (take_unless q e) taking cap e.from h x y op op' (Holds (record { nodes = k; groups = h.groups; root = h.root }))
+    pub take-does : (k : ℕ) → r ≡ Ok k → length y ≡ length x → length op' ≡ length op
+        → Steps (take_unless q e) taking cap e.from h x y op op' (Ok (record { nodes = k; groups = h.groups; root = h.root }))
     unfolding take_unless
     take-does k f ly lo =
         rw z
         (record {
-          is = λ w b root c a root' d off.
-              held-roots root' (agrees e.from h.root root root' a d off) (held-takes w cap h.nodes h.groups b root x op c e y op' k (rw f at t) ly lo);
+          is = λ w b root c a. (
+            p.linked,
+            λ root' d off.
+                held-roots root' (agrees e.from (link_to h.root) root root' a d off) (held-takes w cap h.nodes h.groups b root x op c e y op' k (rw f at t) ly lo),
+          );
           beyond = t.beyond;
           beyond-open = far;
         })
 
-    pub take-full : (m : ℕ) → r ≡ Stopped m → (j : ℕ) → j ≡ grown_refusal r → Steps (take_unless q e) taking cap e.from h x y op op' (Refused j)
+    pub take-full : (m : Refusal) → r ≡ Err m → Steps (take_unless q e) taking cap e.from h x y op op' (Err m)
     unfolding take_unless
-    take-full m f j d =
-        let same : j ≡ m = d ∙ ap grown_refusal f in
-        rw (same, z)
+    take-full m f =
+        rw z
         (record {
           is = λ w b root c a. held-full w cap h.nodes h.groups b root x op c e y op' m (rw f at t);
           beyond = t.beyond;
@@ -190,10 +191,10 @@ unfolding open_where
 where-many true v w = let a = open-many v w in omega arith
 where-many false v w = omega arith
 
-module _ (cap : ℕ) (e : Ends) (h : TS.ThreadingState) (x op : List ℕ) (o q : Bool) (y op1 : List ℕ) (r1 : Joined) (s1 : Steps (open_where o e.from) opening cap e.from h x y op op1 r1) where
-  pub pass-refused : (m : ℕ) → r1 ≡ Refused m → Steps (λ w. take_unless q e (open_where o e.from w)) passing cap e.from h x y op op1 r1
+module _ (cap : ℕ) (e : Ends) (h : TS.ThreadingState) (x op : List ℕ) (o q : Bool) (y op1 : List ℕ) (r1 : Result TS.ThreadingState Refusal) (s1 : Steps (open_where o e.from) opening cap e.from h x y op op1 r1) where
+  pub pass-refused : (m : Refusal) → r1 ≡ Err m → Steps (λ w. take_unless q e (open_where o e.from w)) passing cap e.from h x y op op1 r1
   pass-refused m z =
-      let s : Steps (open_where o e.from) opening cap e.from h x y op op1 (Refused m) = rw z at s1 in
+      let s : Steps (open_where o e.from) opening cap e.from h x y op op1 (Err m) = rw z at s1 in
       rw z
       (record {
         is = λ w b root k a. let c = s.is w b root k a in let g = unless-grows q e (open_where o e.from w) in (c.0, over (many (open_where o e.from w)) (many (take_unless q e (open_where o e.from w))) c.1 g);
@@ -204,14 +205,14 @@ module _ (cap : ℕ) (e : Ends) (h : TS.ThreadingState) (x op : List ℕ) (o q :
       over : (a b : ℕ) → cap < a → a ≤ b → cap < b
       over a b p q = omega arith
 
-  module _ (k : TS.ThreadingState) (z : r1 ≡ Holds k) where
-    s : Steps (open_where o e.from) opening cap e.from h x y op op1 (Holds k)
+  module _ (k : TS.ThreadingState) (z : r1 ≡ Ok k) where
+    s : Steps (open_where o e.from) opening cap e.from h x y op op1 (Ok k)
     s = rw z at s1
 
-    after : (w : Walk) (b : ℕ) (root : ℕ → ℕ) → HeldWalk w cap h.nodes h.groups b root x op → root e.from ≡ h.root
-        → HeldWalk (open_where o e.from w) cap k.nodes k.groups (b + 1) (keep_root root e.from k.root) y op1
+    after : (w : Walk) (b : ℕ) (root : ℕ → ℕ) → HeldWalk w cap h.nodes h.groups b root x op → root e.from ≡ link_to h.root
+        → HeldWalk (open_where o e.from w) cap k.nodes k.groups (b + 1) (keep_root root e.from (link_to k.root)) y op1
     after w b root c a =
-        s.is w b root c a (keep_root root e.from k.root) (keep_at root e.from k.root) (λ u n. keep-off root e.from k.root u n)
+        (s.is w b root c a).1 (keep_root root e.from (link_to k.root)) (keep_at root e.from (link_to k.root)) (λ u n. keep-off root e.from (link_to k.root) u n)
 
     pub pass_on : Stepping cap e 2 h x op → Stepping cap e 0 k y op1
     pass_on p =
@@ -220,26 +221,27 @@ module _ (cap : ℕ) (e : Ends) (h : TS.ThreadingState) (x op : List ℕ) (o q :
         record {
           walk = open_where o e.from p.walk;
           bound = p.bound + 1;
-          roots = keep_root p.roots e.from k.root;
+          roots = keep_root p.roots e.from (link_to k.root);
           holds = after p.walk p.bound p.roots p.holds p.root;
-          root = keep_at p.roots e.from k.root;
+          root = keep_at p.roots e.from (link_to k.root);
+          linked = (s.is p.walk p.bound p.roots p.holds p.root).0;
           ends = p.ends;
           spare = omega arith;
         }
 
-    pub pass-both : (y2 op2 : List ℕ) (r : Joined) → Steps (take_unless q e) taking cap e.from k y y2 op1 op2 r
+    pub pass-both : (y2 op2 : List ℕ) (r : Result TS.ThreadingState Refusal) → Steps (take_unless q e) taking cap e.from k y y2 op1 op2 r
         → Steps (λ w. take_unless q e (open_where o e.from w)) passing cap e.from h x y2 op op2 r
     pass-both y2 op2 r s2 =
         record {
-          is = λ w b root c a. go r w b root (s2.is (open_where o e.from w) (b + 1) (keep_root root e.from k.root) (after w b root c a) (keep_at root e.from k.root));
+          is = λ w b root c a. go r w b root (s2.is (open_where o e.from w) (b + 1) (keep_root root e.from (link_to k.root)) (after w b root c a) (keep_at root e.from (link_to k.root)));
           beyond = λ i j. s2.beyond i j ∙ s1.beyond i j;
           beyond-open = λ i j. s2.beyond-open i j ∙ s1.beyond-open i j;
         }
       where
-        go : (r : Joined) (w : Walk) (b : ℕ) (root : ℕ → ℕ)
-            → SteppedTo (take_unless q e) cap e.from ((b + 1) + length (open_where o e.from w).opened) (keep_root root e.from k.root) (open_where o e.from w) y2 op2 r
+        go : (r : Result TS.ThreadingState Refusal) (w : Walk) (b : ℕ) (root : ℕ → ℕ)
+            → SteppedTo (take_unless q e) cap e.from ((b + 1) + length (open_where o e.from w).opened) (keep_root root e.from (link_to k.root)) (open_where o e.from w) y2 op2 r
             → SteppedTo (λ w. take_unless q e (open_where o e.from w)) cap e.from (b + (2 + length w.opened)) root w y2 op2 r
-        go (Holds j) w b root t =
+        go (Ok j) w b root t =
             let m = where-many o e.from w in
-            λ root' c off. held-under (b + (2 + length w.opened)) (omega arith) (t root' c (λ u n. off u n ∙ sym (keep-off root e.from k.root u n)))
-        go (Refused m) w b root t = t
+            (t.0, λ root' c off. held-under (b + (2 + length w.opened)) (omega arith) (t.1 root' c (λ u n. off u n ∙ sym (keep-off root e.from (link_to k.root) u n))))
+        go (Err m) w b root t = t

@@ -1,25 +1,24 @@
 -- Reading the table in the search: what a link leads to, the tree of a vertex, the child for an edge, the sum of the branches.
-use Rattle.std.specs.Prelude.{◌≡◌, false, not, List, [], ◌∷◌, eqb, get_or}
-use Rattle.std.proofs.Math.Path.{refl, sym, ap}
-use Rattle.std.proofs.Common.{subst, ◌∙◌, zero-add, add-zero, eq-eqb, ne_eqb}
-use Prim.Native.Nat.{ℕ, zero, suc, ◌+◌, ◌*◌, ◌^◌, ◌<◌, ◌≤◌, Ordering}
-use Rattle.std.proofs.Math.Bool.{true}
+use Rattle.std.specs.Prelude.{◌≡◌, false, not, List, [], ◌∷◌, eqb, Option, Some, None, Result, Ok, Err, refl, ℕ, zero, suc, ◌+◌, ◌*◌, ◌^◌, ◌<◌, ◌≤◌, true}
+use Rattle.std.proofs.Common.{sym, ap, subst, ◌∙◌, zero-add, add-zero, eq-eqb, ne_eqb, arith}
+use Prim.Native.Nat.{Ordering}
 use Rattle.std.proofs.Math.Option.{none, some}
-use native.Mathlib.Omega.{arith}
 use Rattle.definition.specs.Threading.{Ends, compare_ends, eq_ends}
 use Rattle.definition.specs.Evidence.{Branches, bare, branch, Tree, Walk, has_branch, tree_at}
 use Rattle.definition.specs.Search.{child, offers_edge, sum_of}
 use Rattle.threading_node.specs.Ends.{ends, ends-path, gt-lt, lt-ne, eq-same, eq_ends-self, eq_ends-ne, eq_ends-false, Less, lt-less}
-use Rattle.threading_node.specs.Nodes.{Nodes, nil, node, erase, size, seek_n, At, here, down, along, kids_at, Above, Rising, Fields, Links, above-less}
+use Rattle.threading_node.specs.Nodes.{Nodes, nil, node, erase, size, seek_n, At, here, down, along, kids_at, Above, Rising, Fields, Links, above-less, Here, Between}
 use Rattle.threading_node.specs.Rows.{seek_n-lt, seek_n-eq, seek_n-gt, gap_here, here-same}
 use Rattle.threading_node.specs.Good.{row-of, row-rising, slot-live}
-use Rattle.threading_node.specs.Slots.{cols, Slot, every-from, every-to, every-count}
-use Rattle.threading_node.specs.Cells.{Rowed, Sought, left, left-falls}
+use Rattle.threading_node.specs.Slots.{cols, Slot}
+use Rattle.threading_node.specs.Links.{slot_at, link_to, Linked, link_is, linked_at, some-link, none-link}
+use Rattle.threading_node.specs.Cells.{place_of, Rowed, Sought, above-all, left, left-falls}
 use Rattle.threading_node.specs.Take.{Wide, wide-slot, links-row}
 use Rattle.threading_tree.specs.Forest.{forest}
 use Rattle.threading_tree.specs.Held.{HeldWalk}
-use Rattle.threading_node.specs.declared.Place.{Place}
-use Rattle.threading_node.specs.declared.Place.TheVariants.{Here, Gap}
+use Rattle.threading_tree.specs.Listed.{size_b, size-erase}
+use Rattle.std.specs.Result.{result_ok}
+use Rattle.threading_node.specs.declared.Gap.{Gap}
 
 -- the link l of a table with n nodes leads to the branches b
 pub record Leads (n : ℕ) (x : List ℕ) (l : ℕ) (b : Branches) : Type 0 where
@@ -87,12 +86,12 @@ read_here f n e j prev l (node i d c b x) v r h = go (compare_ends e d) refl (λ
     go Ordering.eq z ih = there (eq-same e d z) (here-same (sym (seek_n-eq e prev i d c b x z) ∙ h))
     go Ordering.gt z ih = on z (ih (sym (seek_n-gt e prev i d c b x z) ∙ h))
 
-read-gap : (e : Ends) (u w prev : ℕ) (t : Nodes) → Rising t → seek_n e prev t ≡ Gap u w → (child e (erase t) ≡ bare) × (offers_edge e (erase t) ≡ false)
+read-gap : (e : Ends) (u w prev : ℕ) (t : Nodes) → Rising t → seek_n e prev t ≡ Between u w → (child e (erase t) ≡ bare) × (offers_edge e (erase t) ≡ false)
 unfolding Rising Above erase child offers_edge seek_n
 read-gap e u w prev nil r h = (refl, refl)
 read-gap e u w prev (node i d c b x) r h = go (compare_ends e d) refl (λ z. read-gap e u w i x r.2 z)
   where
-    go : (o : Ordering) → compare_ends e d ≡ o → (seek_n e i x ≡ Gap u w → (child e (erase x) ≡ bare) × (offers_edge e (erase x) ≡ false))
+    go : (o : Ordering) → compare_ends e d ≡ o → (seek_n e i x ≡ Between u w → (child e (erase x) ≡ bare) × (offers_edge e (erase x) ≡ false))
         → (child e (erase (node i d c b x)) ≡ bare) × (offers_edge e (erase (node i d c b x)) ≡ false)
     go Ordering.lt z ih = above-child e (node i d c b x) (z, above-less e d x z r.0)
     go Ordering.eq z ih = absurd (gap_here (sym h ∙ seek_n-eq e prev i d c b x z))
@@ -253,36 +252,37 @@ module _ (n : ℕ) (x : List ℕ) (l : ℕ) (b : Branches) (h : Leads n x l b) w
   -- ---- the child for an edge
 
   module _ (cap : ℕ) (room : n ≤ cap) (wide : Wide cap x) where
-    pub leads-rowed : Rowed x l
-    leads-rowed = record { row = h.row; leads = links-row cap n l x h.row room wide h.links; rising = h.rising }
+    module _ (start : Option ℕ) (is : link_to start ≡ l) where
+      leads-rowed : Linked start → Rowed x start
+      leads-rowed k = record { row = h.row; leads = rw is (links-row cap n l x h.row room wide h.links); rising = h.rising; linked = k }
 
-    module _ (e : Ends) (r : Place) (s : Sought x l e r) where
-      found : seek_n e 0 h.row ≡ r
-      found = sym (s.is h.row (links-row cap n l x h.row room wide h.links))
+      module _ (e : Ends) (r : Result ℕ Gap) (s : Sought x start e r) where
+        found : seek_n e 0 h.row ≡ place_of r
+        found = sym (s.stands.is h.row (rw is (links-row cap n l x h.row room wide h.links)))
 
-      pub leads-here : (j : ℕ) → r ≡ Here j → ChildAt n x e b j
-      leads-here j z =
-          let q = read_here (cols x) n e j 0 l h.row h.links h.rising (found ∙ z) in
-          let f1 = q.few in
-          let f2 = h.few in
-          record {
-            some = q.some;
-            live = q.live;
-            offers = ap (λ (d : Branches). offers_edge e d) (sym h.is) ∙ q.offers;
-            leads = record { row = q.row; links = q.links; rising = q.rising; few = omega arith; is = q.is ∙ ap (λ (d : Branches). child e d) h.is };
-          }
+        leads-here : (j : ℕ) → place_of r ≡ Here j → ChildAt n x e b j
+        leads-here j z =
+            let q = read_here (cols x) n e j 0 l h.row h.links h.rising (found ∙ z) in
+            let f1 = q.few in
+            let f2 = h.few in
+            record {
+              some = q.some;
+              live = q.live;
+              offers = ap (λ (d : Branches). offers_edge e d) (sym h.is) ∙ q.offers;
+              leads = record { row = q.row; links = q.links; rising = q.rising; few = omega arith; is = q.is ∙ ap (λ (d : Branches). child e d) h.is };
+            }
 
-      pub leads-gap : (u w : ℕ) → r ≡ Gap u w → NoChild e b
-      leads-gap u w z =
-          let q = read-gap e u w 0 h.row h.rising (found ∙ z) in
-          record { child = ap (λ (d : Branches). child e d) (sym h.is) ∙ q.0; offers = ap (λ (d : Branches). offers_edge e d) (sym h.is) ∙ q.1 }
+        leads-gap : (u w : ℕ) → place_of r ≡ Between u w → NoChild e b
+        leads-gap u w z =
+            let q = read-gap e u w 0 h.row h.rising (found ∙ z) in
+            record { child = ap (λ (d : Branches). child e d) (sym h.is) ∙ q.0; offers = ap (λ (d : Branches). offers_edge e d) (sym h.is) ∙ q.1 }
 
 -- ---- the search for a child's slot
 
--- by the answer, 0 or the child's slot
-pub record ChildSlot (n : ℕ) (x : List ℕ) (l : ℕ) (e : Ends) (r : ℕ) : Type 0 where
-  pub there : (b : Branches) → Leads n x l b → (r ≡ 0 → ⊥) → ChildAt n x e b r
-  pub missing : (b : Branches) → Leads n x l b → r ≡ 0 → NoChild e b
+-- by the answer, none or the child's slot
+pub record ChildSlot (n : ℕ) (x : List ℕ) (l : ℕ) (e : Ends) (r : Option ℕ) : Type 0 where
+  pub there : (b : Branches) → Leads n x l b → (j : ℕ) → r ≡ Some j → ChildAt n x e b j
+  pub missing : (b : Branches) → Leads n x l b → r ≡ None → NoChild e b
 
 pub record Readable (cap n : ℕ) (x : List ℕ) (l : ℕ) : Type 0 where
   pub branches : Branches
@@ -290,20 +290,27 @@ pub record Readable (cap n : ℕ) (x : List ℕ) (l : ℕ) : Type 0 where
   pub room : n ≤ cap
   pub wide : Wide cap x
 
-module _ (cap n : ℕ) (x : List ℕ) (l : ℕ) (p : Readable cap n x l) where
-  pub readable-rowed : Rowed x l
-  readable-rowed = leads-rowed n x l p.branches p.leads cap p.room p.wide
+-- the slot that a link of the table leads to, as a row to read begins at it
+pub readable-at : (cap n : ℕ) (x : List ℕ) (l : ℕ) → Readable cap n x l → (start : Option ℕ) → start ≡ slot_at l → Readable cap n x (link_to start) × Linked start
+readable-at cap n x l p start e =
+    let z : link_to start ≡ l = ap link_to e ∙ link_is l in
+    (rw z p, rw e (linked_at l))
 
-  module _ (e : Ends) (r : Place) (s : Sought x l e r) where
-    pub child-there : (j : ℕ) → r ≡ Here j → ChildSlot n x l e j
-    child-there j z =
-        record {
-          there = λ b h y. leads-here n x l b h cap p.room p.wide e r s j z;
-          missing = λ b h y. let q = (leads-here n x l b h cap p.room p.wide e r s j z).some in absurd (omega arith);
-        }
+module _ (cap n : ℕ) (x : List ℕ) (start : Option ℕ) (p : Readable cap n x (link_to start) × Linked start) where
+  pub readable-rowed : Rowed x start
+  readable-rowed = leads-rowed n x (link_to start) p.0.branches p.0.leads cap p.0.room p.0.wide start refl p.1
 
-    pub child-missing : (u w : ℕ) → r ≡ Gap u w → ChildSlot n x l e 0
-    child-missing u w z = record { there = λ b h y. absurd (y refl); missing = λ b h y. leads-gap n x l b h cap p.room p.wide e r s u w z }
+  pub child-told : (e : Ends) (r : Result ℕ Gap) → Sought x start e r → ChildSlot n x (link_to start) e (result_ok r)
+  child-told e (Ok i) s =
+      record {
+        there = λ b h j z. leads-here n x (link_to start) b h cap p.0.room p.0.wide start refl e (Ok i) s j (ap Here (cc));
+        missing = λ b h z. absurd (let y : ◌≡◌ {A = ℕ} 0 1 = cc in omega arith);
+      }
+  child-told e (Err g) s =
+      record {
+        there = λ b h j z. absurd (let y : ◌≡◌ {A = ℕ} 0 1 = cc in omega arith);
+        missing = λ b h z. leads-gap n x (link_to start) b h cap p.0.room p.0.wide start refl e (Err g) s (link_to g.after) (link_to g.before) refl;
+      }
 
 -- ---- the sum of the branches (Rust: total_out_for_branch)
 
@@ -352,70 +359,85 @@ leads-later n x l b h ne pos = go h.row h.links h.rising
         let z : l ≡ i = k.0.is in
         next i f y z (edge l f (rw z k.0.from) (rw z k.0.to)) k.2 r.0
 
-sum-most : (x : List ℕ) (n l : ℕ) (t : Nodes) → ((i : ℕ) → get_or x i 0 < 2 ^ 32) → Links (cols x) n l t → sum_of (erase t) ≤ size t * 2 ^ 32
-unfolding Links size erase sum_of
-sum-most x n l nil h k = omega arith
-sum-most x n l (node i f c b y) h k =
-    let q = sum-most x n ((cols x).next i) y h k.2 in
-    let r = every-count x (λ j. j < 2 ^ 32) h i in
-    let s = k.0.count in
-    omega arith
-
 -- some have been added, and the rest is the row at the link
 pub record Summing (n : ℕ) (x : List ℕ) (l at total : ℕ) : Type 0 where
   pub rest : Branches
   pub leads : Leads n x at rest
+  pub under : total + size_b rest * 2 ^ 32 ≤ n * 2 ^ 32
   pub run : (b : Branches) → Leads n x l b → total + sum_of rest ≡ sum_of b
 
 module _ (cap n : ℕ) (x : List ℕ) (l : ℕ) (p : Readable cap n x l) where
+  size-under : 0 + size_b p.branches * 2 ^ 32 ≤ n * 2 ^ 32
+  size-under =
+      let a : size_b p.branches ≡ size p.leads.row = ap size_b (sym p.leads.is) ∙ size-erase p.leads.row in
+      let b = p.leads.few in
+      omega arith
+
   pub summing_start : Summing n x l l 0
   summing_start =
-      record { rest = p.branches; leads = p.leads; run = λ b h. zero-add (sum_of p.branches) ∙ ap sum_of (leads_one n x l p.branches b p.leads h) }
+      record { rest = p.branches; leads = p.leads; under = size-under; run = λ b h. zero-add (sum_of p.branches) ∙ ap sum_of (leads_one n x l p.branches b p.leads h) }
 
-  module _ (at total : ℕ) (k : Summing n x l at total) where
-    pub summing-end : at ≡ 0 → Summed n x l total
+  module _ (o : Option ℕ) (total : ℕ) (k : Summing n x l (link_to o) total × Linked o) where
+    pub summing-end : ((s : ℕ) → o ≡ Some s → ⊥) → Summed n x l total
     unfolding sum_of
-    summing-end z =
-        record { is = λ b h. sym (add-zero total) ∙ ap (λ (d : Branches). total + sum_of d) (sym (leads-none n x at k.rest k.leads z)) ∙ k.run b h }
+    summing-end ne =
+        record {
+          is = λ b h.
+              sym (add-zero total) ∙ ap (λ (d : Branches). total + sum_of d) (sym (leads-none n x (link_to o) k.0.rest k.0.leads (none-link o ne))) ∙ k.0.run b h;
+        }
 
-    module _ (ne : at ≡ 0 → ⊥) where
+    module _ (at : ℕ) (is : o ≡ Some at) where
+      ne : at ≡ 0 → ⊥
+      ne = some-link o at k.1 is
+
+      here-sum : Summing n x l at total
+      here-sum = rw is at k.0
+
+      met : BranchAt n x at here-sum.rest
+      met = leads-branch n x at here-sum.rest here-sum.leads ne
+
       pub summing-slot : Slot at x
       summing-slot =
-          let a = (leads-branch n x at k.rest k.leads ne).live in
+          let a = met.live in
           let b = p.room in
           wide-slot p.wide at (omega arith)
 
-      module _ (c nx : ℕ) (hc : c ≡ (cols x).count at) (hn : nx ≡ (cols x).next at) where
-        pub summing-next : Summing n x l nx (total + c)
-        unfolding sum_of
-        summing-next =
-            let w = leads-branch n x at k.rest k.leads ne in
-            rw (hc, hn)
-            (record {
-              rest = w.next;
-              leads = w.rest;
-              run = λ b h.
-                  let q = k.run b h in
-                  let r : sum_of k.rest ≡ (cols x).count at + sum_of w.next = ap sum_of w.is in
-                  omega arith;
-            })
+      module _ (c : ℕ) (hc : c ≡ (cols x).count at) where
+        size_rest : size_b here-sum.rest ≡ suc (size_b met.below + size_b met.next)
+        unfolding size_b
+        size_rest = rw met.is
 
-        module _ (u32 : (i : ℕ) → get_or x i 0 < 2 ^ 32) where
-          pub summing-fits : total + c < 2 ^ 64
+        pub summing-fits : c < 2 ^ 32 → total + c < 2 ^ 64
+        summing-fits u =
+            let q = here-sum.under in
+            let r = size_rest in
+            let ro = p.room in
+            let wf = p.wide.few in
+            omega arith
+
+        module _ (nx : Option ℕ) (hn : nx ≡ slot_at ((cols x).next at)) where
+          link : link_to nx ≡ (cols x).next at
+          link = ap link_to hn ∙ link_is ((cols x).next at)
+
+          pub summing-next : c < 2 ^ 32 → Summing n x l (link_to nx) (total + c) × Linked nx
           unfolding sum_of
-          summing-fits =
-              let w = leads-branch n x at k.rest k.leads ne in
-              let q = k.run p.branches p.leads in
-              let r : sum_of k.rest ≡ (cols x).count at + sum_of w.next = ap sum_of w.is in
-              let s = sum-most x n l p.leads.row u32 p.leads.links in
-              let t : sum_of (erase p.leads.row) ≡ sum_of p.branches = ap sum_of p.leads.is in
-              let f = p.leads.few in
-              let ro = p.room in
-              let wf = p.wide.few in
-              omega arith
+          summing-next u =
+              let w = met in
+              let su = here-sum.under in
+              let sr = size_rest in (
+                rw link
+                    (record {
+                      rest = w.next;
+                      leads = w.rest;
+                      under = omega arith;
+                      run = λ b h.
+                          let q = here-sum.run b h in
+                          let r : sum_of here-sum.rest ≡ (cols x).count at + sum_of w.next = ap sum_of w.is in
+                          let e = hc in
+                          omega arith;
+                    }),
+                rw hn (linked_at ((cols x).next at)),
+              )
 
-          pub summing-falls : left (2 ^ 32) x nx < left (2 ^ 32) x at
-          summing-falls =
-              rw hn
-              (left-falls (2 ^ 32) x at ((cols x).next at) ne (every-to x (λ i. i < 2 ^ 32) u32 at) (every-from x (λ i. i < 2 ^ 32) u32 ((cols x).next at)) (every-to x (λ i. i < 2 ^ 32) u32 ((cols x).next at))
-              (leads-later n x at k.rest k.leads ne))
+          pub summing-falls : left (above-all x) x (link_to nx) < left (above-all x) x (link_to o)
+          summing-falls = rw (link, is) (left-falls x at ((cols x).next at) ne (leads-later n x at here-sum.rest here-sum.leads ne))

@@ -1,16 +1,12 @@
 -- The nodes written out, depth first, by a loop: at each depth above the present one a list of slots holds the next sibling to go on with.
-use Rattle.std.specs.Prelude.{◌≡◌, get_or, set}
-use Rattle.std.proofs.Math.Path.{refl, sym, ap}
-use Rattle.std.proofs.Common.{◌∙◌, add-one, length-set, get_or-set_other}
-use Prim.Native.Nat.{ℕ, suc, ◌+◌, ◌-◌, ◌*◌, ◌^◌, ◌<◌, ◌≤◌}
-use mathlib.Core.List.{List, [], ◌∷◌, ◌++◌, append_assoc}
-use native.Mathlib.Omega.{arith}
-use Rattle.std.proofs.Math.ListN.{length, length-append}
-use Rattle.std.proofs.Math.Seq.{get_or-set_same}
+use Rattle.std.specs.Prelude.{◌≡◌, get_or, set, Option, Some, refl, ℕ, suc, ◌+◌, ◌-◌, ◌*◌, ◌^◌, ◌<◌, ◌≤◌, List, [], ◌∷◌, ◌++◌, length}
+use Rattle.std.proofs.Common.{sym, ap, ◌∙◌, add-one, length-set, get_or-set_other, append_assoc, arith, length-append, get_or-set_same, append-nil}
 use Rattle.laws.specs.Records.{put_from, length-put_from}
 use Rattle.definition.specs.Threading.{Ends}
 use Rattle.definition.specs.Evidence.{Walk, Node, nodes_below, nodes}
 use Rattle.definition.specs.Calls.{written_at, flat, node_row}
+use Rattle.threading_node.specs.Ends.{ends}
+use Rattle.threading_node.specs.Links.{slot_at, link_to, Linked, link_is, linked_at, some-link, none-link}
 use Rattle.threading_node.specs.Nodes.{Nodes, nil, node, erase, size, Links}
 use Rattle.threading_node.specs.Good.{Good}
 use Rattle.threading_node.specs.Slots.{cols, Slot, Beyond}
@@ -123,6 +119,15 @@ module _ (n : ℕ) (x st out₀ out : List ℕ) (link depth row : ℕ) (T : Node
   pub met-live : (link ≡ 0 → ⊥) → link ≤ n
   met-live ne = (met ne).live
 
+  -- a link to a row leads to one of the nodes, or to none
+  row-live : (l : ℕ) (t : Nodes) → Links (cols x) n l t → l ≤ n
+  unfolding Links
+  row-live l nil h = omega arith
+  row-live l (node i e c b y) h = let p = h.0.is in let q = h.0.live in omega arith
+
+  pub next-live : (link ≡ 0 → ⊥) → (cols x).next link ≤ n
+  next-live ne = let m = met ne in row-live ((cols x).next link) m.after m.rest
+
   pub met-row : (link ≡ 0 → ⊥) → row < size T
   unfolding nodes_below erase
   met-row ne =
@@ -231,27 +236,38 @@ module _ (cap n : ℕ) (x st₀ out₀ : List ℕ) (p : Writable cap n x st₀ o
   pub writer-slot : Slot 0 x
   writer-slot = wide-slot p.wide 0 (omega arith)
 
-  pub writer-start : (link : ℕ) → link ≡ (cols x).kid 0 → Writer cap n x st₀ st₀ out₀ out₀ link 0 0
+  pub writer-start : (at : Option ℕ) → at ≡ slot_at ((cols x).kid 0) → Writer cap n x st₀ st₀ out₀ out₀ (link_to at) 0 0 × Linked at
   unfolding later Pending flat
-  writer-start link e =
-      record {
+  writer-start at z = (rw link start, rw z (linked_at ((cols x).kid 0)))
+    where
+      link : link_to at ≡ (cols x).kid 0
+      link = ap link_to z ∙ link_is ((cols x).kid 0)
+
+      start : Writer cap n x st₀ st₀ out₀ out₀ ((cols x).kid 0) 0 0
+      start = record {
         all = λ T g.
-            record { tree = T; links = rw e g.links; above = []; pending = tt; deep = refl; done = []; rows = refl; run = append-nil (nodes_below 0 (erase T)); so_far = refl };
+            record { tree = T; links = g.links; above = []; pending = tt; deep = refl; done = []; rows = refl; run = append-nil (nodes_below 0 (erase T)); so_far = refl };
         under = omega arith;
         beyond = λ i q. refl;
         stack = refl;
         outs = refl;
       }
-    where
+
       append-nil : (l : List Node) → l ++ [] ≡ l
       append-nil [] = refl
       append-nil (y ∷ l) = ap (λ (q : List Node). y ∷ q) (append-nil l)
 
-  module _ (st out : List ℕ) (link depth row : ℕ) (k : Writer cap n x st₀ st out₀ out link depth row) where
-    one : Writing n x st out₀ out link depth row p.tree
-    one = k.all p.tree p.good
+  module _ (st out : List ℕ) (at : Option ℕ) (depth row : ℕ) (w : Writer cap n x st₀ st out₀ out (link_to at) depth row × Linked at) where
+    module _ (link : ℕ) (is : at ≡ Some link) where
+      ne : link ≡ 0 → ⊥
+      ne = some-link at link w.1 is
 
-    module _ (ne : link ≡ 0 → ⊥) where
+      k : Writer cap n x st₀ st out₀ out link depth row
+      k = rw is at w.0
+
+      one : Writing n x st out₀ out link depth row p.tree
+      one = k.all p.tree p.good
+
       pub node_in : Slot link x
       node_in = let a = met-live n x st out₀ out link depth row p.tree one ne in let b = p.room in wide-slot p.wide link (omega arith)
 
@@ -264,11 +280,19 @@ module _ (cap n : ℕ) (x st₀ out₀ : List ℕ) (p : Writable cap n x st₀ o
       pub depth-fits : depth < 2 ^ 32
       depth-fits = let a = row-left in let b = k.under in let c = p.wide.few in let d = p.room in omega arith
 
+      pub stack-offset : depth * 4 < 2 ^ 64
+      stack-offset = let a = depth-fits in omega arith
+
+      pub next-fits : (nx : Option ℕ) → nx ≡ slot_at ((cols x).next link) → link_to nx < 2 ^ 32
+      next-fits nx hn =
+          let a : link_to nx ≡ (cols x).next link = ap link_to hn ∙ link_is ((cols x).next link) in
+          let b = next-live n x st out₀ out link depth row p.tree one ne in
+          let c = p.wide.few in
+          let d = p.room in
+          omega arith
+
       pub stack-in : depth < length st
       stack-in = let a = row-left in let b = k.under in let c = p.deep in let d = k.stack in omega arith
-
-      pub stack-in₀ : depth < length st₀
-      stack-in₀ = let a = row-left in let b = k.under in let c = p.deep in omega arith
 
       pub next_row : row + 1 < 2 ^ 64
       next_row = let a = row-left in let c = p.wide.few in let d = p.room in omega arith
@@ -276,51 +300,63 @@ module _ (cap n : ℕ) (x st₀ out₀ : List ℕ) (p : Writable cap n x st₀ o
       pub next-depth : depth + 1 < 2 ^ 64
       next-depth = let a = depth-fits in omega arith
 
-      pub writer-down : (a b c l s : ℕ) → a ≡ (cols x).from link → b ≡ (cols x).to link → c ≡ (cols x).count link → l ≡ (cols x).kid link → s ≡ (cols x).next link
-          → (out' : List ℕ) → out' ≡ put_from out 4 row 0 (a ∷ b ∷ c ∷ depth ∷ []) → Writer cap n x st₀ (set st depth s) out₀ out' l (depth + 1) (row + 1)
-      writer-down a b c l s ha hb hc hl hs out' ho =
+      pub writer-down : (f : Ends) (c s : ℕ) (l nx : Option ℕ) → f ≡ ends ((cols x).from link) ((cols x).to link) → c ≡ (cols x).count link → l ≡ slot_at ((cols x).kid link)
+          → nx ≡ slot_at ((cols x).next link) → s ≡ link_to nx
+          → (out' : List ℕ) → out' ≡ put_from out 4 row 0 (f.from ∷ f.to ∷ c ∷ depth ∷ []) → Writer cap n x st₀ (set st depth s) out₀ out' (link_to l) (depth + 1) (row + 1) × Linked l
+      writer-down f c s l nx hf hc hl hn hs out' ho =
           let lt = row-left in
           let lo = p.long in
           let un = k.under in
-          record {
-            all = λ T g.
-                let f = g.full in
-                down n x st out₀ out link depth row T (k.all T g) ne a b c l s ha hb hc hl hs out' ho stack-in (omega arith);
-            under = omega arith;
-            beyond = λ i q. get_or-set_other st depth i s 0 (λ z. omega arith) ∙ k.beyond i q;
-            stack = length-set st depth s ∙ k.stack;
-            outs = ap length ho ∙ length-put_from out 4 row 0 (a ∷ b ∷ c ∷ depth ∷ []) ∙ k.outs;
-          }
+          let below : link_to l ≡ (cols x).kid link = ap link_to hl ∙ link_is ((cols x).kid link) in
+          let after : s ≡ (cols x).next link = hs ∙ ap link_to hn ∙ link_is ((cols x).next link) in (
+            record {
+              all = λ T g.
+                  let q = g.full in
+                  down n x st out₀ out link depth row T (k.all T g) ne f.from f.to c (link_to l) s (ap (λ (d : Ends). d.from) hf) (ap (λ (d : Ends). d.to) hf) hc below after out' ho stack-in (omega arith);
+              under = omega arith;
+              beyond = λ i q. get_or-set_other st depth i s 0 (λ z. omega arith) ∙ k.beyond i q;
+              stack = length-set st depth s ∙ k.stack;
+              outs = ap length ho ∙ length-put_from out 4 row 0 (f.from ∷ f.to ∷ c ∷ depth ∷ []) ∙ k.outs;
+            },
+            rw hl (linked_at ((cols x).kid link)),
+          )
 
       pub falls_down : 2 * (n - (row + 1)) + (depth + 1) < 2 * (n - row) + depth
       falls_down = let a = row-left in omega arith
 
-    module _ (z : link ≡ 0) (ne : depth ≡ 0 → ⊥) where
-      pub stack-up₀ : depth - 1 < length st₀
-      stack-up₀ = let a = k.under in let c = p.deep in let d = row-most in omega arith
-        where
-          row-most : row ≤ n
-          row-most = let a = in_all n x st out₀ out link depth row p.tree one in let b = p.good.full in omega arith
+    module _ (none : (s : ℕ) → at ≡ Some s → ⊥) where
+      z : link_to at ≡ 0
+      z = none-link at none
 
-      pub stack-up : depth - 1 < length st
-      stack-up = let a = stack-up₀ in let b = k.stack in omega arith
+      pub writer-end : depth ≡ 0 → Written n x st₀ st out₀ out
+      writer-end e = record { is = λ T g. ended n x st out₀ out (link_to at) depth row T (w.0.all T g) z e; beyond = w.0.beyond }
 
-      pub writer-up : (l : ℕ) → l ≡ get_or st (depth - 1) 0 → Writer cap n x st₀ st out₀ out l (depth - 1) row
-      writer-up l hl =
-          let un = k.under in
-          record {
-            all = λ T g. up n x st out₀ out link depth row T (k.all T g) z ne l hl;
-            under = omega arith;
-            beyond = k.beyond;
-            stack = k.stack;
-            outs = k.outs;
-          }
+      depth-most : depth ≤ n
+      depth-most =
+          let a = in_all n x st out₀ out (link_to at) depth row p.tree (w.0.all p.tree p.good) in
+          let b = p.good.full in
+          let c = w.0.under in
+          omega arith
 
-      pub falls-up : 2 * (n - row) + (depth - 1) < 2 * (n - row) + depth
-      falls-up = omega arith
+      pub stack-offset-up : (depth - 1) * 4 < 2 ^ 64
+      stack-offset-up = let a = depth-most in let b = p.room in let c = p.wide.few in omega arith
 
-    pub writer-end : link ≡ 0 → depth ≡ 0 → Written n x st₀ st out₀ out
-    writer-end z e = record { is = λ T g. ended n x st out₀ out link depth row T (k.all T g) z e; beyond = k.beyond }
+      module _ (ne : depth ≡ 0 → ⊥) where
+        pub stack-up : depth - 1 < length st
+        stack-up = let a = depth-most in let b = w.0.stack in let c = p.deep in omega arith
+
+        pub writer-up : (l : Option ℕ) → l ≡ slot_at (get_or st (depth - 1) 0) → Writer cap n x st₀ st out₀ out (link_to l) (depth - 1) row × Linked l
+        writer-up l hl =
+            let un = w.0.under in (
+              record {
+                all = λ T g. up n x st out₀ out (link_to at) depth row T (w.0.all T g) z ne (link_to l) (ap link_to hl ∙ link_is (get_or st (depth - 1) 0));
+                under = omega arith;
+                beyond = w.0.beyond;
+                stack = w.0.stack;
+                outs = w.0.outs;
+              },
+              rw hl (linked_at (get_or st (depth - 1) 0)),
+            )
 
 -- ---- for callers: the definition's rows
 

@@ -2,24 +2,26 @@
 //
 // `nodes` is the table of threading_node.
 // `active` has two numbers a pair: the slot where active trees of the walk stand, and how many stand there. Pairs differ in their slots, so there are
-// never more than nodes.
+// never more than nodes. It is lent memory of fixed size (a rule of the project), so a number beside it says how many of its pairs a walk uses.
 //
 // Callers use the relation HeldWalk of specs/Held: the tables hold a walk of the definition.
 #![tactic(auto)]
 
-ghost use Rattle.std.specs.Prelude.{◌≡◌, ◌+◌, ◌*◌, ◌-◌, ◌^◌, ◌<◌, ◌≤◌, length, [], ◌∷◌};
-ghost use Rattle.laws.specs.Records.{field, put_from};
-ghost use Rattle.threading_node.specs.Ends.{ends};
-ghost use Rattle.threading_tree.specs.All.{grown_refusal, Walking, TookAll};
-ghost use Rattle.threading_tree.specs.Join.{joined_refusal, Sited, Joinable, JoinedTo};
+ghost use Rattle.std.specs.Prelude.{◌≡◌, ◌+◌, ◌*◌, ◌^◌, ◌<◌, ◌≤◌, length, [], ◌∷◌};
+ghost use Rattle.laws.specs.Records.{field, put_field, put_from};
+ghost use Rattle.threading_node.specs.Ends.{ends, ends_of};
+ghost use Rattle.threading_node.specs.Links.{link_to, Linked};
+ghost use Rattle.threading_tree.specs.All.{Walking, TookAll};
+ghost use Rattle.threading_tree.specs.Join.{Sited, joined, Joinable, JoinedTo};
 ghost use Rattle.threading_tree.specs.Pass.{open_where, take_unless, Stepping, Steps, opening, taking, passing};
 ghost use Rattle.threading_tree.specs.Write.{Writable, Written};
 ghost use Rattle.threading_tree.specs.Read.{Readable, ChildSlot, Summed};
 
+use refusals::Refusal;
 use tables::{NODE_ROW, OPEN};
 use threading_node::{
-    Place, Reached, Step, add_edge, edge_from, edge_to, evidence_count, find_child, first_child,
-    get_and_increment_root, next_sibling, step_refusal,
+    Edge, add_edge, edge_of, evidence_count, find_child, first_child, get_and_increment_root,
+    link_to, next_sibling, slot_at,
 };
 
 // Where the fields of an output row stand.
@@ -52,122 +54,99 @@ fn active_count(active: &[u32], i: usize) -> u32
     active[i * OPEN + STANDING]
 }
 
-#[derive(Clone, Copy)]
-pub enum Grown {
-    Nodes(usize),
-    Refused(u32),
-}
-
-pub fn grown_refusal(r: Grown) -> u32
-    ensures { result ≡ grown_refusal r }
+// The pair i: one active tree stands at the slot.
+fn put_pair(active: &mut [u32], i: usize, slot: usize)
+    requires { (i * 2 + 2 ≤ length active.old) × (slot < 2 ^ 32) }
+    ensures { active.new ≡ joined active.old i slot }
 {
-    match r {
-        Grown::Nodes(_) => 0,
-        Grown::Refused(n) => n,
-    }
+    active[i * OPEN + SLOT] = slot as u32;
+    active[i * OPEN + STANDING] = 1;
 }
 
-// Every active tree of a walk takes the edge (a, b): the first `w` pairs of `active` are the slots where active trees stand, and how many stand there.
+// One more active tree stands at the slot of the pair i.
+fn raise_pair(active: &mut [u32], i: usize)
+    requires { (i * 2 + 2 ≤ length active.old) × (field active.old 2 i 1 + 1 < 2 ^ 32) }
+    ensures { active.new ≡ put_field active.old 2 i 1 (field active.old 2 i 1 + 1) }
+{
+    active[i * OPEN + STANDING] += 1;
+}
+
+// Every active tree of a walk takes the edge: the first `w` pairs of `active` are the slots where active trees stand, and how many stand there.
 pub fn add_edge_to_junction_tree_nodes(
     nodes: &mut [u32],
     active: &mut [u32],
     w: usize,
     n: usize,
     cap: usize,
-    a: u32,
-    b: u32,
-) -> Grown
-    requires { Walking cap n w (ends a b) nodes.old active.old }
-    ensures { TookAll cap n w (ends a b) nodes.old nodes.new active.old active.new result }
+    edge: Edge,
+) -> Result<usize, Refusal>
+    requires { Walking cap n w (ends_of edge) nodes.old active.old }
+    ensures { TookAll cap n w (ends_of edge) nodes.old nodes.new active.old active.new result }
 {
     let mut k = n;
-    let mut i: usize = 0;
-    while i < w {
+    for i in 0..w {
         let s = active_slot(active, i);
         let m = active_count(active, i);
-        let r = add_edge(nodes, k, cap, s, a, b, m);
-        let Step::Next(st) = r else {
-            return Grown::Refused(step_refusal(r));
+        let r = add_edge(nodes, k, cap, s, edge, m);
+        let Ok(st) = r else {
+            return Err(r.unwrap_err());
         };
         active[i * OPEN + SLOT] = st.at as u32;
         k = st.nodes;
-        i += 1;
     }
-    Grown::Nodes(k)
+    Ok(k)
 }
 
-// How many nodes there are, how many pairs of `active` are used, and the slot of the root that was opened.
+// How many nodes there are, how many pairs of `active` are used, and the slot of the root of the vertex where the walk stands, if it has a tree.
 #[derive(Clone, Copy)]
 pub struct ThreadingState {
     pub nodes: usize,
     pub groups: usize,
-    pub root: usize,
+    pub root: Option<usize>,
 }
 
-#[derive(Clone, Copy)]
-pub enum Joined {
-    Next(ThreadingState),
-    Refused(u32),
-}
-
-pub fn joined_refusal(r: Joined) -> u32
-    ensures { result ≡ joined_refusal r }
-{
-    match r {
-        Joined::Next(_) => 0,
-        Joined::Refused(n) => n,
-    }
-}
-
-// The first of the first `w` pairs of `active` that stands at slot `at`, or `w`.
-fn find_active(active: &[u32], w: usize, at: usize) -> usize
+// The first of the first `w` pairs of `active` that stands at slot `at`.
+fn find_active(active: &[u32], w: usize, at: usize) -> Option<usize>
     requires { w * 2 ≤ length active.now }
     ensures { Sited active.now w at result }
 {
-    let mut i: usize = 0;
-    while i < w {
+    for i in 0..w {
         if active_slot(active, i) == at {
-            return i;
+            return Some(i);
         }
-        i += 1;
     }
-    i
+    None
 }
 
-// The tree of v is opened in a walk with `w` pairs: its root joins them, or its pair gains one. `root` is the slot of its root, or 0.
+// The tree of v is opened in a walk: its root joins the pairs, or its pair gains one. `held.root` is the slot of its root, if there is one.
 pub fn add_tree_if_necessary(
     nodes: &mut [u32],
     active: &mut [u32],
-    w: usize,
-    n: usize,
+    held: ThreadingState,
     cap: usize,
     v: u32,
-    root: usize,
-) -> Joined
-    requires { Joinable cap n v root w nodes.old active.old }
-    ensures { JoinedTo cap n v root w nodes.old nodes.new active.old active.new result }
+) -> Result<ThreadingState, Refusal>
+    requires { Joinable cap held.nodes v held.root held.groups nodes.old active.old }
+    ensures { JoinedTo cap held.nodes v held.root held.groups nodes.old nodes.new active.old active.new result }
 {
-    let r = get_and_increment_root(nodes, n, cap, v, root);
-    let Step::Next(st) = r else {
-        return Joined::Refused(step_refusal(r));
+    let w = held.groups;
+    let r = get_and_increment_root(nodes, held.nodes, cap, v, held.root);
+    let Ok(st) = r else {
+        return Err(r.unwrap_err());
     };
-    let at = st.at;
-    let i = find_active(active, w, at);
-    if i < w {
-        let more = active_count(active, i) + 1;
-        active[i * OPEN + STANDING] = more;
-        return Joined::Next(ThreadingState {
-            nodes: st.nodes,
-            groups: w,
-            root: at,
-        });
-    }
-    active[w * OPEN + SLOT] = at as u32;
-    active[w * OPEN + STANDING] = 1;
-    Joined::Next(ThreadingState {
+    let opened = ThreadingState {
         nodes: st.nodes,
+        groups: w,
+        root: Some(st.at),
+    };
+    if let Some(i) = find_active(active, w, st.at) {
+        raise_pair(active, i);
+        return Ok(opened);
+    }
+    put_pair(active, w, st.at);
+    Ok(ThreadingState {
         groups: w + 1,
-        root: at,
+        ..opened
     })
 }
 
@@ -181,132 +160,132 @@ pub fn open_where(
     cap: usize,
     v: u32,
     warrants: bool,
-) -> Joined
+) -> Result<ThreadingState, Refusal>
     requires { Stepping cap (ends v v) 1 held nodes.old active.old }
     ensures { Steps (open_where warrants v) opening cap v held nodes.old nodes.new active.old active.new result }
 {
     if warrants {
-        return add_tree_if_necessary(nodes, active, held.groups, held.nodes, cap, v, held.root);
+        return add_tree_if_necessary(nodes, active, held, cap, v);
     }
-    Joined::Next(held)
+    Ok(held)
 }
 
-// Every active tree takes the edge (a, b), unless it is the only one that leaves its vertex.
+// Every active tree takes the edge, unless it is the only one that leaves its vertex.
 pub fn take_unless(
     nodes: &mut [u32],
     active: &mut [u32],
     held: ThreadingState,
     cap: usize,
-    a: u32,
-    b: u32,
+    edge: Edge,
     only: bool,
-) -> Joined
-    requires { Stepping cap (ends a b) 0 held nodes.old active.old }
-    ensures { Steps (take_unless only (ends a b)) taking cap a held nodes.old nodes.new active.old active.new result }
+) -> Result<ThreadingState, Refusal>
+    requires { Stepping cap (ends_of edge) 0 held nodes.old active.old }
+    ensures { Steps (take_unless only (ends_of edge)) taking cap edge.from held nodes.old nodes.new active.old active.new result }
 {
     if only {
-        return Joined::Next(held);
+        return Ok(held);
     }
-    let r = add_edge_to_junction_tree_nodes(nodes, active, held.groups, held.nodes, cap, a, b);
-    let Grown::Nodes(k) = r else {
-        return Joined::Refused(grown_refusal(r));
+    let r = add_edge_to_junction_tree_nodes(nodes, active, held.groups, held.nodes, cap, edge);
+    let Ok(k) = r else {
+        return Err(r.unwrap_err());
     };
-    Joined::Next(ThreadingState {
-        nodes: k,
-        groups: held.groups,
-        root: held.root,
-    })
+    Ok(ThreadingState { nodes: k, ..held })
 }
 
-// The walk passes the edge (a, b): `held.root` is the slot of the root of a, or 0, before and after.
+// The walk passes the edge: `held.root` is the slot of the root of the vertex that it leaves, before and after.
 pub fn pass_edge(
     nodes: &mut [u32],
     active: &mut [u32],
     held: ThreadingState,
     cap: usize,
-    a: u32,
-    b: u32,
+    edge: Edge,
     warrants: bool,
     only: bool,
-) -> Joined
-    requires { Stepping cap (ends a b) 2 held nodes.old active.old }
-    ensures { Steps (λ w. take_unless only (ends a b) (open_where warrants a w)) passing cap a held nodes.old nodes.new active.old active.new result }
+) -> Result<ThreadingState, Refusal>
+    requires { Stepping cap (ends_of edge) 2 held nodes.old active.old }
+    ensures { Steps (λ w. take_unless only (ends_of edge) (open_where warrants edge.from w)) passing cap edge.from held nodes.old nodes.new active.old active.new result }
 {
-    let r = open_where(nodes, active, held, cap, a, warrants);
-    let Joined::Next(h) = r else {
+    let r = open_where(nodes, active, held, cap, edge.from, warrants);
+    let Ok(h) = r else {
         return r;
     };
-    take_unless(nodes, active, h, cap, a, b, only)
+    take_unless(nodes, active, h, cap, edge, only)
 }
 
 // ---- the rows of the nodes
 
-fn put_row(out: &mut [u32], row: usize, a: u32, b: u32, c: u32, d: u32)
+fn put_row(out: &mut [u32], row: usize, edge: Edge, count: u32, depth: u32)
     requires { row * 4 + 4 ≤ length out.old }
-    ensures { out.new ≡ put_from out.old 4 row 0 (a ∷ b ∷ c ∷ d ∷ []) }
+    ensures { out.new ≡ put_from out.old 4 row 0 (edge.from ∷ edge.to ∷ count ∷ depth ∷ []) }
 {
-    out[row * NODE_ROW + FROM] = a;
-    out[row * NODE_ROW + TO] = b;
-    out[row * NODE_ROW + COUNT] = c;
-    out[row * NODE_ROW + DEPTH] = d;
+    out[row * NODE_ROW + FROM] = edge.from;
+    out[row * NODE_ROW + TO] = edge.to;
+    out[row * NODE_ROW + COUNT] = count;
+    out[row * NODE_ROW + DEPTH] = depth;
 }
 
-// All nodes, depth first in edge order, a row each: edge, count, depth. `stack` holds, for each depth above, the sibling to go on with.
-pub fn write_nodes(nodes: &[u32], stack: &mut [u32], out: &mut [u32], n: usize, cap: usize)
-    requires { Writable cap n nodes.now stack.old out.old }
-    ensures { Written n nodes.now stack.old stack.new out.old out.new }
-{
-    let mut link = first_child(nodes, 0);
-    let mut depth: usize = 0;
-    let mut row: usize = 0;
-    loop {
-        if link == 0 {
-            if depth == 0 {
-                return;
-            }
-            depth -= 1;
-            link = stack[depth] as usize;
-            continue;
+// ---- reading the finished trees
+
+// The trees of all walks: the table of nodes, how many nodes it has, and for how many it has room.
+#[derive(Clone, Copy)]
+pub struct Trees<'a> {
+    pub nodes: &'a [u32],
+    pub count: usize,
+    pub cap: usize,
+}
+
+impl<'a> Trees<'a> {
+    // All nodes, depth first in edge order, a row each: edge, count, depth. `stack` holds, for each depth above, the link to the sibling to go on with.
+    pub fn write_nodes(self, stack: &mut [u32], out: &mut [u32])
+        requires { Writable self.cap self.count self.nodes.now stack.old out.old }
+        ensures { Written self.entry.count self.entry.nodes.now stack.old stack.new out.old out.new }
+    {
+        let mut at = first_child(self.nodes, 0);
+        let mut depth: usize = 0;
+        let mut row: usize = 0;
+        // Each turn goes down to a child, to a sibling, or up by one.
+        loop {
+            let Some(s) = at else {
+                if depth == 0 {
+                    return;
+                }
+                depth -= 1;
+                at = slot_at(stack[depth]);
+                continue;
+            };
+            put_row(
+                out,
+                row,
+                edge_of(self.nodes, s),
+                evidence_count(self.nodes, s),
+                depth as u32,
+            );
+            stack[depth] = link_to(next_sibling(self.nodes, s));
+            at = first_child(self.nodes, s);
+            depth += 1;
+            row += 1;
         }
-        put_row(
-            out,
-            row,
-            edge_from(nodes, link),
-            edge_to(nodes, link),
-            evidence_count(nodes, link),
-            depth as u32,
-        );
-        stack[depth] = next_sibling(nodes, link) as u32;
-        link = first_child(nodes, link);
-        depth += 1;
-        row += 1;
     }
-}
 
-// ---- reading the trees in the search
-
-// The slot of the child for the edge (a, b) in the row of siblings that begins at `link`, or 0.
-pub fn child_slot(nodes: &[u32], n: usize, cap: usize, link: usize, a: u32, b: u32) -> usize
-    requires { Readable cap n nodes.now link }
-    ensures { ChildSlot n nodes.now link (ends a b) result }
-{
-    let place = find_child(nodes, link, a, b);
-    match place {
-        Place::Here(j) => j,
-        Place::Gap(u, v) => 0,
+    // The slot of the child for the edge in the row of siblings that begins at `start`.
+    pub fn child_slot(self, start: Option<usize>, edge: Edge) -> Option<usize>
+        requires { Readable self.cap self.count self.nodes.now (link_to start) × Linked start }
+        ensures { ChildSlot self.entry.count self.entry.nodes.now (link_to start) (ends_of edge) result }
+    {
+        find_child(self.nodes, start, edge).ok()
     }
-}
 
-// The counts of the row of siblings that begins at `link`, added.
-pub fn total_out_for_branch(nodes: &[u32], n: usize, cap: usize, link: usize) -> usize
-    requires { Readable cap n nodes.now link }
-    ensures { Summed n nodes.now link result }
-{
-    let mut total: usize = 0;
-    let mut at = link;
-    while at != 0 {
-        total += evidence_count(nodes, at) as usize;
-        at = next_sibling(nodes, at);
+    // The counts of the row of siblings that begins at `start`, added.
+    pub fn total_out_for_branch(self, start: Option<usize>) -> usize
+        requires { Readable self.cap self.count self.nodes.now (link_to start) × Linked start }
+        ensures { Summed self.entry.count self.entry.nodes.now (link_to start) result }
+    {
+        let mut total: usize = 0;
+        let mut at = start;
+        while let Some(s) = at {
+            total += evidence_count(self.nodes, s) as usize;
+            at = next_sibling(self.nodes, s);
+        }
+        total
     }
-    total
 }

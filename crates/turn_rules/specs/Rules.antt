@@ -1,19 +1,12 @@
 -- The rules of a turn that are told from numbers alone, and what their tests tell. Assumes nothing.
-use Rattle.std.specs.Prelude.{◌≡◌, Bool, true, false, not, cond, ℕ, ◌+◌, ◌-◌, ◌<◌, ◌≤◌, eqb, leb, ltb}
-use Rattle.std.proofs.Common.{sym, ◌∙◌, eq-eqb, ne_eqb, ltb-true, ltb-false, leb-true, leb-false}
+use Rattle.std.specs.Prelude.{◌≡◌, Bool, true, false, not, ℕ, ◌+◌, ◌-◌, ◌<◌, ◌≤◌, leb, ltb}
+use Rattle.std.proofs.Common.{sym, ◌∙◌, ltb-true, ltb-false, leb-true, leb-false}
 use Rattle.std.proofs.lemmas.Bool.{not-true, not-false}
 use Rattle.search_state.specs.declared.Progress.{Progress}
 
 -- the first record that is still to be pushed: a path that has closed is not
 abbrev pub first_new : Progress → Progress → ℕ
 first_new p p' = p.records + (p'.closed - p.closed)
-
--- the two limits, by the test that the code makes
-pub some-limit : (n w : ℕ) → n ≡ 0 → ltb 1000 w ≡ ltb (cond (eqb n 0) 1000 10000) w
-some-limit n w h = sym (rw (eq-eqb n 0 h))
-
-pub other-limit : (n w : ℕ) → (n ≡ 0 → ⊥) → ltb 10000 w ≡ ltb (cond (eqb n 0) 1000 10000) w
-other-limit n w h = sym (rw (ne_eqb n 0 h))
 
 -- as many have closed as are asked for, or fewer
 pub are-met : {b : Bool} {asked closed : ℕ} → b ≡ leb asked closed → not b ≡ false → asked ≤ closed

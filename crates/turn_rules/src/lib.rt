@@ -1,12 +1,10 @@
-// The rules of a turn that are told from numbers alone, and the number of a step that is refused.
+// The rules of a turn that are told from numbers alone.
 #![tactic(auto)]
 
 ghost use Rattle.std.specs.Prelude.{◌≡◌, cond, ◌≤◌, eqb, leb, ltb};
 ghost use Rattle.turn_rules.specs.Rules.{first_new};
-ghost use Rattle.turn_rules.specs.Answers.{extend_refusal, step_refusal};
 
-use path_extensions::Extended;
-use search_state::{Progress, Step};
+use search_state::Progress;
 
 // Whether as many paths have closed as are asked for.
 pub fn all_closed(closed: usize, asked: usize) -> bool
@@ -39,22 +37,4 @@ pub fn first_new(p: Progress, q: Progress) -> u32
 {
     let closed = q.closed - p.closed;
     p.records + closed as u32
-}
-
-pub fn extend_refusal(a: Extended) -> u32
-    ensures { result ≡ extend_refusal a }
-{
-    match a {
-        Extended::Made(_) => 0,
-        Extended::Refused(n) => n,
-    }
-}
-
-pub fn step_refusal(a: Step) -> u32
-    ensures { result ≡ step_refusal a }
-{
-    match a {
-        Step::On(_) => 0,
-        Step::Refused(n) => n,
-    }
 }

@@ -27,5 +27,7 @@ module _ {good : ℕ → ℕ → Bool} {bs qs : List ℕ} {p e q : ℕ} (r : Run
   pub running-stop : q < e → (t : Bool) → t ≡ good (get_or bs q 0) (get_or qs q 0) → t ≡ false → RunEnd good bs qs p e q
   running-stop l t h n = record { from = r.from; to = r.to; all = r.all; stop = λ z. sym h ∙ n }
 
-  pub running-end : e ≤ q → RunEnd good bs qs p e q
-  running-end l = record { from = r.from; to = r.to; all = r.all; stop = λ z. absurd (omega arith) }
+  pub running-end : e ≤ q → RunEnd good bs qs p e e
+  running-end l =
+      let z : q ≡ e = (let y = r.to in omega arith) in
+      record { from = (let y = r.from in omega arith); to = omega arith; all = rw z at r.all; stop = λ y. absurd (omega arith) }

@@ -2,34 +2,27 @@
 #![tactic(auto)]
 
 ghost use Rattle.std.specs.Prelude.{◌≡◌, ◌≤◌, length};
-ghost use Rattle.definition.specs.Limits.{is_base};
 ghost use Rattle.definition.specs.Stretch.{usable};
 ghost use Rattle.usable_stretches.specs.Runs.{RunEnd};
 
-fn is_base_usable(b: u8) -> bool
-    ensures { result ≡ is_base b }
-{
-    b == b'A' || b == b'C' || b == b'G' || b == b'T' || b == b'N'
-}
+use samples::{Sample, is_base};
 
 // Whether a read's byte b, of quality q, is usable.
 fn is_usable(quality: u8, b: u8, q: u8) -> bool
     ensures { result ≡ usable quality b q }
 {
-    is_base_usable(b) && quality <= q
+    is_base(b) && quality <= q
 }
 
-// Where the usable run at place p of the bases ends: at the next unusable byte, or at `end`.
-pub fn run_end(bases: &[u8], qualities: &[u8], quality: u8, p: usize, end: usize) -> usize
-    requires { (p ≤ end) × (end ≤ length bases.now) × (end ≤ length qualities.now) }
-    ensures { RunEnd (usable quality) bases.now qualities.now p end result }
+// Where the usable run at place p of the sample's bases ends: at the next unusable byte, or at `end`.
+pub fn run_end(sample: Sample, p: usize, end: usize) -> usize
+    requires { (p ≤ end) × (end ≤ length sample.text.bases.now) × (end ≤ length sample.qualities.now) }
+    ensures { RunEnd (usable sample.entry.quality) sample.entry.text.bases.now sample.entry.qualities.now p end result }
 {
-    let mut q = p;
-    while q < end {
-        if !is_usable(quality, bases[q], qualities[q]) {
+    for q in p..end {
+        if !is_usable(sample.quality, sample.text.bases[q], sample.qualities[q]) {
             return q;
         }
-        q += 1;
     }
-    q
+    end
 }

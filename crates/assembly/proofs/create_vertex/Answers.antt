@@ -1,4 +1,4 @@
-use mathlib.Core.Path.{refl}
+use Rattle.std.proofs.Common.{refl}
 use Rattle.assembly.specs.Kmers.{born}
 use Rattle.assembly.proofs.create_vertex.Goals as goal
 

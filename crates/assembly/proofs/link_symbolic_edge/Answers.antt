@@ -1,4 +1,4 @@
-use mathlib.Core.Path.{refl}
+use Rattle.std.proofs.Common.{refl}
 use Rattle.assembly.specs.Symbolic.{linked}
 use Rattle.assembly.proofs.link_symbolic_edge.Goals as goal
 

@@ -1,9 +1,8 @@
-use Prim.Native.Nat.{◌^◌}
-use Rattle.fork_offers.specs.Support.{Totalling, out_left}
+use Rattle.out_edges.specs.Walked.{Over}
+use Rattle.fork_offers.specs.Support.{Totalling}
 use Rattle.fork_offers.proofs.total_support.Given as goal
 
-abbrev pub invariant-loop-r : goal.invariant-loop-r
-invariant-loop-r l = Totalling l.vertices l.edges l.m l.v l.r l.total
-
-abbrev pub decreases-loop-r : goal.decreases-loop-r
-decreases-loop-r l = out_left (2 ^ 32) l.edges l.r
+abbrev pub invariant-loop-i : goal.invariant-loop-i
+invariant-loop-i l =
+    (goal.iterator-loop-i).can_next l.i-iterator × (goal.iterator-loop-i).is_finite l.i-iterator × Over l.graph l.v l.i-iterator
+    × Totalling l.graph.vertices.now l.graph.edges.now l.graph.count l.v l.i-iterator.from l.total

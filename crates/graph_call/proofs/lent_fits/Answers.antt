@@ -1,28 +1,12 @@
--- `lent_fits` meets its contract: the first slice shorter than told decides. Assumes nothing.
-use mathlib.Core.Path.{◌∙◌}
-use Rattle.limits.specs.Long.{is-short, no_short, none-short}
+-- `lent_fits` meets its contract: the tests of all slices decide together. Assumes nothing.
+use Rattle.std.proofs.Common.{rules}
+use Rattle.definition.specs.Limits.{is_long_enough}
 use Rattle.graph_call.proofs.lent_fits.Goals as goal
 
-pub returns-then-l-told : goal.returns-then-l-told
-returns-then-l-told c = is-short _ _ _ _ c.if-l-told.true
+pub returns-then-tables-l-4 : goal.returns-then-tables-l-4
+unfolding is_long_enough
+returns-then-tables-l-4 c = search rules
 
-pub returns-then-l-told-2 : goal.returns-then-l-told-2
-returns-then-l-told-2 c = is-short _ _ _ _ c.if-l-told-2.true ∙ no_short _ _ _ _ c.if-l-told.false
-
-pub returns-then-l-tables : goal.returns-then-l-tables
-returns-then-l-tables c = is-short _ _ _ _ c.if-l-tables.true ∙ no_short _ _ _ _ c.if-l-told-2.false ∙ no_short _ _ _ _ c.if-l-told.false
-
-pub returns-then-l-tables-2 : goal.returns-then-l-tables-2
-returns-then-l-tables-2 c = is-short _ _ _ _ c.if-l-tables-2.true ∙ no_short _ _ _ _ c.if-l-tables.false ∙ no_short _ _ _ _ c.if-l-told-2.false ∙ no_short _ _ _ _ c.if-l-told.false
-
-pub returns-then-l-tables-3 : goal.returns-then-l-tables-3
-returns-then-l-tables-3 c = is-short _ _ _ _ c.if-l-tables-3.true ∙ no_short _ _ _ _ c.if-l-tables-2.false ∙ no_short _ _ _ _ c.if-l-tables.false ∙ no_short _ _ _ _ c.if-l-told-2.false ∙ no_short _ _ _ _ c.if-l-told.false
-
-pub returns-then-l-tables-4 : goal.returns-then-l-tables-4
-returns-then-l-tables-4 c = is-short _ _ _ _ c.if-l-tables-4.true ∙ no_short _ _ _ _ c.if-l-tables-3.false ∙ no_short _ _ _ _ c.if-l-tables-2.false ∙ no_short _ _ _ _ c.if-l-tables.false ∙ no_short _ _ _ _ c.if-l-told-2.false ∙ no_short _ _ _ _ c.if-l-told.false
-
-pub returns-then-l-tables-5 : goal.returns-then-l-tables-5
-returns-then-l-tables-5 c = is-short _ _ _ _ c.if-l-tables-5.true ∙ no_short _ _ _ _ c.if-l-tables-4.false ∙ no_short _ _ _ _ c.if-l-tables-3.false ∙ no_short _ _ _ _ c.if-l-tables-2.false ∙ no_short _ _ _ _ c.if-l-tables.false ∙ no_short _ _ _ _ c.if-l-told-2.false ∙ no_short _ _ _ _ c.if-l-told.false
-
-pub returns : goal.returns
-returns c = none-short ∙ no_short _ _ _ _ c.if-l-tables-5.false ∙ no_short _ _ _ _ c.if-l-tables-4.false ∙ no_short _ _ _ _ c.if-l-tables-3.false ∙ no_short _ _ _ _ c.if-l-tables-2.false ∙ no_short _ _ _ _ c.if-l-tables.false ∙ no_short _ _ _ _ c.if-l-told-2.false ∙ no_short _ _ _ _ c.if-l-told.false
+pub returns-else-tables-l-4 : goal.returns-else-tables-l-4
+unfolding is_long_enough
+returns-else-tables-l-4 c = search rules

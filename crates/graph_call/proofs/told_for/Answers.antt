@@ -4,6 +4,3 @@ use Rattle.graph_call.proofs.told_for.Goals as goal
 
 pub lengths_within-requires : goal.lengths_within-requires
 lengths_within-requires c = told-within _ _ c.requires
-
-pub returns : goal.returns
-returns c = c.lengths_within.ensures

@@ -1,10 +1,6 @@
-use mathlib.Core.List.{◌++◌}
-use Prim.Native.Nat.{◌-◌}
+use Rattle.samples.specs.Handed.{text_of}
 use Rattle.assembly.specs.Kmers.{Alike}
 use Rattle.graph_kmers.proofs.same_kmer.Given as goal
 
 abbrev pub invariant-loop-j : goal.invariant-loop-j
-invariant-loop-j l = Alike (l.reference ++ l.bases) l.k l.p l.q l.j
-
-abbrev pub decreases-loop-j : goal.decreases-loop-j
-decreases-loop-j l = l.k - l.j
+invariant-loop-j l = Alike (text_of l.text) l.k l.p l.q l.j

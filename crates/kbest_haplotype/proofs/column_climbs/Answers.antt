@@ -1,14 +1,10 @@
--- `column_climbs` meets its contract. The invariant: what is left to read decides as the whole does, and the last entry read is finite.
--- The measure is what is left of the length. Assumes nothing.
-use borrow.Author.Tests.{not-true, not-false}
+-- `column_climbs` meets its contract. The invariant: what is left to read decides as the whole does, and the last entry read is finite. Assumes nothing.
+use Rattle.std.proofs.lemmas.Bool.{not-true, not-false}
 use Rattle.kbest_haplotype.specs.Columns.{climbing-start, climbing-stop, climbing-next, climbing-end}
 use Rattle.kbest_haplotype.proofs.column_climbs.Goals as goal
 
 pub loop-place-init : goal.loop-place-init
 loop-place-init c = climbing-start _
-
-pub climbs-requires : goal.climbs-requires
-climbs-requires c = tt
 
 pub returns-then-not-climbs : goal.returns-then-not-climbs
 returns-then-not-climbs c = climbing-stop _ _ _ c.loop-place.invariant c.loop-place-test.true _ c.climbs.ensures (not-true _ c.if-not-climbs.true-raw)

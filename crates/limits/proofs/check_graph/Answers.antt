@@ -1,37 +1,29 @@
 -- `check_graph` meets its contract: the rules of the sample, then 5 and 7. Assumes nothing.
-use mathlib.Core.Path.{◌∙◌}
-use Rattle.limits.specs.Tests.{told-no, told-yes}
+use Rattle.std.proofs.Common.{sym, ◌∙◌}
+use Rattle.refusals.specs.Numbers.{number-positive, passed-up}
 use Rattle.limits.specs.Rules.{all_hold, broken, holds, first-broken, first-hold, sample-numbered, graph-rules}
 use Rattle.limits.proofs.check_graph.Goals as goal
 
-pub check_sample-refusal-requires : goal.check_sample-refusal-requires
-check_sample-refusal-requires c = tt
+pub returns-in_err-check_sample : goal.returns-in_err-check_sample
+returns-in_err-check_sample c = λ told lent e. passed-up _ _ _ c.from_residual.ensures.1 (first-broken _ _ _ c.in_err-check_sample.ensures (number-positive _) ∙ graph-rules _ _ told lent)
 
-pub returns-then-refusal-gt0 : goal.returns-then-refusal-gt0
-returns-then-refusal-gt0 c =
-    λ q told lent e. first-broken _ _ _ (c.check_sample-refusal.ensures q) c.if-refusal-gt0.true
-    ∙ graph-rules _ _ told lent
-
-pub graph_maxima_fit-maxima_good-requires : goal.graph_maxima_fit-maxima_good-requires
-graph_maxima_fit-maxima_good-requires c = tt
-
-pub returns-then-not-maxima_good : goal.returns-then-not-maxima_good
-returns-then-not-maxima_good c =
-    λ q told lent e. broken _ _ _ (told-no _ _ c.graph_maxima_fit-maxima_good.ensures c.if-not-maxima_good.true-raw)
-    ∙ first-hold _ _ _ (sample-numbered _) (c.check_sample-refusal.ensures q) c.if-refusal-gt0.false
+pub returns-then-not-graph_maxima_fit : goal.returns-then-not-graph_maxima_fit
+returns-then-not-graph_maxima_fit c =
+    λ told lent e. broken _ _ _ (sym c.if-not-graph_maxima_fit.ensures)
+    ∙ first-hold _ _ (sample-numbered _) c.in_ok-check_sample.ensures
     ∙ graph-rules _ _ told lent
 
 pub returns-then-long_enough : goal.returns-then-long_enough
 returns-then-long_enough c =
-    λ q told lent e. all_hold
+    λ told lent e. all_hold
     ∙ holds _ _ _ (e ∙ c.if-long_enough.true)
-    ∙ holds _ _ _ (told-yes _ _ c.graph_maxima_fit-maxima_good.ensures c.if-not-maxima_good.false-raw)
-    ∙ first-hold _ _ _ (sample-numbered _) (c.check_sample-refusal.ensures q) c.if-refusal-gt0.false
+    ∙ holds _ _ _ (sym c.if-not-graph_maxima_fit.ensures)
+    ∙ first-hold _ _ (sample-numbered _) c.in_ok-check_sample.ensures
     ∙ graph-rules _ _ told lent
 
 pub returns : goal.returns
 returns c =
-    λ q told lent e. broken _ _ _ (e ∙ c.if-long_enough.false)
-    ∙ holds _ _ _ (told-yes _ _ c.graph_maxima_fit-maxima_good.ensures c.if-not-maxima_good.false-raw)
-    ∙ first-hold _ _ _ (sample-numbered _) (c.check_sample-refusal.ensures q) c.if-refusal-gt0.false
+    λ told lent e. broken _ _ _ (e ∙ c.if-long_enough.false)
+    ∙ holds _ _ _ (sym c.if-not-graph_maxima_fit.ensures)
+    ∙ first-hold _ _ (sample-numbered _) c.in_ok-check_sample.ensures
     ∙ graph-rules _ _ told lent

@@ -2,14 +2,14 @@
 use Rattle.limits.specs.Loops.{rising-start, rising-stop, rising-next, rising-end}
 use Rattle.limits.proofs.ends_rise.Goals as goal
 
-pub loop-read-init : goal.loop-read-init
-loop-read-init c = rising-start _
+pub loop-end-init : goal.loop-end-init
+loop-end-init c = rising-start _
 
 pub returns-then-end-last : goal.returns-then-end-last
-returns-then-end-last c = rising-stop _ _ _ c.loop-read.invariant c.loop-read-test.true c.if-end-last.true
+returns-then-end-last c = rising-stop _ _ _ c.loop-end.invariant c.loop-end-test.true c.if-end-last.true
 
-pub loop-read-preserved : goal.loop-read-preserved
-loop-read-preserved c = rising-next _ _ _ c.loop-read.invariant c.loop-read-test.true c.if-end-last.false
+pub loop-end-preserved : goal.loop-end-preserved
+loop-end-preserved c = rising-next _ _ _ c.loop-end.invariant c.loop-end-test.true c.if-end-last.false
 
 pub returns : goal.returns
-returns c = rising-end _ _ _ c.loop-read.invariant c.loop-read-test.false
+returns c = rising-end _ _ _ c.loop-end.invariant c.loop-end-test.false

@@ -1,7 +1,8 @@
 -- `list_within` meets its contract: the work over the parts told, each of which is cleared afterwards. Assumes nothing.
-use mathlib.Core.Path.{sym, ◌∙◌}
-use lib.Seq.{length-take-le, length_front}
-use Rattle.list_interface.specs.Handed.{input_for}
+use Rattle.std.proofs.Common.{sym, ◌∙◌, length-take-le}
+use Rattle.std.proofs.Math.Seq.{length_front}
+use Rattle.list_interface.specs.Handed.{handed}
+use Rattle.std.specs.Float.Ieee.{of_bits, of_fields}
 use Rattle.list_call.specs.Outcome.{float_zero}
 use Rattle.list_call.specs.Parts.{in-limits, room-told, part-kept, part-cleared, parts-lent, all-cleared}
 use Rattle.list_call.proofs.list_within.Goals as goal
@@ -212,50 +213,50 @@ clear-requires-6 c =
     let w = c.work-r in
     part-kept c.args.w_paths.now w.new.w_paths k.result.paths w.auto.w_paths m.paths
 
-pub clear_scores-requires : goal.clear_scores-requires
-clear_scores-requires c =
-    let k = c.workspace_told-told in
-    let m = room-told _ _ _ c.requires _ k.ensures in
-    let w = c.work-r in
-    part-kept c.args.w_scores.now w.new.w_scores k.result.scores w.auto.w_scores m.scores
-
-pub clear_slots-requires : goal.clear_slots-requires
-clear_slots-requires c =
-    let k = c.workspace_told-told in
-    let m = room-told _ _ _ c.requires _ k.ensures in
-    let w = c.work-r in
-    part-kept c.args.w_active.now w.new.w_active k.result.active w.auto.w_active m.active
-
 pub clear-requires-7 : goal.clear-requires-7
 clear-requires-7 c =
     let k = c.workspace_told-told in
     let m = room-told _ _ _ c.requires _ k.ensures in
     let w = c.work-r in
-    part-kept c.args.w_queue.now w.new.w_queue k.result.queue w.auto.w_queue m.queue
+    part-kept c.args.w_scores.now w.new.w_scores k.result.scores w.auto.w_scores m.scores
 
 pub clear-requires-8 : goal.clear-requires-8
 clear-requires-8 c =
     let k = c.workspace_told-told in
     let m = room-told _ _ _ c.requires _ k.ensures in
     let w = c.work-r in
-    part-kept c.args.w_closed.now w.new.w_closed k.result.closed w.auto.w_closed m.closed
+    part-kept c.args.w_active.now w.new.w_active k.result.active w.auto.w_active m.active
 
 pub clear-requires-9 : goal.clear-requires-9
 clear-requires-9 c =
     let k = c.workspace_told-told in
     let m = room-told _ _ _ c.requires _ k.ensures in
     let w = c.work-r in
-    part-kept c.args.w_order.now w.new.w_order k.result.order w.auto.w_order m.order
+    part-kept c.args.w_queue.now w.new.w_queue k.result.queue w.auto.w_queue m.queue
 
 pub clear-requires-10 : goal.clear-requires-10
 clear-requires-10 c =
     let k = c.workspace_told-told in
     let m = room-told _ _ _ c.requires _ k.ensures in
     let w = c.work-r in
-    part-kept c.args.w_marks.now w.new.w_marks k.result.marks w.auto.w_marks m.marks
+    part-kept c.args.w_closed.now w.new.w_closed k.result.closed w.auto.w_closed m.closed
 
 pub clear-requires-11 : goal.clear-requires-11
 clear-requires-11 c =
+    let k = c.workspace_told-told in
+    let m = room-told _ _ _ c.requires _ k.ensures in
+    let w = c.work-r in
+    part-kept c.args.w_order.now w.new.w_order k.result.order w.auto.w_order m.order
+
+pub clear-requires-12 : goal.clear-requires-12
+clear-requires-12 c =
+    let k = c.workspace_told-told in
+    let m = room-told _ _ _ c.requires _ k.ensures in
+    let w = c.work-r in
+    part-kept c.args.w_marks.now w.new.w_marks k.result.marks w.auto.w_marks m.marks
+
+pub clear-requires-13 : goal.clear-requires-13
+clear-requires-13 c =
     let k = c.workspace_told-told in
     let m = room-told _ _ _ c.requires _ k.ensures in
     let w = c.work-r in
@@ -283,81 +284,82 @@ pub shape_of-w_vertices : goal.shape_of-w_vertices
 shape_of-w_vertices c =
     let k = c.workspace_told-told in
     let w = c.work-r in
-    c.clear.auto.words ∙ length_front c.args.w_vertices.now w.new.w_vertices k.result.vertices w.auto.w_vertices
+    c.clear.auto.elements ∙ length_front c.args.w_vertices.now w.new.w_vertices k.result.vertices w.auto.w_vertices
 
 pub shape_of-w_edges : goal.shape_of-w_edges
 shape_of-w_edges c =
     let k = c.workspace_told-told in
     let w = c.work-r in
-    c.clear-2.auto.words ∙ length_front c.args.w_edges.now w.new.w_edges k.result.edges w.auto.w_edges
+    c.clear-2.auto.elements ∙ length_front c.args.w_edges.now w.new.w_edges k.result.edges w.auto.w_edges
 
 pub shape_of-w_index : goal.shape_of-w_index
 shape_of-w_index c =
     let k = c.workspace_told-told in
     let w = c.work-r in
-    c.clear-3.auto.words ∙ length_front c.args.w_index.now w.new.w_index k.result.index w.auto.w_index
+    c.clear-3.auto.elements ∙ length_front c.args.w_index.now w.new.w_index k.result.index w.auto.w_index
 
 pub shape_of-w_nodes : goal.shape_of-w_nodes
 shape_of-w_nodes c =
     let k = c.workspace_told-told in
     let w = c.work-r in
-    c.clear-4.auto.words ∙ length_front c.args.w_nodes.now w.new.w_nodes k.result.nodes w.auto.w_nodes
+    c.clear-4.auto.elements ∙ length_front c.args.w_nodes.now w.new.w_nodes k.result.nodes w.auto.w_nodes
 
 pub shape_of-w_targets : goal.shape_of-w_targets
 shape_of-w_targets c =
     let k = c.workspace_told-told in
     let w = c.work-r in
-    c.clear-5.auto.words ∙ length_front c.args.w_targets.now w.new.w_targets k.result.targets w.auto.w_targets
+    c.clear-5.auto.elements ∙ length_front c.args.w_targets.now w.new.w_targets k.result.targets w.auto.w_targets
 
 pub shape_of-w_paths : goal.shape_of-w_paths
 shape_of-w_paths c =
     let k = c.workspace_told-told in
     let w = c.work-r in
-    c.clear-6.auto.words ∙ length_front c.args.w_paths.now w.new.w_paths k.result.paths w.auto.w_paths
+    c.clear-6.auto.elements ∙ length_front c.args.w_paths.now w.new.w_paths k.result.paths w.auto.w_paths
 
 pub shape_of-w_scores : goal.shape_of-w_scores
 shape_of-w_scores c =
     let k = c.workspace_told-told in
     let w = c.work-r in
-    c.clear_scores.auto.scores ∙ length_front c.args.w_scores.now w.new.w_scores k.result.scores w.auto.w_scores
+    c.clear-7.auto.elements ∙ length_front c.args.w_scores.now w.new.w_scores k.result.scores w.auto.w_scores
 
 pub shape_of-w_active : goal.shape_of-w_active
 shape_of-w_active c =
     let k = c.workspace_told-told in
     let w = c.work-r in
-    c.clear_slots.auto.slots ∙ length_front c.args.w_active.now w.new.w_active k.result.active w.auto.w_active
+    c.clear-8.auto.elements ∙ length_front c.args.w_active.now w.new.w_active k.result.active w.auto.w_active
 
 pub shape_of-w_queue : goal.shape_of-w_queue
 shape_of-w_queue c =
     let k = c.workspace_told-told in
     let w = c.work-r in
-    c.clear-7.auto.words ∙ length_front c.args.w_queue.now w.new.w_queue k.result.queue w.auto.w_queue
+    c.clear-9.auto.elements ∙ length_front c.args.w_queue.now w.new.w_queue k.result.queue w.auto.w_queue
 
 pub shape_of-w_closed : goal.shape_of-w_closed
 shape_of-w_closed c =
     let k = c.workspace_told-told in
     let w = c.work-r in
-    c.clear-8.auto.words ∙ length_front c.args.w_closed.now w.new.w_closed k.result.closed w.auto.w_closed
+    c.clear-10.auto.elements ∙ length_front c.args.w_closed.now w.new.w_closed k.result.closed w.auto.w_closed
 
 pub shape_of-w_order : goal.shape_of-w_order
 shape_of-w_order c =
     let k = c.workspace_told-told in
     let w = c.work-r in
-    c.clear-9.auto.words ∙ length_front c.args.w_order.now w.new.w_order k.result.order w.auto.w_order
+    c.clear-11.auto.elements ∙ length_front c.args.w_order.now w.new.w_order k.result.order w.auto.w_order
 
 pub shape_of-w_marks : goal.shape_of-w_marks
 shape_of-w_marks c =
     let k = c.workspace_told-told in
     let w = c.work-r in
-    c.clear-10.auto.words ∙ length_front c.args.w_marks.now w.new.w_marks k.result.marks w.auto.w_marks
+    c.clear-12.auto.elements ∙ length_front c.args.w_marks.now w.new.w_marks k.result.marks w.auto.w_marks
 
 pub shape_of-w_walks : goal.shape_of-w_walks
 shape_of-w_walks c =
     let k = c.workspace_told-told in
     let w = c.work-r in
-    c.clear-11.auto.words ∙ length_front c.args.w_walks.now w.new.w_walks k.result.walks w.auto.w_walks
+    c.clear-13.auto.elements ∙ length_front c.args.w_walks.now w.new.w_walks k.result.walks w.auto.w_walks
 
 pub returns : goal.returns
+unfolding of_bits of_fields
 returns c =
     let k = c.workspace_told-told in
     let m = room-told _ _ _ c.requires _ k.ensures in
@@ -366,22 +368,22 @@ returns c =
       listed = w.ensures;
       tables =
           all-cleared
-          (input_for c.args.a c.args.reference.now c.args.ends.now c.args.bases.now c.args.qualities.now c.args.column.now)
+          (handed c.args.input)
           k.result
           (record { vertices = c.args.w_vertices.now; edges = c.args.w_edges.now; index = c.args.w_index.now; nodes = c.args.w_nodes.now; targets = c.args.w_targets.now; paths = c.args.w_paths.now; scores = c.args.w_scores.now; active = c.args.w_active.now; queue = c.args.w_queue.now; closed = c.args.w_closed.now; order = c.args.w_order.now; marks = c.args.w_marks.now; walks = c.args.w_walks.now })
-          (record { vertices = c.clear.new.words; edges = c.clear-2.new.words; index = c.clear-3.new.words; nodes = c.clear-4.new.words; targets = c.clear-5.new.words; paths = c.clear-6.new.words; scores = c.clear_scores.new.scores; active = c.clear_slots.new.slots; queue = c.clear-7.new.words; closed = c.clear-8.new.words; order = c.clear-9.new.words; marks = c.clear-10.new.words; walks = c.clear-11.new.words })
+          (record { vertices = c.clear.new.elements; edges = c.clear-2.new.elements; index = c.clear-3.new.elements; nodes = c.clear-4.new.elements; targets = c.clear-5.new.elements; paths = c.clear-6.new.elements; scores = c.clear-7.new.elements; active = c.clear-8.new.elements; queue = c.clear-9.new.elements; closed = c.clear-10.new.elements; order = c.clear-11.new.elements; marks = c.clear-12.new.elements; walks = c.clear-13.new.elements })
           k.ensures
-          (part-cleared c.args.w_vertices.now w.new.w_vertices k.result.vertices 0 c.clear.new.words w.auto.w_vertices m.vertices c.clear.ensures)
-          (part-cleared c.args.w_edges.now w.new.w_edges k.result.edges 0 c.clear-2.new.words w.auto.w_edges m.edges c.clear-2.ensures)
-          (part-cleared c.args.w_index.now w.new.w_index k.result.index 0 c.clear-3.new.words w.auto.w_index m.index c.clear-3.ensures)
-          (part-cleared c.args.w_nodes.now w.new.w_nodes k.result.nodes 0 c.clear-4.new.words w.auto.w_nodes m.nodes c.clear-4.ensures)
-          (part-cleared c.args.w_targets.now w.new.w_targets k.result.targets 0 c.clear-5.new.words w.auto.w_targets m.targets c.clear-5.ensures)
-          (part-cleared c.args.w_paths.now w.new.w_paths k.result.paths 0 c.clear-6.new.words w.auto.w_paths m.paths c.clear-6.ensures)
-          (part-cleared c.args.w_scores.now w.new.w_scores k.result.scores float_zero c.clear_scores.new.scores w.auto.w_scores m.scores c.clear_scores.ensures)
-          (part-cleared c.args.w_active.now w.new.w_active k.result.active 0 c.clear_slots.new.slots w.auto.w_active m.active c.clear_slots.ensures)
-          (part-cleared c.args.w_queue.now w.new.w_queue k.result.queue 0 c.clear-7.new.words w.auto.w_queue m.queue c.clear-7.ensures)
-          (part-cleared c.args.w_closed.now w.new.w_closed k.result.closed 0 c.clear-8.new.words w.auto.w_closed m.closed c.clear-8.ensures)
-          (part-cleared c.args.w_order.now w.new.w_order k.result.order 0 c.clear-9.new.words w.auto.w_order m.order c.clear-9.ensures)
-          (part-cleared c.args.w_marks.now w.new.w_marks k.result.marks 0 c.clear-10.new.words w.auto.w_marks m.marks c.clear-10.ensures)
-          (part-cleared c.args.w_walks.now w.new.w_walks k.result.walks 0 c.clear-11.new.words w.auto.w_walks m.walks c.clear-11.ensures);
+          (part-cleared c.args.w_vertices.now w.new.w_vertices k.result.vertices 0 c.clear.new.elements w.auto.w_vertices m.vertices c.clear.ensures)
+          (part-cleared c.args.w_edges.now w.new.w_edges k.result.edges 0 c.clear-2.new.elements w.auto.w_edges m.edges c.clear-2.ensures)
+          (part-cleared c.args.w_index.now w.new.w_index k.result.index 0 c.clear-3.new.elements w.auto.w_index m.index c.clear-3.ensures)
+          (part-cleared c.args.w_nodes.now w.new.w_nodes k.result.nodes 0 c.clear-4.new.elements w.auto.w_nodes m.nodes c.clear-4.ensures)
+          (part-cleared c.args.w_targets.now w.new.w_targets k.result.targets 0 c.clear-5.new.elements w.auto.w_targets m.targets c.clear-5.ensures)
+          (part-cleared c.args.w_paths.now w.new.w_paths k.result.paths 0 c.clear-6.new.elements w.auto.w_paths m.paths c.clear-6.ensures)
+          (part-cleared c.args.w_scores.now w.new.w_scores k.result.scores float_zero c.clear-7.new.elements w.auto.w_scores m.scores c.clear-7.ensures)
+          (part-cleared c.args.w_active.now w.new.w_active k.result.active 0 c.clear-8.new.elements w.auto.w_active m.active c.clear-8.ensures)
+          (part-cleared c.args.w_queue.now w.new.w_queue k.result.queue 0 c.clear-9.new.elements w.auto.w_queue m.queue c.clear-9.ensures)
+          (part-cleared c.args.w_closed.now w.new.w_closed k.result.closed 0 c.clear-10.new.elements w.auto.w_closed m.closed c.clear-10.ensures)
+          (part-cleared c.args.w_order.now w.new.w_order k.result.order 0 c.clear-11.new.elements w.auto.w_order m.order c.clear-11.ensures)
+          (part-cleared c.args.w_marks.now w.new.w_marks k.result.marks 0 c.clear-12.new.elements w.auto.w_marks m.marks c.clear-12.ensures)
+          (part-cleared c.args.w_walks.now w.new.w_walks k.result.walks 0 c.clear-13.new.elements w.auto.w_walks m.walks c.clear-13.ensures);
     }

@@ -1,16 +1,16 @@
 -- `search_list` meets its contract: a refusal is the search's, and the list is that of the state in which it ends. Assumes nothing.
-use mathlib.Core.Path.{◌∙◌}
-use Rattle.list_work.specs.Search.{small, chain-asks, find-asks, search-stop, list-asks, told-asks, search-done}
+use Rattle.std.proofs.Common.{◌∙◌}
+use Rattle.list_work.specs.Search.{finds-read, found-read, small, chain-asks, find-asks, search-stop, list-asks, told-asks, search-done}
 use Rattle.list_work.proofs.search_list.Goals as goal
 
 pub search_setting-g-requires : goal.search_setting-g-requires
-search_setting-g-requires c = small c.requires.is
+search_setting-g-requires c = small c.requires
 
 pub lay_chains-requires : goal.lay_chains-requires
-lay_chains-requires c = chain-asks c.requires.is
+lay_chains-requires c = chain-asks c.requires
 
 pub find_junction_best_haplotypes-r-requires : goal.find_junction_best_haplotypes-r-requires
-find_junction_best_haplotypes-r-requires c = find-asks c.requires.is c.lay_chains.ensures c.lay_chains.auto.index c.search_setting-g.ensures.is c.search_setting-g.ensures.least
+find_junction_best_haplotypes-r-requires c = finds-read c.search_setting-g.ensures.slices (find-asks c.requires c.lay_chains.ensures c.lay_chains.auto.index c.search_setting-g.ensures.numbers.is c.search_setting-g.ensures.numbers.least)
 
 pub shape_of-vertices-in_default : goal.shape_of-vertices-in_default
 shape_of-vertices-in_default c = c.lay_chains.auto.vertices
@@ -46,13 +46,13 @@ pub shape_of-walks-in_default : goal.shape_of-walks-in_default
 shape_of-walks-in_default c = c.find_junction_best_haplotypes-r.auto.walks
 
 pub returns-in_default : goal.returns-in_default
-returns-in_default c = record { is = λ ends qualities q. search-stop q c.lay_chains.ensures c.lay_chains.auto.index c.search_setting-g.ensures.is c.search_setting-g.ensures.least c.find_junction_best_haplotypes-r.ensures c.in_default.is c.search_refusal.ensures c.refused.ensures }
+returns-in_default c = search-stop c.requires c.lay_chains.ensures c.lay_chains.auto.index c.search_setting-g.ensures.numbers.is c.search_setting-g.ensures.numbers.least (found-read c.search_setting-g.ensures.slices c.find_junction_best_haplotypes-r.ensures) c.unwrap_err.ensures c.refused.ensures
 
 pub write_list-requires : goal.write_list-requires
-write_list-requires c = list-asks c.requires.is c.lay_chains.ensures c.lay_chains.auto.index c.search_setting-g.ensures.is c.search_setting-g.ensures.least c.find_junction_best_haplotypes-r.ensures c.in-Paths.is _ _ c.find_junction_best_haplotypes-r.auto.walks c.find_junction_best_haplotypes-r.auto.active
+write_list-requires c = list-asks c.requires c.lay_chains.ensures c.lay_chains.auto.index c.search_setting-g.ensures.numbers.is c.search_setting-g.ensures.numbers.least (found-read c.search_setting-g.ensures.slices c.find_junction_best_haplotypes-r.ensures) c.in-Ok.is _ _ c.find_junction_best_haplotypes-r.auto.walks c.find_junction_best_haplotypes-r.auto.active
 
 pub found_answer-requires : goal.found_answer-requires
-found_answer-requires c = told-asks c.requires.is c.lay_chains.ensures c.lay_chains.auto.index c.search_setting-g.ensures.is c.search_setting-g.ensures.least c.find_junction_best_haplotypes-r.ensures c.in-Paths.is
+found_answer-requires c = told-asks c.requires c.lay_chains.ensures c.lay_chains.auto.index c.search_setting-g.ensures.numbers.is c.search_setting-g.ensures.numbers.least (found-read c.search_setting-g.ensures.slices c.find_junction_best_haplotypes-r.ensures) c.in-Ok.is
 
 pub shape_of-row_scores : goal.shape_of-row_scores
 shape_of-row_scores c = c.write_list.auto.row_scores
@@ -106,4 +106,4 @@ pub shape_of-walks : goal.shape_of-walks
 shape_of-walks c = c.write_list.auto.walks ∙ c.find_junction_best_haplotypes-r.auto.walks
 
 pub returns : goal.returns
-returns c = record { is = λ ends qualities q. search-done q c.lay_chains.ensures c.lay_chains.auto.index c.search_setting-g.ensures.is c.search_setting-g.ensures.least c.find_junction_best_haplotypes-r.ensures c.in-Paths.is c.write_list.ensures c.found_answer.ensures }
+returns c = search-done c.requires c.lay_chains.ensures c.lay_chains.auto.index c.search_setting-g.ensures.numbers.is c.search_setting-g.ensures.numbers.least (found-read c.search_setting-g.ensures.slices c.find_junction_best_haplotypes-r.ensures) c.in-Ok.is c.write_list.ensures c.found_answer.ensures

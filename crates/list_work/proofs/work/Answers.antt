@@ -1,7 +1,5 @@
 -- `work` meets its contract: refused as the build is, the empty list where no path is asked, or the search's answer. Assumes nothing.
-use mathlib.Core.Path.{refl, sym, ◌∙◌}
-use native.Mathlib.Omega.{arith}
-use lib.Seq.{length-take-le}
+use Rattle.std.proofs.Common.{sym, ◌∙◌, arith, length-take-le}
 use Rattle.list_work.specs.Work.{work-raises, work-refused, work_none, work-parts, work-searches, some-asked}
 use Rattle.list_work.proofs.work.Goals as goal
 
@@ -24,7 +22,7 @@ pub shape_of-w_walks-in_default : goal.shape_of-w_walks-in_default
 shape_of-w_walks-in_default c = c.raise_graph-r.auto.w_open
 
 pub returns-in_default : goal.returns-in_default
-returns-in_default c = work-refused c.requires _ _ _ _ _ c.raise_graph-r.ensures _ c.in_default.is _ c.raise_refusal.ensures _ c.refused.ensures
+returns-in_default c = work-refused c.requires _ _ _ _ _ c.raise_graph-r.ensures _ c.unwrap_err.ensures _ c.refused.ensures
 
 pub shape_of-w_vertices-then-a-eq0 : goal.shape_of-w_vertices-then-a-eq0
 shape_of-w_vertices-then-a-eq0 c = c.raise_graph-r.auto.w_vertices
@@ -42,37 +40,34 @@ pub shape_of-w_walks-then-a-eq0 : goal.shape_of-w_walks-then-a-eq0
 shape_of-w_walks-then-a-eq0 c = c.raise_graph-r.auto.w_open
 
 pub returns-then-a-eq0 : goal.returns-then-a-eq0
-returns-then-a-eq0 c = work_none c.requires _ _ _ _ _ c.raise_graph-r.ensures _ c.in-Graph.is c.if-a-eq0.true _ refl
+returns-then-a-eq0 c = work_none c.requires _ _ _ _ _ c.raise_graph-r.ensures _ c.in-Ok.is c.if-a-eq0.true _ c.default.ensures
 
 pub overflow_add-all : goal.overflow_add-all
-overflow_add-all c = (let z = (work-parts c.requires _ _ _ _ _ c.raise_graph-r.ensures _ c.in-Graph.is c.raise_graph-r.auto.w_edges c.raise_graph-r.auto.w_index).few in omega arith)
+overflow_add-all c = (let z = (work-parts c.requires _ _ _ _ _ c.raise_graph-r.ensures _ c.in-Ok.is c.raise_graph-r.auto.w_edges c.raise_graph-r.auto.w_index).few in omega arith)
 
 pub overflow_mul-rows : goal.overflow_mul-rows
-overflow_mul-rows c = (let z = (work-parts c.requires _ _ _ _ _ c.raise_graph-r.ensures _ c.in-Graph.is c.raise_graph-r.auto.w_edges c.raise_graph-r.auto.w_index).few in omega arith)
+overflow_mul-rows c = (let z = (work-parts c.requires _ _ _ _ _ c.raise_graph-r.ensures _ c.in-Ok.is c.raise_graph-r.auto.w_edges c.raise_graph-r.auto.w_index).few in omega arith)
 
 pub slice_bounds-search_list-end : goal.slice_bounds-search_list-end
-slice_bounds-search_list-end c = (work-parts c.requires _ _ _ _ _ c.raise_graph-r.ensures _ c.in-Graph.is c.raise_graph-r.auto.w_edges c.raise_graph-r.auto.w_index).rows
+slice_bounds-search_list-end c = (work-parts c.requires _ _ _ _ _ c.raise_graph-r.ensures _ c.in-Ok.is c.raise_graph-r.auto.w_edges c.raise_graph-r.auto.w_index).rows
 
 pub slice_bounds-search_list-end-2 : goal.slice_bounds-search_list-end-2
-slice_bounds-search_list-end-2 c = sym (length-take-le _ _ (work-parts c.requires _ _ _ _ _ c.raise_graph-r.ensures _ c.in-Graph.is c.raise_graph-r.auto.w_edges c.raise_graph-r.auto.w_index).rows)
+slice_bounds-search_list-end-2 c = sym (length-take-le _ _ (work-parts c.requires _ _ _ _ _ c.raise_graph-r.ensures _ c.in-Ok.is c.raise_graph-r.auto.w_edges c.raise_graph-r.auto.w_index).rows)
 
 pub slice_bounds-search_list-end-3 : goal.slice_bounds-search_list-end-3
-slice_bounds-search_list-end-3 c = (work-parts c.requires _ _ _ _ _ c.raise_graph-r.ensures _ c.in-Graph.is c.raise_graph-r.auto.w_edges c.raise_graph-r.auto.w_index).index
+slice_bounds-search_list-end-3 c = (work-parts c.requires _ _ _ _ _ c.raise_graph-r.ensures _ c.in-Ok.is c.raise_graph-r.auto.w_edges c.raise_graph-r.auto.w_index).index
 
 pub slice_bounds-search_list-end-4 : goal.slice_bounds-search_list-end-4
-slice_bounds-search_list-end-4 c = sym (length-take-le _ _ (work-parts c.requires _ _ _ _ _ c.raise_graph-r.ensures _ c.in-Graph.is c.raise_graph-r.auto.w_edges c.raise_graph-r.auto.w_index).index)
+slice_bounds-search_list-end-4 c = sym (length-take-le _ _ (work-parts c.requires _ _ _ _ _ c.raise_graph-r.ensures _ c.in-Ok.is c.raise_graph-r.auto.w_edges c.raise_graph-r.auto.w_index).index)
 
 pub slice_bounds-search_list-end-5 : goal.slice_bounds-search_list-end-5
-slice_bounds-search_list-end-5 c = (work-parts c.requires _ _ _ _ _ c.raise_graph-r.ensures _ c.in-Graph.is c.raise_graph-r.auto.w_edges c.raise_graph-r.auto.w_index).targets
+slice_bounds-search_list-end-5 c = (work-parts c.requires _ _ _ _ _ c.raise_graph-r.ensures _ c.in-Ok.is c.raise_graph-r.auto.w_edges c.raise_graph-r.auto.w_index).targets
 
 pub slice_bounds-search_list-end-6 : goal.slice_bounds-search_list-end-6
-slice_bounds-search_list-end-6 c = sym (length-take-le _ _ (work-parts c.requires _ _ _ _ _ c.raise_graph-r.ensures _ c.in-Graph.is c.raise_graph-r.auto.w_edges c.raise_graph-r.auto.w_index).targets)
+slice_bounds-search_list-end-6 c = sym (length-take-le _ _ (work-parts c.requires _ _ _ _ _ c.raise_graph-r.ensures _ c.in-Ok.is c.raise_graph-r.auto.w_edges c.raise_graph-r.auto.w_index).targets)
 
 pub search_list-requires : goal.search_list-requires
-search_list-requires c = record { ends = c.args.ends.now; qualities = c.args.qualities.now; is = work-searches c.requires _ _ _ _ _ c.raise_graph-r.ensures _ c.in-Graph.is _ c.raise_graph-r.auto.w_vertices c.raise_graph-r.auto.w_edges c.raise_graph-r.auto.w_index (some-asked c.if-a-eq0.false) c.raise_graph-r.auto.w_open }
-
-pub shape_of-row_scores : goal.shape_of-row_scores
-shape_of-row_scores c = c.search_list.auto.row_scores
+search_list-requires c = work-searches c.requires _ _ _ _ _ c.raise_graph-r.ensures _ c.in-Ok.is _ c.raise_graph-r.auto.w_vertices c.raise_graph-r.auto.w_edges c.raise_graph-r.auto.w_index (some-asked c.if-a-eq0.false) c.raise_graph-r.auto.w_open
 
 pub shape_of-row_closings : goal.shape_of-row_closings
 shape_of-row_closings c = c.search_list.auto.row_closings
@@ -91,18 +86,6 @@ shape_of-places c = c.search_list.auto.places
 
 pub shape_of-w_vertices : goal.shape_of-w_vertices
 shape_of-w_vertices c = c.search_list.auto.vertices ∙ c.raise_graph-r.auto.w_vertices
-
-pub shape_of-w_edges : goal.shape_of-w_edges
-shape_of-w_edges c = c.raise_graph-r.auto.w_edges
-
-pub shape_of-w_index : goal.shape_of-w_index
-shape_of-w_index c = c.w_index-2-1.given.1 ∙ c.raise_graph-r.auto.w_index
-
-pub shape_of-w_nodes : goal.shape_of-w_nodes
-shape_of-w_nodes c = c.raise_graph-r.auto.w_nodes
-
-pub shape_of-w_targets : goal.shape_of-w_targets
-shape_of-w_targets c = c.w_targets-1.given.1
 
 pub shape_of-w_paths : goal.shape_of-w_paths
 shape_of-w_paths c = c.search_list.auto.paths
@@ -127,6 +110,3 @@ shape_of-w_marks c = c.search_list.auto.marks
 
 pub shape_of-w_walks : goal.shape_of-w_walks
 shape_of-w_walks c = c.search_list.auto.walks ∙ c.raise_graph-r.auto.w_open
-
-pub returns : goal.returns
-returns c = c.search_list.ensures.is c.args.ends.now c.args.qualities.now (work-searches c.requires _ _ _ _ _ c.raise_graph-r.ensures _ c.in-Graph.is _ c.raise_graph-r.auto.w_vertices c.raise_graph-r.auto.w_edges c.raise_graph-r.auto.w_index (some-asked c.if-a-eq0.false) c.raise_graph-r.auto.w_open)

@@ -1,35 +1,40 @@
 -- `find_origin` meets its contract: refused by the check, in the reference, no such read, or in a read. Assumes nothing.
-use Prim.Native.Nat.{◌-◌}
-use native.Mathlib.Omega.{arith}
+use Rattle.std.proofs.Common.{arith, true, false}
+use Rattle.refusals.specs.Numbers.{number-positive}
+use Rattle.origins.specs.Parts.{found-passed}
 use Rattle.origins.specs.Laws.{refused-early, in-reference, in-none, in-read, starts-before, k-within}
 use Rattle.origins.proofs.find_origin.Goals as goal
 
-pub check_origin-refusal-requires : goal.check_origin-refusal-requires
-check_origin-refusal-requires c = tt
-
-pub returns-then-refusal-gt0 : goal.returns-then-refusal-gt0
-returns-then-refusal-gt0 c = refused-early _ _ _ _ _ _ c.check_origin-refusal.ensures c.if-refusal-gt0.true
+pub returns-in_err-check_origin : goal.returns-in_err-check_origin
+returns-in_err-check_origin c = rw (found-passed _ _ c.from_residual.ensures.1) (refused-early _ _ _ _ _ _ c.in_err-check_origin.ensures (number-positive _))
 
 pub fit-requires : goal.fit-requires
-fit-requires c = (k-within _ _ _ _ _ c.check_origin-refusal.ensures c.if-refusal-gt0.false, omega arith)
+fit-requires c = (k-within _ _ _ _ _ c.in_ok-check_origin.ensures (omega arith), omega arith)
+
+pub returns-in_err-start : goal.returns-in_err-start
+returns-in_err-start c =
+    rw (found-passed _ _ c.from_residual-in_err-start.ensures.1)
+    (in-reference _ _ _ _ _ c.in_ok-check_origin.ensures (omega arith) _ _ _ c.if-sequence-lt1.true (c.in_err-start.ensures false))
 
 pub returns-then-sequence-lt1 : goal.returns-then-sequence-lt1
-returns-then-sequence-lt1 c = in-reference _ _ _ _ _ c.check_origin-refusal.ensures c.if-refusal-gt0.false _ _ _ c.if-sequence-lt1.true c.fit.ensures
+returns-then-sequence-lt1 c = in-reference _ _ _ _ _ c.in_ok-check_origin.ensures (omega arith) _ _ _ c.if-sequence-lt1.true (c.in_ok-start.ensures false)
 
 pub returns-then-read-ends : goal.returns-then-read-ends
-returns-then-read-ends c = in-none _ _ _ _ _ c.check_origin-refusal.ensures c.if-refusal-gt0.false _ _ c.if-sequence-lt1.false c.if-read-ends.true
-
-pub overflow_cast-length : goal.overflow_cast-length
-overflow_cast-length c = omega (arith, c.shared_slice_known-4-1.given (c.args.sequence - 1))
+returns-then-read-ends c = in-none _ _ _ _ _ c.in_ok-check_origin.ensures (omega arith) _ _ c.if-sequence-lt1.false c.if-read-ends.true
 
 pub overflow_sub-length : goal.overflow_sub-length
-overflow_sub-length c = (starts-before _ _ _ _ _ c.check_origin-refusal.ensures c.if-refusal-gt0.false _ _ c.if-read-ends.false c.read_start-start.ensures).0
+overflow_sub-length c = (starts-before _ _ _ _ _ c.in_ok-check_origin.ensures (omega arith) _ _ c.if-read-ends.false c.read_start-start.ensures).0
 
 pub fit-requires-2 : goal.fit-requires-2
 fit-requires-2 c = (
-  k-within _ _ _ _ _ c.check_origin-refusal.ensures c.if-refusal-gt0.false,
-  (starts-before _ _ _ _ _ c.check_origin-refusal.ensures c.if-refusal-gt0.false _ _ c.if-read-ends.false c.read_start-start.ensures).1,
+  k-within _ _ _ _ _ c.in_ok-check_origin.ensures (omega arith),
+  (starts-before _ _ _ _ _ c.in_ok-check_origin.ensures (omega arith) _ _ c.if-read-ends.false c.read_start-start.ensures).1,
 )
 
+pub returns-in_err-at : goal.returns-in_err-at
+returns-in_err-at c =
+    rw (found-passed _ _ c.from_residual-in_err-at.ensures.1)
+    (in-read _ _ _ _ _ c.in_ok-check_origin.ensures (omega arith) _ _ _ _ c.if-sequence-lt1.false c.if-read-ends.false c.read_start-start.ensures (c.in_err-at.ensures true))
+
 pub returns : goal.returns
-returns c = in-read _ _ _ _ _ c.check_origin-refusal.ensures c.if-refusal-gt0.false _ _ _ _ c.if-sequence-lt1.false c.if-read-ends.false c.read_start-start.ensures c.fit-2.ensures
+returns c = in-read _ _ _ _ _ c.in_ok-check_origin.ensures (omega arith) _ _ _ _ c.if-sequence-lt1.false c.if-read-ends.false c.read_start-start.ensures (c.in_ok-at.ensures true)

@@ -1,33 +1,23 @@
-use mathlib.Core.Path.{ap}
+use Rattle.std.proofs.Common.{sym, ap, ◌∙◌, arith}
 use Rattle.path_store.specs.declared.records.PathRecord.{PathRecord}
-use Prim.Native.Nat.{◌+◌, ◌*◌}
-use Rattle.path_edges.specs.Path.{inside, upward-start, upward-piece, upward-inside, upward-fits, upward-next, upward-end-fits, upward-end}
-use native.Mathlib.Omega.{arith}
+use Rattle.path_store.specs.Walk.{bit-is}
+use Rattle.path_store.specs.Cells.{numbered, numbered-none, numbered-some}
+use Rattle.path_edges.specs.Path.{upward-fits, upward-next, upward-end-fits, upward-end}
 use Rattle.path_edges.proofs.count_in_path.Goals as goal
 
-pub path_at-first-requires : goal.path_at-first-requires
-path_at-first-requires c = inside _ _ _ _ _ c.requires _ (omega arith)
-
-pub loop-p-init : goal.loop-p-init
-loop-p-init c = upward-start _ _ _ _ _ _ c.requires _ _ _ (omega arith) (ap (λ (x : PathRecord). x.parent) c.path_at-first.ensures)
-
-pub count_piece-k-requires : goal.count_piece-k-requires
-count_piece-k-requires c = (upward-piece _ _ _ _ _ _ c.requires _ _ _ _ _ (omega arith) c.loop-p.invariant c.loop-p-test.true, c.stops_at-stops.ensures)
-
 pub overflow_add-k : goal.overflow_add-k
-overflow_add-k c = omega (arith, c.shared_slice_known-1.given (c.args.path * 9 + 3), upward-fits _ _ _ _ _ _ c.requires _ _ _ _ _ (omega arith) c.loop-p.invariant _ c.loop-p-test.true c.count_piece-k.ensures)
-
-pub path_at-row-requires : goal.path_at-row-requires
-path_at-row-requires c = upward-inside _ _ _ _ _ _ c.requires _ _ _ _ _ (omega arith) c.loop-p.invariant c.loop-p-test.true
-
-pub loop-p-smaller : goal.loop-p-smaller
-loop-p-smaller c = omega (arith, c.loop-p.invariant.par, c.loop-p-test.true, (c.requires.rows c.loop-p.r c.loop-p.invariant.low).rises)
+overflow_add-k c =
+    omega
+    (arith, upward-fits _ _ _ _ _ _ c.requires _ _ _ _ (omega arith) c.loop-p.invariant.2 _ (numbered-some _ _ (ap (λ (x : PathRecord). numbered x.parent) (sym c.loop-p.invariant.1) ∙ sym c.above.ensures ∙ c.in-Some.is)) _ c.count_piece-k.ensures)
 
 pub loop-p-preserved : goal.loop-p-preserved
-loop-p-preserved c = upward-next _ _ _ _ _ _ c.requires _ _ _ _ _ (omega arith) c.loop-p.invariant _ _ c.loop-p-test.true c.count_piece-k.ensures (ap (λ (x : PathRecord). x.parent) c.path_at-row.ensures)
+loop-p-preserved c =
+    (c.loop-p.invariant.0, c.at-row-in-Some.ensures, upward-next _ _ _ _ _ _ c.requires _ _ _ _ (omega arith) c.loop-p.invariant.2 _ (numbered-some _ _ (ap (λ (x : PathRecord). numbered x.parent) (sym c.loop-p.invariant.1) ∙ sym c.above.ensures ∙ c.in-Some.is)) _ c.count_piece-k.ensures)
 
 pub overflow_add-result : goal.overflow_add-result
-overflow_add-result c = omega (arith, c.shared_slice_known-1.given (c.args.path * 9 + 3), upward-end-fits _ _ _ _ _ _ c.requires _ _ _ _ _ (omega arith) c.loop-p.invariant _ c.loop-p-test.false c.same.ensures)
+overflow_add-result c =
+    omega
+    (arith, upward-end-fits _ _ _ _ _ _ c.requires _ _ _ _ (omega arith) c.loop-p.invariant.2 _ (numbered-none _ (ap (λ (x : PathRecord). numbered x.parent) (sym c.loop-p.invariant.1) ∙ sym c.above.ensures ∙ c.in_default.is)) (c.from.ensures ∙ bit-is _))
 
 pub returns : goal.returns
-returns c = upward-end _ _ _ _ _ _ c.requires _ _ _ _ _ (omega arith) c.loop-p.invariant _ c.loop-p-test.false c.same.ensures
+returns c = upward-end _ _ _ _ _ _ c.requires _ _ _ _ (omega arith) c.loop-p.invariant.2 _ (numbered-none _ (ap (λ (x : PathRecord). numbered x.parent) (sym c.loop-p.invariant.1) ∙ sym c.above.ensures ∙ c.in_default.is)) (c.from.ensures ∙ bit-is _)

@@ -1,11 +1,12 @@
-use mathlib.Core.Path.{ap, ◌∙◌}
-use Rattle.path_edges.specs.Path.{last_none, last_some}
-use lib.Dec.{eqb}
-use mathlib.Core.Bool.{cond}
+use Rattle.std.proofs.Common.{[], sym, ◌∙◌, arith}
+use Rattle.path_store.specs.Walk.{bit-is, hits-nil, hits-step}
 use Rattle.path_edges.proofs.count_last.Goals as goal
 
-pub returns-then-l-eq0 : goal.returns-then-l-eq0
-returns-then-l-eq0 c = last_none _ _ _ c.if-l-eq0.true
+pub returns-in-Some : goal.returns-in-Some
+returns-in-Some c =
+    let ts = c.args.targets.now in
+    let v = c.args.v in
+    rw c.in-Some.is (omega (arith, c.from.ensures ∙ bit-is _, hits-step ts v c.in-Some.e [], hits-nil ts v))
 
-pub returns : goal.returns
-returns c = last_some _ _ _ _ c.if-l-eq0.false (c.same.ensures ∙ ap (λ x. cond (eqb c.args.v x) 1 0) c.at.ensures)
+pub returns-in-None : goal.returns-in-None
+returns-in-None c = rw c.in-None.is (sym (hits-nil c.args.targets.now c.args.v))

@@ -1,4 +1,5 @@
-use mathlib.Core.Path.{sym}
+-- `leads` meets its contract. Assumes nothing.
+use Rattle.std.proofs.Common.{sym}
 use Rattle.path_heap.specs.First.{leads-more, leads-less, leads-tie}
 use Rattle.path_heap.proofs.leads.Goals as goal
 

@@ -1,4 +1,4 @@
-use Prim.Native.Nat.{◌-◌}
+use Rattle.std.proofs.Common.{◌-◌}
 use Rattle.path_heap.specs.First.{Known, leads}
 use Rattle.laws.specs.Heaps.{Sunk}
 use Rattle.path_heap.proofs.sink_hole.Given as goal

@@ -1,6 +1,5 @@
-use mathlib.Core.Path.{refl}
+use Rattle.std.proofs.Common.{refl, arith}
 use Rattle.path_list.specs.List.{ready_of, filed-of, known_of, placed_of, list_of}
-use native.Mathlib.Omega.{arith}
 use Rattle.path_list.proofs.write_list.Goals as goal
 
 pub rank_paths-requires : goal.rank_paths-requires
@@ -17,30 +16,6 @@ write_origins-requires c = ((placed_of _ _ _ _ _ _ _ _ _ _ _ _ _ _ _ _ _ _ _ c.r
 
 pub write_origins-requires-2 : goal.write_origins-requires-2
 write_origins-requires-2 c = ((placed_of _ _ _ _ _ _ _ _ _ _ _ _ _ _ _ _ _ _ _ c.requires _ _ c.rank_paths.auto.rank c.rank_paths.ensures), (filed-of _ _ _ _ _ _ _ _ _ _ _ _ _ _ _ _ _ _ _ c.requires _ _ refl c.write_walks.ensures), omega arith, c.requires.places-room)
-
-pub shape_of-walks : goal.shape_of-walks
-shape_of-walks c = c.write_walks.auto.walks
-
-pub shape_of-rank : goal.shape_of-rank
-shape_of-rank c = c.rank_paths.auto.rank
-
-pub shape_of-row_scores : goal.shape_of-row_scores
-shape_of-row_scores c = c.write_columns.auto.row_scores
-
-pub shape_of-row_closings : goal.shape_of-row_closings
-shape_of-row_closings c = c.write_columns.auto.row_closings
-
-pub shape_of-row_edges : goal.shape_of-row_edges
-shape_of-row_edges c = c.write_columns.auto.row_edges
-
-pub shape_of-out_bases : goal.shape_of-out_bases
-shape_of-out_bases c = c.write_spellings.auto.out
-
-pub shape_of-sequences : goal.shape_of-sequences
-shape_of-sequences c = c.write_origins.auto.out
-
-pub shape_of-places : goal.shape_of-places
-shape_of-places c = c.write_origins-2.auto.out
 
 pub returns : goal.returns
 returns c = list_of _ _ _ _ _ _ _ _ _ _ _ _ _ _ _ _ _ _ _ c.requires _ _ refl c.write_walks.ensures _ c.rank_paths.auto.rank c.rank_paths.ensures _ _ _ _ _ _ c.write_columns.ensures _ _ c.write_spellings.ensures _ _ c.write_origins.ensures _ _ c.write_origins-2.ensures

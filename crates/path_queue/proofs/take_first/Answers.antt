@@ -1,8 +1,5 @@
 use Rattle.path_queue.specs.Take.{taken-first}
 use Rattle.path_queue.proofs.take_first.Goals as goal
 
-pub heap_pop-path-requires : goal.heap_pop-path-requires
-heap_pop-path-requires c = (c.requires.holds.heap, c.requires.some)
-
 pub returns : goal.returns
 returns c = taken-first _ _ _ _ _ c.heap_pop-path.ensures

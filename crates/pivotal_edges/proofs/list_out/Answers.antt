@@ -1,48 +1,29 @@
-use native.Mathlib.Omega.{arith}
-use mathlib.Core.Path.{sym, ◌∙◌}
-use borrow.Author.Tests.{not-true, not-false}
-use Rattle.pivotal_edges.specs.Walk.{next-asks, next_row, next-in, next-less, next_fits}
+use Rattle.std.proofs.Common.{sym, ◌∙◌, arith}
+use Rattle.out_edges.specs.Walked.{begun, over-named, turned}
+use Rattle.pivotal_edges.specs.Walk.{next-asks, next-in, next_row, here-slots}
 use Rattle.pivotal_edges.specs.Lists.{lister-start, lister-end, lister-mark, lister-room, lister-next, listed-none}
 use Rattle.pivotal_edges.proofs.list_out.Goals as goal
 
-pub forks-requires : goal.forks-requires
-forks-requires c = c.requires.here
-
 pub returns-then-not-forks : goal.returns-then-not-forks
-returns-then-not-forks c = listed-none c.requires (sym c.forks.ensures ∙ not-true _ c.if-not-forks.true-raw)
+returns-then-not-forks c = listed-none c.requires (sym c.forks.ensures ∙ c.if-not-forks.true)
 
-pub next_out-r-requires : goal.next_out-r-requires
-next_out-r-requires c = next-asks c.requires.here
+pub out_edges-i-items-requires : goal.out_edges-i-items-requires
+out_edges-i-items-requires c = next-asks c.requires.here
 
-pub loop-r-init : goal.loop-r-init
-loop-r-init c = lister-start c.requires c.next_out-r.ensures
-
-pub overflow_sub-r : goal.overflow_sub-r
-overflow_sub-r c = let h = c.loop-r-test.true in omega arith
+pub loop-i-init : goal.loop-i-init
+loop-i-init c =
+    let b = begun c.into_iter-i-iterator.ensures.into_iter_gives c.out_edges-i-items.ensures in
+    (over-named b.over (next-asks c.requires.here), tt, b.over, lister-start c.requires b.first)
 
 pub list_edge-found-requires : goal.list_edge-found-requires
-list_edge-found-requires c = (next_row c.requires.here c.loop-r.invariant.next c.loop-r-test.true, lister-mark c.requires c.loop-r.invariant c.loop-r-test.true, (let h = next-in c.requires.here c.loop-r.invariant.next c.loop-r-test.true in let g = c.requires.here.linked.few in omega arith), lister-room c.requires c.loop-r.invariant c.loop-r-test.true)
+list_edge-found-requires c =
+    let n = (turned (here-slots c.requires.here) c.loop-i.invariant.2 c.in-Some.ensures.steps).next in
+    (next_row c.requires.here n, lister-mark c.requires c.loop-i.invariant.3 n, (let h = next-in c.requires.here n in let g = c.requires.here.linked.few in omega arith), lister-room c.requires c.loop-i.invariant.3 n)
 
-pub overflow_sub-r-in-loop-r : goal.overflow_sub-r-in-loop-r
-overflow_sub-r-in-loop-r c = let h = c.loop-r-test.true in omega arith
-
-pub edge_to-t-requires : goal.edge_to-t-requires
-edge_to-t-requires c = next_row c.requires.here c.loop-r.invariant.next c.loop-r-test.true
-
-pub overflow_add-t : goal.overflow_add-t
-overflow_add-t c = let h = next_fits c.requires.here c.loop-r.invariant.next c.loop-r-test.true c.edge_to-t.ensures in let g = c.well_formed.0 in omega arith
-
-pub next_out-r-requires-in-loop-r : goal.next_out-r-requires-in-loop-r
-next_out-r-requires-in-loop-r c = next-asks c.requires.here
-
-pub loop-r-smaller : goal.loop-r-smaller
-loop-r-smaller c = next-less c.requires.here c.loop-r.invariant.next c.loop-r-test.true c.edge_to-t.ensures
-
-pub loop-r-preserved : goal.loop-r-preserved
-loop-r-preserved c = lister-next c.requires c.loop-r.invariant c.loop-r-test.true c.edge_to-t.ensures c.next_out-r-in-loop-r.ensures c.list_edge-found.auto.out c.list_edge-found.ensures
-
-pub shape_of-out : goal.shape_of-out
-shape_of-out c = c.loop-r.invariant.size
+pub loop-i-preserved : goal.loop-i-preserved
+loop-i-preserved c =
+    let u = turned (here-slots c.requires.here) c.loop-i.invariant.2 c.in-Some.ensures.steps in
+    (over-named u.over (next-asks c.requires.here), tt, u.over, lister-next c.requires c.loop-i.invariant.3 u.next u.behind c.list_edge-found.auto.out c.list_edge-found.ensures)
 
 pub returns : goal.returns
-returns c = lister-end c.requires c.loop-r.invariant c.loop-r-test.false (sym c.forks.ensures ∙ not-false _ c.if-not-forks.false-raw)
+returns c = lister-end c.requires c.loop-i.invariant.3 (turned (here-slots c.requires.here) c.loop-i.invariant.2 c.in-None.ensures.steps).next (sym c.forks.ensures ∙ c.if-not-forks.false)

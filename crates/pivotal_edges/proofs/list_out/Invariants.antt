@@ -1,10 +1,8 @@
-use Prim.Native.Nat.{◌-◌}
-use lib.ListN.{length}
+use Rattle.out_edges.specs.Walked.{Over}
 use Rattle.pivotal_edges.specs.Lists.{Lister}
 use Rattle.pivotal_edges.proofs.list_out.Given as goal
 
-abbrev pub invariant-loop-r : goal.invariant-loop-r
-invariant-loop-r l = Lister l.edges l.m l.v l.visited l.initial.out l.out l.n l.t l.r l.found
-
-abbrev pub decreases-loop-r : goal.decreases-loop-r
-decreases-loop-r l = length l.vertices - l.t
+abbrev pub invariant-loop-i : goal.invariant-loop-i
+invariant-loop-i l =
+    (goal.iterator-loop-i).can_next l.i-iterator × (goal.iterator-loop-i).is_finite l.i-iterator × Over l.graph l.v l.i-iterator
+    × Lister l.graph.edges.now l.graph.count l.v l.visited l.initial.out l.out l.n l.i-iterator.from l.found

@@ -1,10 +1,8 @@
-use Prim.Native.Nat.{◌-◌}
-use lib.ListN.{length}
+use Rattle.out_edges.specs.Walked.{Over}
 use Rattle.pivotal_edges.specs.Queues.{Queuer}
 use Rattle.pivotal_edges.proofs.queue_out.Given as goal
 
-abbrev pub invariant-loop-r : goal.invariant-loop-r
-invariant-loop-r l = Queuer l.edges l.m l.v l.level l.visited l.initial.queue l.queue l.front l.tail l.end l.t l.r
-
-abbrev pub decreases-loop-r : goal.decreases-loop-r
-decreases-loop-r l = length l.vertices - l.t
+abbrev pub invariant-loop-i : goal.invariant-loop-i
+invariant-loop-i l =
+    (goal.iterator-loop-i).can_next l.i-iterator × (goal.iterator-loop-i).is_finite l.i-iterator × Over l.graph l.v l.i-iterator
+    × Queuer l.graph.edges.now l.graph.count l.v l.level l.visited l.initial.queue l.queue l.front l.tail l.end l.i-iterator.from

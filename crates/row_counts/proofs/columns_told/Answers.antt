@@ -1,5 +1,5 @@
 -- `columns_told` meets its contract. Assumes nothing.
-use mathlib.Core.Path.{sym, ◌∙◌}
+use Rattle.std.proofs.Common.{sym, ◌∙◌}
 use Rattle.row_counts.specs.Told.{told-kept, told-zero}
 use Rattle.row_counts.proofs.columns_told.Goals as goal
 

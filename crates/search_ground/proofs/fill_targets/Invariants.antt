@@ -1,10 +1,5 @@
-use Prim.Native.Nat.{◌-◌}
-use lib.ListN.{length}
 use Rattle.search_ground.specs.Tables.{Filled, IsTarget}
 use Rattle.search_ground.proofs.fill_targets.Given as goal
 
 abbrev pub invariant-loop-e : goal.invariant-loop-e
 invariant-loop-e l = Filled (IsTarget l.edges) l.initial.targets l.targets l.e
-
-abbrev pub decreases-loop-e : goal.decreases-loop-e
-decreases-loop-e l = length l.targets - l.e

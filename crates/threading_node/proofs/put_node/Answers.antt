@@ -1,5 +1,4 @@
-use native.Mathlib.Omega.{arith}
-use lib.ListN.{length-set}
+use Rattle.std.proofs.Common.{arith, length-set}
 use Rattle.threading_node.specs.Slots.{placed-is}
 use Rattle.threading_node.proofs.put_node.Goals as goal
 
@@ -16,4 +15,4 @@ pub bounds-nodes-k-5 : goal.bounds-nodes-k-5
 bounds-nodes-k-5 c = simp length-set (omega arith)
 
 pub returns : goal.returns
-returns c = placed-is _ _ _ _ _ _
+returns c = rw c.link_to.ensures (placed-is _ _ _ _ _ _)

@@ -1,10 +1,6 @@
-use Prim.Native.Nat.{◌-◌}
-use Rattle.threading_node.specs.Ends.{ends}
+use Rattle.threading_node.specs.Ends.{ends_of}
 use Rattle.threading_tree.specs.All.{Track}
 use Rattle.threading_tree.proofs.add_edge_to_junction_tree_nodes.Given as goal
 
 abbrev pub invariant-loop-i : goal.invariant-loop-i
-invariant-loop-i l = Track l.cap l.n l.w (ends l.a l.b) l.initial.nodes l.nodes l.initial.active l.active l.k l.i
-
-abbrev pub decreases-loop-i : goal.decreases-loop-i
-decreases-loop-i l = l.w - l.i
+invariant-loop-i l = Track l.cap l.n l.w (ends_of l.edge) l.initial.nodes l.nodes l.initial.active l.active l.k l.i

@@ -1,5 +1,4 @@
-use native.Mathlib.Omega.{arith}
-use lib.ListN.{length-set}
+use Rattle.std.proofs.Common.{arith, length-set}
 use Rattle.threading_tree.proofs.put_row.Goals as goal
 
 pub bounds-out-row-2 : goal.bounds-out-row-2

@@ -1,7 +1,5 @@
 -- `read_behind` meets its contract. Assumes nothing.
-use Prim.Native.Nat.{◌-◌}
-use lib.ListN.{length, drop}
-use Rattle.std.proofs.Common.{le_refl}
+use Rattle.std.proofs.Common.{◌-◌, length, drop, le_refl}
 use Rattle.std.proofs.lemmas.Slice.{take-put_mid_below}
 use Rattle.whole_input.specs.Readings.{took-part, gave-behind}
 use Rattle.whole_input.proofs.read_behind.Goals as goal

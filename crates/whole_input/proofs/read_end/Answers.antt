@@ -1,11 +1,11 @@
 -- `read_end` meets its contract. Assumes nothing.
-use native.Mathlib.Omega.{arith}
-use Rattle.whole_input.specs.Readings.{ended-within, ends}
+use Rattle.std.proofs.Common.{refl, arith, le_refl}
+use Rattle.whole_input.specs.Readings.{ends}
 use Rattle.whole_input.proofs.read_end.Goals as goal
 
 pub returns : goal.returns
 returns g c =
     record {
-      within = ended-within _ c.read_once-turn.result _ c.ended_at.ensures;
-      input = ends _ _ _ _ _ _ c.read_once-turn.ensures.input (omega (arith, c.read_once-turn.auto.bytes)) c.ended_at.ensures;
+      within = le_refl _;
+      input = (refl, ends _ _ _ _ c.in_ok-m.ensures.input (omega (arith, c.read_once.auto.bytes)) (omega arith));
     }

@@ -5,6 +5,6 @@ use Rattle.whole_input.proofs.read_once.Goals as goal
 pub returns : goal.returns
 returns g c =
     record {
-      within = took-within _ _ _ _ c.read-got.ensures.bound c.read-got.auto.buf c.turn_of.ensures;
-      input = gave _ _ _ _ _ c.read-got.ensures.bytes c.turn_of.ensures;
+      within = took-within _ _ _ _ c.read.ensures.bound c.read.auto.buf c.ok.ensures.value;
+      input = gave _ _ _ _ _ c.read.ensures.bytes c.ok.ensures.value;
     }

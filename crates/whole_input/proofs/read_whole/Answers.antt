@@ -1,7 +1,6 @@
 -- `read_whole` meets its contract. Assumes nothing.
-use mathlib.Core.Path.{refl, ◌∙◌}
-use native.Mathlib.Omega.{arith}
-use Rattle.whole_input.specs.Readings.{took-is, within-as, gave-is, joined, joined-none, told-whole, told-ended}
+use Rattle.std.proofs.Common.{refl, ◌∙◌, arith}
+use Rattle.whole_input.specs.Readings.{within-as, joined, joined-none, told-whole, told-ended}
 use Rattle.std.proofs.KnownBytes.{Consumes-nil}
 use Rattle.std.proofs.lemmas.List.{length-drop}
 use Rattle.whole_input.proofs.read_whole.Goals as goal
@@ -9,33 +8,33 @@ use Rattle.whole_input.proofs.read_whole.Goals as goal
 pub loop-done-init : goal.loop-done-init
 loop-done-init g c = (omega arith, refl, Consumes-nil _)
 
-pub read_behind-turn-requires : goal.read_behind-turn-requires
-read_behind-turn-requires g c = c.loop-done.invariant.0
+pub read_behind-requires : goal.read_behind-requires
+read_behind-requires g c = c.loop-done.invariant.0
 
-pub shape_of-bytes-in_default : goal.shape_of-bytes-in_default
-shape_of-bytes-in_default g c = c.read_behind-turn.auto.bytes ∙ c.loop-done.invariant.1
+pub shape_of-bytes-in_err-n : goal.shape_of-bytes-in_err-n
+shape_of-bytes-in_err-n g c = c.read_behind.auto.bytes ∙ c.loop-done.invariant.1
 
 pub shape_of-bytes-then-n-eq0 : goal.shape_of-bytes-then-n-eq0
-shape_of-bytes-then-n-eq0 g c = c.read_behind-turn.auto.bytes ∙ c.loop-done.invariant.1
+shape_of-bytes-then-n-eq0 g c = c.read_behind.auto.bytes ∙ c.loop-done.invariant.1
 
 pub returns-then-n-eq0 : goal.returns-then-n-eq0
 returns-then-n-eq0 g c =
     record {
-      within = omega (arith, c.loop-done.invariant.0, c.read_behind-turn.auto.bytes);
+      within = omega (arith, c.loop-done.invariant.0, c.read_behind.auto.bytes);
       input =
-          (let h = gave-is _ _ _ _ _ c.read_behind-turn.ensures.input c.in-Took.is in
-          let left = h.1 c.if-n-eq0.true (omega (arith, c.loop-done-test.true, c.read_behind-turn.auto.bytes, length-drop c.loop-done.done c.read_behind-turn.new.bytes)) in
-          told-whole _ _ _ _ (joined-none _ _ _ _ _ _ _ c.read_behind-turn.ensures.front c.loop-done.invariant.2 h.0 c.if-n-eq0.true) left);
+          (let h = c.in_ok-n.ensures.input in
+          let left = h.1 c.if-n-eq0.true (omega (arith, c.loop-done-test.true, c.read_behind.auto.bytes, length-drop c.loop-done.done c.read_behind.new.bytes)) in
+          told-whole _ _ _ _ (joined-none _ _ _ _ _ _ _ c.read_behind.ensures.front c.loop-done.invariant.2 h.0 c.if-n-eq0.true) left);
     }
 
 pub overflow_add-done : goal.overflow_add-done
-overflow_add-done g c = omega (arith, took-is _ _ _ c.read_behind-turn.ensures.within c.in-Took.is, c.loop-done.invariant.0)
+overflow_add-done g c = omega (arith, c.in_ok-n.ensures.within, c.loop-done.invariant.0)
 
 pub loop-done-smaller : goal.loop-done-smaller
-loop-done-smaller g c = omega (arith, took-is _ _ _ c.read_behind-turn.ensures.within c.in-Took.is, c.loop-done.invariant.0, c.read_behind-turn.auto.bytes, c.if-n-eq0.false)
+loop-done-smaller g c = omega (arith, c.in_ok-n.ensures.within, c.loop-done.invariant.0, c.read_behind.auto.bytes, c.if-n-eq0.false)
 
 pub loop-done-preserved : goal.loop-done-preserved
-loop-done-preserved g c = (omega (arith, took-is _ _ _ c.read_behind-turn.ensures.within c.in-Took.is, c.loop-done.invariant.0, c.read_behind-turn.auto.bytes), c.read_behind-turn.auto.bytes ∙ c.loop-done.invariant.1, joined _ _ _ _ _ _ _ c.read_behind-turn.ensures.front c.loop-done.invariant.2 (gave-is _ _ _ _ _ c.read_behind-turn.ensures.input c.in-Took.is).0)
+loop-done-preserved g c = (omega (arith, c.in_ok-n.ensures.within, c.loop-done.invariant.0, c.read_behind.auto.bytes), c.read_behind.auto.bytes ∙ c.loop-done.invariant.1, joined _ _ _ _ _ _ _ c.read_behind.ensures.front c.loop-done.invariant.2 c.in_ok-n.ensures.input.0)
 
 pub shape_of-bytes : goal.shape_of-bytes
 shape_of-bytes g c = c.loop-done.invariant.1

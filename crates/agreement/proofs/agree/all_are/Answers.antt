@@ -1,15 +1,10 @@
--- `agree::all_are` meets its contract. The invariant: every element passed holds the value. Assumes nothing.
-use native.Mathlib.Omega.{arith}
-use mathlib.Core.Bool.{false≢true}
-use borrow.Author.Count.{below_more}
-use borrow.Author.Rules.{rules}
+-- `agree::all_are` meets its contract. Assumes nothing.
+use Rattle.std.proofs.Common.{◌≡◌, arith, rules, tests}
+use Rattle.std.proofs.lemmas.Iterator.{cases_from_all, YieldsList-from_slice}
 use Rattle.agreement.proofs.agree.all_are.Goals as goal
 
-pub returns-then-a-place : goal.returns-then-a-place
-returns-then-a-place c = λ e. absurd (false≢true e)
-
-pub loop-place-preserved : goal.loop-place-preserved
-loop-place-preserved c = (search rules, below_more _ _ c.loop-place.invariant.1 c.if-a-place.false)
-
 pub returns : goal.returns
-returns c = λ _ i h. c.loop-place.invariant.1 i (omega arith)
+returns g c =
+    let m = cases_from_all _ _ _ (λ x. g.T.Element.shown x ≡ c.args.number) (λ x. Unit {0}) c.all.ensures.ran
+    (YieldsList-from_slice c.args.elements.now cc) (λ x q k. search (rules, tests)) (λ x q k. tt) in
+    λ e i d h. (rw e at m) i d (omega arith) h

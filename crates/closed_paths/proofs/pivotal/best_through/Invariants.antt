@@ -1,9 +1,6 @@
-use Prim.Native.Nat.{◌-◌}
 use Rattle.closed_paths.specs.Best.{Searching}
 use Rattle.closed_paths.proofs.pivotal.best_through.Given as goal
 
-abbrev pub invariant-loop-i : goal.invariant-loop-i
-invariant-loop-i l = Searching l.index l.targets l.source l.paths l.scores l.v l.closed l.count l.i l.best
-
-abbrev pub decreases-loop-i : goal.decreases-loop-i
-decreases-loop-i l = l.count - l.i
+abbrev pub invariant-loop-path : goal.invariant-loop-path
+invariant-loop-path l =
+    Searching l.chains.index.now l.chains.targets.now l.source l.paths.records.now l.paths.scores.now l.v l.closed l.path-index l.best

@@ -1,5 +1,5 @@
 -- `rows::bases_agree` is safe and ends. The invariant: the room of the rows passed lies within the bases. Assumes nothing.
-use native.Mathlib.Omega.{arith}
+use Rattle.std.proofs.Common.{arith}
 use Rattle.known_answers.proofs.rows.bases_agree.Goals as goal
 
 pub loop-at-smaller : goal.loop-at-smaller

@@ -1,5 +1,5 @@
 -- `rows::columns_agree` is safe and ends. The invariant: no more rows than numbers are passed. Assumes nothing.
-use native.Mathlib.Omega.{arith}
+use Rattle.std.proofs.Common.{arith}
 use Rattle.known_answers.proofs.rows.columns_agree.Goals as goal
 
 pub loop-at-smaller : goal.loop-at-smaller

@@ -1,9 +1,5 @@
-use Prim.Native.Nat.{◌-◌}
 use Rattle.path_list.specs.Rows.{ColumnsTo}
 use Rattle.path_list.proofs.rows.write_columns.Given as goal
 
 abbrev pub invariant-loop-r : goal.invariant-loop-r
-invariant-loop-r l = ColumnsTo l.paths l.scores l.closed l.rank l.count l.r l.initial.row_scores l.initial.row_closings l.initial.row_edges l.row_scores l.row_closings l.row_edges
-
-abbrev pub decreases-loop-r : goal.decreases-loop-r
-decreases-loop-r l = l.count - l.r
+invariant-loop-r l = ColumnsTo l.lists.paths.records.now l.lists.paths.scores.now l.lists.closed.now l.rank l.lists.count l.r l.initial.row_scores l.initial.row_closings l.initial.row_edges l.row_scores l.row_closings l.row_edges

@@ -1,9 +1,10 @@
 -- `refuse` meets its contract. Assumes nothing.
+use Rattle.std.proofs.Common.{sym, arith}
 use Rattle.paths.specs.Printing.{refused-room, shown-refused}
 use Rattle.paths.proofs.answer.refuse.Goals as goal
 
 pub write_refused-requires : goal.write_refused-requires
-write_refused-requires c = refused-room _ _ c.ranges.number.fits c.requires
+write_refused-requires c = refused-room _ _ (omega arith) c.requires
 
 pub returns : goal.returns
-returns c = shown-refused _ _ _ _ c.ranges.number.fits c.write_refused.ensures
+returns c = rw (sym c.from.ensures) (shown-refused _ _ c.from.result _ (omega arith) c.write_refused.ensures)

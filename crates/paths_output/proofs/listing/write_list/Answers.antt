@@ -1,7 +1,5 @@
 -- `write_list` meets its contract. The invariant: i lines are written, the others are still to come. Assumes nothing.
-use native.Mathlib.Omega.{arith}
-use mathlib.Core.Path.{◌∙◌}
-use lib.ListN.{length-append}
+use Rattle.std.proofs.Common.{arith, ◌∙◌, length-append}
 use Rattle.definition.specs.Text.{first_line}
 use Rattle.paths_output.specs.Listing.{lines_from, row_fits, list-most, list-start, list-room, list-next, list-end}
 use Rattle.paths_output.proofs.listing.write_list.Goals as goal
@@ -28,14 +26,6 @@ loop-i-init c =
 pub write_row-at-requires : goal.write_row-at-requires
 write_row-at-requires c =
     (row_fits c.requires.0 _ c.loop-i-test.true, list-room c.args.scores.now c.args.closings.now c.args.edges.now c.args.bases.now c.args.k c.args.paths c.loop-i.invariant c.loop-i-test.true)
-
-pub overflow_add-i : goal.overflow_add-i
-overflow_add-i c =
-    let p = c.requires.0.paths-most in
-    omega (arith, c.loop-i-test.true)
-
-pub loop-i-smaller : goal.loop-i-smaller
-loop-i-smaller c = omega (arith, c.loop-i-test.true)
 
 pub loop-i-preserved : goal.loop-i-preserved
 loop-i-preserved c =

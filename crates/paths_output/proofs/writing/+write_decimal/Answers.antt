@@ -1,6 +1,5 @@
 -- `write_decimal` meets its contract; the number itself falls. Assumes nothing.
-use native.Mathlib.Omega.{arith}
-use mathlib.Core.Path.{◌∙◌}
+use Rattle.std.proofs.Common.{arith, ◌∙◌}
 use Rattle.paths_output.specs.Digits.{small-room, small-wrote, large-room, large-next, large-wrote}
 use Rattle.paths_output.proofs.writing.+write_decimal.Goals as goal
 

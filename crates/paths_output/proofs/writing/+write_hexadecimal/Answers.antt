@@ -1,6 +1,5 @@
 -- `write_hexadecimal` meets its contract; the digits left fall. Assumes nothing.
-use native.Mathlib.Omega.{arith}
-use mathlib.Core.Path.{◌∙◌}
+use Rattle.std.proofs.Common.{arith, ◌∙◌}
 use Rattle.paths_output.specs.Digits.{hex-none, hex-next, hex-wrote}
 use Rattle.paths_output.proofs.writing.+write_hexadecimal.Goals as goal
 

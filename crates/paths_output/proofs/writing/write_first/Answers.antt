@@ -1,5 +1,5 @@
 -- `write_first` meets its contract. Assumes nothing.
-use mathlib.Core.Path.{◌∙◌}
+use Rattle.std.proofs.Common.{◌∙◌}
 use Rattle.definition.specs.Text.{decimal, paths_word, pushes_word}
 use Rattle.paths_output.specs.Written.{piece-room, piece-done, last-room, piece-last}
 use Rattle.paths_output.specs.Lines.{numbered, first-begin}

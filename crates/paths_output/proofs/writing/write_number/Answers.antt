@@ -1,7 +1,5 @@
 -- `write_number` meets its contract. Assumes nothing.
-use native.Mathlib.Omega.{arith}
-use mathlib.Core.Path.{◌∙◌}
-use mathlib.Core.List.{[], ◌∷◌, ◌++◌}
+use Rattle.std.proofs.Common.{arith, ◌∙◌, [], ◌∷◌, ◌++◌}
 use Rattle.definition.specs.Text.{decimal}
 use Rattle.paths_output.specs.Written.{begin, piece-room, piece-done, last-room, piece-last}
 use Rattle.paths_output.proofs.writing.write_number.Goals as goal

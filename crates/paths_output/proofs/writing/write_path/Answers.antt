@@ -1,8 +1,6 @@
 -- `write_path` meets its contract, piece by piece. Assumes nothing.
-use native.Mathlib.Omega.{arith}
-use mathlib.Core.Path.{◌∙◌}
-use mathlib.Core.List.{[], ◌∷◌}
-use lib.Ieee.{binary64, to_bits}
+use Rattle.std.proofs.Common.{arith, ◌∙◌, [], ◌∷◌, to_bits}
+use lib.Ieee.{binary64}
 use Rattle.definition.specs.Text.{hexadecimal}
 use Rattle.paths_output.specs.Written.{piece-room, piece-done, last-room, piece-last}
 use Rattle.paths_output.specs.Digits.{length-hexadecimal}

@@ -1,5 +1,5 @@
 -- `write_refused` meets its contract. Assumes nothing.
-use mathlib.Core.Path.{◌∙◌}
+use Rattle.std.proofs.Common.{◌∙◌}
 use Rattle.definition.specs.Text.{refused_word}
 use Rattle.paths_output.specs.Written.{piece-room, piece-done, last-room, piece-last}
 use Rattle.paths_output.specs.Lines.{numbered, refused-begin}

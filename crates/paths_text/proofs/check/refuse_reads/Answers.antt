@@ -1,9 +1,10 @@
 -- `refuse_reads` meets its contract. Assumes nothing.
+use Rattle.refusals.specs.Numbers.{number-positive, passed-up}
 use Rattle.paths_text.specs.Checks.{reference-fails, fourth-fails}
 use Rattle.paths_text.proofs.check.refuse_reads.Goals as goal
 
-pub returns-then-refusal-gt0 : goal.returns-then-refusal-gt0
-returns-then-refusal-gt0 c = λ rest. reference-fails _ _ rest _ c.check_reference-refusal.ensures c.if-refusal-gt0.true
+pub returns-in_err-check_reference : goal.returns-in_err-check_reference
+returns-in_err-check_reference c = λ rest. passed-up _ _ _ c.from_residual.ensures.1 (reference-fails _ _ rest _ c.in_err-check_reference.ensures (number-positive _))
 
 pub returns : goal.returns
-returns c = λ rest. fourth-fails _ _ rest _ c.check_reference-refusal.ensures c.if-refusal-gt0.false
+returns c = λ rest. fourth-fails _ _ rest c.in_ok-check_reference.ensures

@@ -1,13 +1,15 @@
 -- `read_column` meets its contract. The invariant: i entries are decoded. Assumes nothing.
-use native.Mathlib.Omega.{arith}
+use Rattle.std.proofs.Common.{arith}
 use Rattle.paths_text.specs.Entries.{decode-start, decode-next, column-ragged, column-long, column-read}
 use Rattle.paths_text.proofs.column.read_column.Goals as goal
+use Rattle.paths_text.proofs.column.read_column.Goals.{then-size-ne0-via-then-size-ne0, then-size-ne0-via-else-size-ne0+then-size-gt4096}
 
 pub returns-then-size-ne0 : goal.returns-then-size-ne0
-returns-then-size-ne0 c = column-ragged _ _ c.if-size-ne0.true
-
-pub returns-then-size-gt4096 : goal.returns-then-size-gt4096
-returns-then-size-gt4096 c = column-long _ _ c.if-size-ne0.false c.if-size-gt4096.true
+returns-then-size-ne0 c =
+    elim c.then-size-ne0.branch [
+      | then-size-ne0-via-then-size-ne0 w ↦ column-ragged _ _ w.if-size-ne0.true
+      | then-size-ne0-via-else-size-ne0+then-size-gt4096 w ↦ column-long _ _ w.if-size-ne0.false w.if-size-gt4096.true
+    ]
 
 pub loop-i-init : goal.loop-i-init
 loop-i-init c = decode-start _ _
@@ -25,12 +27,6 @@ pub bounds-column-i : goal.bounds-column-i
 bounds-column-i c =
     omega
     (arith, c.loop-i-test.true, c.if-size-gt4096.false, c.requires, c.loop-i.invariant.same)
-
-pub overflow_add-i : goal.overflow_add-i
-overflow_add-i c = omega (arith, c.loop-i-test.true, c.if-size-gt4096.false)
-
-pub loop-i-smaller : goal.loop-i-smaller
-loop-i-smaller c = omega (arith, c.loop-i-test.true)
 
 pub loop-i-preserved : goal.loop-i-preserved
 loop-i-preserved c =

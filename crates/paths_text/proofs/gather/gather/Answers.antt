@@ -1,28 +1,25 @@
--- `gather` meets its contract. The invariant: some reads are gathered, the others are left. Assumes nothing.
-use native.Mathlib.Omega.{arith}
+-- `gather` meets its contract. The invariant: so many reads are gathered, the others are left. Assumes nothing.
+use Rattle.std.proofs.Common.{arith, refl}
 use Rattle.paths_text.specs.Gather.{loop-start, loop-asks, loop-next, loop-end}
 use Rattle.paths_text.proofs.gather.gather.Goals as goal
 
-pub loop-g-init : goal.loop-g-init
-loop-g-init c = loop-start _ _ _ _ c.requires
+pub loop-i-init : goal.loop-i-init
+loop-i-init c = (loop-start _ _ _ _ c.requires, refl)
 
 pub next_read-g-requires : goal.next_read-g-requires
-next_read-g-requires c = loop-asks c.loop-g.invariant c.loop-g-test.true
+next_read-g-requires c = loop-asks c.loop-i.invariant.0 (omega arith)
 
-pub loop-g-smaller : goal.loop-g-smaller
-loop-g-smaller c =
-    let e = c.next_read-g.ensures.reads in
-    omega (arith, c.loop-g-test.true)
-
-pub loop-g-preserved : goal.loop-g-preserved
-loop-g-preserved c =
-    loop-next c.loop-g.invariant c.next_read-g.ensures c.next_read-g.auto.text c.next_read-g.auto.ends
+pub loop-i-preserved : goal.loop-i-preserved
+loop-i-preserved c = (
+  loop-next c.loop-i.invariant.0 c.next_read-g.ensures c.next_read-g.auto.text c.next_read-g.auto.ends,
+  (let e = c.next_read-g.ensures.reads in omega arith),
+)
 
 pub shape_of-text : goal.shape_of-text
-shape_of-text c = c.loop-g.invariant.going.same
+shape_of-text c = c.loop-i.invariant.0.going.same
 
 pub shape_of-ends : goal.shape_of-ends
-shape_of-ends c = c.loop-g.invariant.going.ends_same
+shape_of-ends c = c.loop-i.invariant.0.going.ends_same
 
 pub returns : goal.returns
-returns c = loop-end c.loop-g.invariant c.loop-g-test.false
+returns c = loop-end c.loop-i.invariant.0 (omega arith)

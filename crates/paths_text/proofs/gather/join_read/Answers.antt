@@ -1,6 +1,5 @@
 -- `join_read` meets its contract: both lines are brought behind the reads before, and the qualities before change places with the bases. Assumes nothing.
-use native.Mathlib.Omega.{arith}
-use mathlib.Core.Path.{◌∙◌}
+use Rattle.std.proofs.Common.{arith, ◌∙◌}
 use Rattle.paths_text.specs.Moves.{bases-move, quals-move, rotate-asks, joined}
 use Rattle.paths_text.proofs.gather.join_read.Goals as goal
 

@@ -1,10 +1,10 @@
 -- `move_bytes` meets its contract. The invariant: i bytes are moved, and those still to move are as they were. Assumes nothing.
-use native.Mathlib.Omega.{arith}
+use Rattle.std.proofs.Common.{arith}
 use Rattle.paths_text.specs.Moves.{move_start, move-large, move-next, move-end, move-room}
 use Rattle.paths_text.proofs.gather.move_bytes.Goals as goal
 
-pub overflow_sub-size : goal.overflow_sub-size
-overflow_sub-size c = c.requires.rising
+pub overflow_sub-i-end : goal.overflow_sub-i-end
+overflow_sub-i-end c = c.requires.rising
 
 pub loop-i-init : goal.loop-i-init
 loop-i-init c = move_start c.args.text.now c.args.from c.args.to c.args.dest c.args.less c.requires
@@ -37,16 +37,6 @@ pub bounds-text-dest : goal.bounds-text-dest
 bounds-text-dest c =
     (move-room c.args.text.now c.args.from c.args.to c.args.dest c.args.less c.requires _ _
     c.loop-i.invariant c.loop-i-test.true).1
-
-pub overflow_add-i : goal.overflow_add-i
-overflow_add-i c =
-    let r = (move-room c.args.text.now c.args.from c.args.to c.args.dest c.args.less c.requires _ _
-    c.loop-i.invariant c.loop-i-test.true).0 in
-    let s = c.loop-i.invariant.same in
-    omega (arith, c.well_formed.0.0)
-
-pub loop-i-smaller : goal.loop-i-smaller
-loop-i-smaller c = omega (arith, c.loop-i-test.true)
 
 pub loop-i-preserved : goal.loop-i-preserved
 loop-i-preserved c =

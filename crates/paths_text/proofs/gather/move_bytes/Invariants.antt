@@ -1,9 +1,5 @@
-use Prim.Native.Nat.{◌-◌}
 use Rattle.paths_text.specs.Moves.{Moving}
 use Rattle.paths_text.proofs.gather.move_bytes.Given as goal
 
 abbrev pub invariant-loop-i : goal.invariant-loop-i
 invariant-loop-i l = Moving l.initial.text l.text l.from l.to l.dest l.less l.i
-
-abbrev pub decreases-loop-i : goal.decreases-loop-i
-decreases-loop-i l = (l.to - l.from) - l.i

@@ -120,56 +120,56 @@ slice_bounds-list_columns-end-19 c = part_count {A = ℕ} 2863311530 _ c.lengths
 pub slice_bounds-outputs_agree-end : goal.slice_bounds-outputs_agree-end
 slice_bounds-outputs_agree-end c = array-kept _ _ c.lengths_lent-l.result.row_scores c.list_columns-answer.new.row_scores c.list_columns-answer.auto.row_scores
 
-pub slice_bounds-outputs_agree-end-2 : goal.slice_bounds-outputs_agree-end-2
-slice_bounds-outputs_agree-end-2 c = array-kept 2863311530 _ c.lengths_lent-l.result.row_closings c.list_columns-answer.new.row_closings c.list_columns-answer.auto.row_closings
+pub slice_bounds-outputs_agree-end-then-list_answered : goal.slice_bounds-outputs_agree-end-then-list_answered
+slice_bounds-outputs_agree-end-then-list_answered c = array-kept 2863311530 _ c.lengths_lent-l.result.row_closings c.list_columns-answer.new.row_closings c.list_columns-answer.auto.row_closings
 
-pub slice_bounds-outputs_agree-end-3 : goal.slice_bounds-outputs_agree-end-3
-slice_bounds-outputs_agree-end-3 c = array-kept 2863311530 _ c.lengths_lent-l.result.row_edges c.list_columns-answer.new.row_edges c.list_columns-answer.auto.row_edges
+pub slice_bounds-outputs_agree-end-then-list_answered-2 : goal.slice_bounds-outputs_agree-end-then-list_answered-2
+slice_bounds-outputs_agree-end-then-list_answered-2 c = array-kept 2863311530 _ c.lengths_lent-l.result.row_edges c.list_columns-answer.new.row_edges c.list_columns-answer.auto.row_edges
 
-pub slice_bounds-outputs_agree-end-4 : goal.slice_bounds-outputs_agree-end-4
-slice_bounds-outputs_agree-end-4 c = array-kept 170 _ c.lengths_lent-l.result.bases c.list_columns-answer.new.out_bases c.list_columns-answer.auto.out_bases
+pub slice_bounds-outputs_agree-end-then-list_answered-3 : goal.slice_bounds-outputs_agree-end-then-list_answered-3
+slice_bounds-outputs_agree-end-then-list_answered-3 c = array-kept 170 _ c.lengths_lent-l.result.bases c.list_columns-answer.new.out_bases c.list_columns-answer.auto.out_bases
 
-pub slice_bounds-outputs_agree-end-5 : goal.slice_bounds-outputs_agree-end-5
-slice_bounds-outputs_agree-end-5 c = array-kept 2863311530 _ c.lengths_lent-l.result.sequences c.list_columns-answer.new.sequences c.list_columns-answer.auto.sequences
+pub slice_bounds-outputs_agree-end-then-list_answered-4 : goal.slice_bounds-outputs_agree-end-then-list_answered-4
+slice_bounds-outputs_agree-end-then-list_answered-4 c = array-kept 2863311530 _ c.lengths_lent-l.result.sequences c.list_columns-answer.new.sequences c.list_columns-answer.auto.sequences
 
-pub slice_bounds-outputs_agree-end-6 : goal.slice_bounds-outputs_agree-end-6
-slice_bounds-outputs_agree-end-6 c = array-kept 2863311530 _ c.lengths_lent-l.result.places c.list_columns-answer.new.places c.list_columns-answer.auto.places
+pub slice_bounds-outputs_agree-end-then-list_answered-5 : goal.slice_bounds-outputs_agree-end-then-list_answered-5
+slice_bounds-outputs_agree-end-then-list_answered-5 c = array-kept 2863311530 _ c.lengths_lent-l.result.places c.list_columns-answer.new.places c.list_columns-answer.auto.places
 
 pub slice_bounds-graph_tables_left-end : goal.slice_bounds-graph_tables_left-end
 slice_bounds-graph_tables_left-end c = array-kept 2863311530 _ c.lengths_lent-l.result.vertices c.list_columns-answer.new.w_vertices c.list_columns-answer.auto.w_vertices
 
-pub slice_bounds-graph_tables_left-end-2 : goal.slice_bounds-graph_tables_left-end-2
-slice_bounds-graph_tables_left-end-2 c = array-kept 2863311530 _ c.lengths_lent-l.result.edges c.list_columns-answer.new.w_edges c.list_columns-answer.auto.w_edges
+pub slice_bounds-graph_tables_left-end-then-outputs_agree : goal.slice_bounds-graph_tables_left-end-then-outputs_agree
+slice_bounds-graph_tables_left-end-then-outputs_agree c = array-kept 2863311530 _ c.lengths_lent-l.result.edges c.list_columns-answer.new.w_edges c.list_columns-answer.auto.w_edges
 
-pub slice_bounds-graph_tables_left-end-3 : goal.slice_bounds-graph_tables_left-end-3
-slice_bounds-graph_tables_left-end-3 c = array-kept 2863311530 _ c.lengths_lent-l.result.index c.list_columns-answer.new.w_index c.list_columns-answer.auto.w_index
+pub slice_bounds-graph_tables_left-end-then-outputs_agree-2 : goal.slice_bounds-graph_tables_left-end-then-outputs_agree-2
+slice_bounds-graph_tables_left-end-then-outputs_agree-2 c = array-kept 2863311530 _ c.lengths_lent-l.result.index c.list_columns-answer.new.w_index c.list_columns-answer.auto.w_index
 
-pub slice_bounds-graph_tables_left-end-4 : goal.slice_bounds-graph_tables_left-end-4
-slice_bounds-graph_tables_left-end-4 c = array-kept 2863311530 _ c.lengths_lent-l.result.nodes c.list_columns-answer.new.w_nodes c.list_columns-answer.auto.w_nodes
+pub slice_bounds-graph_tables_left-end-then-outputs_agree-3 : goal.slice_bounds-graph_tables_left-end-then-outputs_agree-3
+slice_bounds-graph_tables_left-end-then-outputs_agree-3 c = array-kept 2863311530 _ c.lengths_lent-l.result.nodes c.list_columns-answer.new.w_nodes c.list_columns-answer.auto.w_nodes
 
-pub slice_bounds-graph_tables_left-end-5 : goal.slice_bounds-graph_tables_left-end-5
-slice_bounds-graph_tables_left-end-5 c = array-kept 2863311530 _ c.lengths_lent-l.result.targets c.list_columns-answer.new.w_targets c.list_columns-answer.auto.w_targets
+pub slice_bounds-graph_tables_left-end-then-outputs_agree-4 : goal.slice_bounds-graph_tables_left-end-then-outputs_agree-4
+slice_bounds-graph_tables_left-end-then-outputs_agree-4 c = array-kept 2863311530 _ c.lengths_lent-l.result.targets c.list_columns-answer.new.w_targets c.list_columns-answer.auto.w_targets
 
 pub slice_bounds-path_tables_left-end : goal.slice_bounds-path_tables_left-end
 slice_bounds-path_tables_left-end c = array-kept 2863311530 _ c.lengths_lent-l.result.paths c.list_columns-answer.new.w_paths c.list_columns-answer.auto.w_paths
 
-pub slice_bounds-path_tables_left-end-2 : goal.slice_bounds-path_tables_left-end-2
-slice_bounds-path_tables_left-end-2 c = array-kept _ _ c.lengths_lent-l.result.scores c.list_columns-answer.new.w_scores c.list_columns-answer.auto.w_scores
+pub slice_bounds-path_tables_left-end-then-graph_tables_left : goal.slice_bounds-path_tables_left-end-then-graph_tables_left
+slice_bounds-path_tables_left-end-then-graph_tables_left c = array-kept _ _ c.lengths_lent-l.result.scores c.list_columns-answer.new.w_scores c.list_columns-answer.auto.w_scores
 
-pub slice_bounds-path_tables_left-end-3 : goal.slice_bounds-path_tables_left-end-3
-slice_bounds-path_tables_left-end-3 c = array-kept 43690 _ c.lengths_lent-l.result.active c.list_columns-answer.new.w_active c.list_columns-answer.auto.w_active
+pub slice_bounds-path_tables_left-end-then-graph_tables_left-2 : goal.slice_bounds-path_tables_left-end-then-graph_tables_left-2
+slice_bounds-path_tables_left-end-then-graph_tables_left-2 c = array-kept 43690 _ c.lengths_lent-l.result.active c.list_columns-answer.new.w_active c.list_columns-answer.auto.w_active
 
-pub slice_bounds-path_tables_left-end-4 : goal.slice_bounds-path_tables_left-end-4
-slice_bounds-path_tables_left-end-4 c = array-kept 2863311530 _ c.lengths_lent-l.result.queue c.list_columns-answer.new.w_queue c.list_columns-answer.auto.w_queue
+pub slice_bounds-path_tables_left-end-then-graph_tables_left-3 : goal.slice_bounds-path_tables_left-end-then-graph_tables_left-3
+slice_bounds-path_tables_left-end-then-graph_tables_left-3 c = array-kept 2863311530 _ c.lengths_lent-l.result.queue c.list_columns-answer.new.w_queue c.list_columns-answer.auto.w_queue
 
 pub slice_bounds-search_tables_left-end : goal.slice_bounds-search_tables_left-end
 slice_bounds-search_tables_left-end c = array-kept 2863311530 _ c.lengths_lent-l.result.closed c.list_columns-answer.new.w_closed c.list_columns-answer.auto.w_closed
 
-pub slice_bounds-search_tables_left-end-2 : goal.slice_bounds-search_tables_left-end-2
-slice_bounds-search_tables_left-end-2 c = array-kept 2863311530 _ c.lengths_lent-l.result.order c.list_columns-answer.new.w_order c.list_columns-answer.auto.w_order
+pub slice_bounds-search_tables_left-end-then-path_tables_left : goal.slice_bounds-search_tables_left-end-then-path_tables_left
+slice_bounds-search_tables_left-end-then-path_tables_left c = array-kept 2863311530 _ c.lengths_lent-l.result.order c.list_columns-answer.new.w_order c.list_columns-answer.auto.w_order
 
-pub slice_bounds-search_tables_left-end-3 : goal.slice_bounds-search_tables_left-end-3
-slice_bounds-search_tables_left-end-3 c = array-kept 2863311530 _ c.lengths_lent-l.result.marks c.list_columns-answer.new.w_marks c.list_columns-answer.auto.w_marks
+pub slice_bounds-search_tables_left-end-then-path_tables_left-2 : goal.slice_bounds-search_tables_left-end-then-path_tables_left-2
+slice_bounds-search_tables_left-end-then-path_tables_left-2 c = array-kept 2863311530 _ c.lengths_lent-l.result.marks c.list_columns-answer.new.w_marks c.list_columns-answer.auto.w_marks
 
-pub slice_bounds-search_tables_left-end-4 : goal.slice_bounds-search_tables_left-end-4
-slice_bounds-search_tables_left-end-4 c = array-kept 2863311530 _ c.lengths_lent-l.result.walks c.list_columns-answer.new.w_walks c.list_columns-answer.auto.w_walks
+pub slice_bounds-search_tables_left-end-then-path_tables_left-3 : goal.slice_bounds-search_tables_left-end-then-path_tables_left-3
+slice_bounds-search_tables_left-end-then-path_tables_left-3 c = array-kept 2863311530 _ c.lengths_lent-l.result.walks c.list_columns-answer.new.w_walks c.list_columns-answer.auto.w_walks

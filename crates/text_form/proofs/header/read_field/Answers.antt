@@ -1,30 +1,21 @@
 -- `read_field` meets its contract. Assumes nothing.
-use native.Mathlib.Omega.{arith}
-use Rattle.text_form.specs.Headers.{past_end, stop-within, field-bad, field-good}
+use Rattle.std.proofs.Common.{◌≡◌, ◌∙◌, to_z, of_z, w32, rules}
+use Rattle.text_form.specs.Parts.{part_rest, found-or}
+use Rattle.text_form.specs.Headers.{past_end, field-bad, field-good}
 use Rattle.text_form.proofs.header.read_field.Goals as goal
 
-pub returns-then-at-end : goal.returns-then-at-end
-returns-then-at-end c =
-    past_end c.args.text.now c.args.end c.requires.0 c.args.at c.if-at-end.true c.requires.1
+pub returns-then-at-line : goal.returns-then-at-line
+returns-then-at-line c = past_end c.args.line.now c.args.at c.if-at-line.true c.requires
 
-pub read_number-number-requires : goal.read_number-number-requires
-read_number-number-requires c =
-    stop-within c.args.text.now c.args.end c.requires.0 c.args.at _ c.if-at-end.false c.find_byte-stop.ensures
-
-pub returns-in_default : goal.returns-in_default
-returns-in_default c =
-    field-bad c.args.text.now c.args.end c.requires.0 c.args.at _ c.if-at-end.false
-    c.find_byte-stop.ensures c.read_number-number.result c.read_number-number.ensures
-    c.in_default.is
-
-pub overflow_add-result : goal.overflow_add-result
-overflow_add-result c =
-    let w = stop-within c.args.text.now c.args.end c.requires.0 c.args.at _
-    c.if-at-end.false c.find_byte-stop.ensures in
-    omega (arith, c.well_formed.0.0)
+pub returns-in_err-number : goal.returns-in_err-number
+returns-in_err-number c =
+    let r = part_rest c.args.at c.args.line.now in
+    let e = rw r at (c.unwrap_or-size.ensures ∙ found-or 32 _ _ c.find_byte.ensures) in
+    rw c.from_residual.ensures (field-bad c.args.line.now c.args.at _ c.if-at-line.false e (rw r at c.in_err-number.ensures))
 
 pub returns : goal.returns
 returns c =
-    field-good c.args.text.now c.args.end c.requires.0 c.args.at _ c.if-at-end.false
-    c.find_byte-stop.ensures c.read_number-number.result _
-    c.read_number-number.ensures c.in-Value.is
+    let r = part_rest c.args.at c.args.line.now in
+    let e = rw r at (c.unwrap_or-size.ensures ∙ found-or 32 _ _ c.find_byte.ensures) in
+    let f : to_z w32 (of_z w32 c.in_ok-number.number) ≡ c.in_ok-number.number = search rules in
+    rw f (field-good c.args.line.now c.args.at _ c.if-at-line.false e _ (rw r at c.in_ok-number.ensures))

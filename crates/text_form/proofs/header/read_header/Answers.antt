@@ -1,74 +1,49 @@
 -- `read_header` meets its contract: five numbers, each with what is left behind it. Assumes nothing.
-use Rattle.text_form.specs.Headers.{header-0, header-1, header-2, header-3, header-4, header-5, header-end, said-1, said-2, said-3, said-4}
+use Rattle.std.proofs.Common.{◌≡◌, to_z, of_z, w32, rules}
+use Rattle.text_form.specs.Headers.{header-0, header-1, header-2, header-3, header-4, header-5, header-end}
 use Rattle.text_form.proofs.header.read_header.Goals as goal
 
-pub returns-in_default : goal.returns-in_default
-returns-in_default c =
-    header-0 c.args.text.now c.args.end c.read_field-first.result c.read_field-first.ensures
-    c.in_default.is
+pub returns-in_err-k : goal.returns-in_err-k
+returns-in_err-k c =
+    rw c.from_residual.ensures (
+    header-0 c.args.line.now c.in_err-k.ensures
+    )
 
-pub read_field-second-requires : goal.read_field-second-requires
-read_field-second-requires c =
-    (c.requires, (said-1 c.args.text.now c.args.end c.read_field-first.result _ c.read_field-first.ensures c.in-Read.is).1)
+pub returns-in_err-q : goal.returns-in_err-q
+returns-in_err-q c =
+    rw c.from_residual-in_err-q.ensures (
+    header-1 c.args.line.now _ c.in_ok-k.ensures c.in_err-q.ensures
+    )
 
-pub returns-in_default-second : goal.returns-in_default-second
-returns-in_default-second c =
-    header-1 c.args.text.now c.args.end c.read_field-first.result _ c.read_field-first.ensures
-    c.in-Read.is c.read_field-second.result c.read_field-second.ensures
-    c.in_default-second.is
+pub returns-in_err-n : goal.returns-in_err-n
+returns-in_err-n c =
+    rw c.from_residual-in_err-n.ensures (
+    header-2 c.args.line.now _ c.in_ok-k.ensures _ c.in_ok-q.ensures c.in_err-n.ensures
+    )
 
-pub read_field-third-requires : goal.read_field-third-requires
-read_field-third-requires c =
-    (c.requires, (said-2 c.args.text.now c.args.end c.read_field-first.result _ c.read_field-first.ensures c.in-Read.is c.read_field-second.result _ c.read_field-second.ensures c.in-Read-second.is).1)
+pub returns-in_err-t : goal.returns-in_err-t
+returns-in_err-t c =
+    rw c.from_residual-in_err-t.ensures (
+    header-3 c.args.line.now _ c.in_ok-k.ensures _ c.in_ok-q.ensures _ c.in_ok-n.ensures c.in_err-t.ensures
+    )
 
-pub returns-in_default-third : goal.returns-in_default-third
-returns-in_default-third c =
-    header-2 c.args.text.now c.args.end c.read_field-first.result _ c.read_field-first.ensures c.in-Read.is
-    c.read_field-second.result _ c.read_field-second.ensures c.in-Read-second.is
-    c.read_field-third.result c.read_field-third.ensures c.in_default-third.is
+pub returns-in_err-r : goal.returns-in_err-r
+returns-in_err-r c =
+    rw c.from_residual-in_err-r.ensures (
+    header-4 c.args.line.now _ c.in_ok-k.ensures _ c.in_ok-q.ensures _ c.in_ok-n.ensures _ c.in_ok-t.ensures c.in_err-r.ensures
+    )
 
-pub read_field-fourth-requires : goal.read_field-fourth-requires
-read_field-fourth-requires c =
-    (c.requires, (said-3 c.args.text.now c.args.end c.read_field-first.result _ c.read_field-first.ensures c.in-Read.is c.read_field-second.result _ c.read_field-second.ensures c.in-Read-second.is c.read_field-third.result _ c.read_field-third.ensures c.in-Read-third.is).1)
-
-pub returns-in_default-fourth : goal.returns-in_default-fourth
-returns-in_default-fourth c =
-    header-3 c.args.text.now c.args.end c.read_field-first.result _ c.read_field-first.ensures c.in-Read.is
-    c.read_field-second.result _ c.read_field-second.ensures c.in-Read-second.is c.read_field-third.result _ c.read_field-third.ensures
-    c.in-Read-third.is c.read_field-fourth.result c.read_field-fourth.ensures
-    c.in_default-fourth.is
-
-pub read_field-fifth-requires : goal.read_field-fifth-requires
-read_field-fifth-requires c =
-    (c.requires, (said-4 c.args.text.now c.args.end c.read_field-first.result _ c.read_field-first.ensures c.in-Read.is c.read_field-second.result _ c.read_field-second.ensures c.in-Read-second.is c.read_field-third.result _ c.read_field-third.ensures c.in-Read-third.is c.read_field-fourth.result _ c.read_field-fourth.ensures c.in-Read-fourth.is).1)
-
-pub returns-in_default-fifth : goal.returns-in_default-fifth
-returns-in_default-fifth c =
-    header-4 c.args.text.now c.args.end c.read_field-first.result _ c.read_field-first.ensures c.in-Read.is
-    c.read_field-second.result _ c.read_field-second.ensures c.in-Read-second.is c.read_field-third.result _
-    c.read_field-third.ensures c.in-Read-third.is c.read_field-fourth.result _ c.read_field-fourth.ensures
-    c.in-Read-fourth.is c.read_field-fifth.result
-    c.read_field-fifth.ensures c.in_default-fifth.is
-
-pub returns-then-r-end : goal.returns-then-r-end
-returns-then-r-end c =
-    header-5 c.args.text.now c.args.end c.read_field-first.result _ c.read_field-first.ensures c.in-Read.is
-    c.read_field-second.result _ c.read_field-second.ensures c.in-Read-second.is c.read_field-third.result _
-    c.read_field-third.ensures c.in-Read-third.is c.read_field-fourth.result _ c.read_field-fourth.ensures
-    c.in-Read-fourth.is c.read_field-fifth.result _ c.read_field-fifth.ensures
-    c.in-Read-fifth.is c.requires c.if-r-end.true
-
-pub make_settings-requires : goal.make_settings-requires
-make_settings-requires c =
-    (said-4 c.args.text.now c.args.end c.read_field-first.result _ c.read_field-first.ensures c.in-Read.is
-    c.read_field-second.result _ c.read_field-second.ensures c.in-Read-second.is c.read_field-third.result _
-    c.read_field-third.ensures c.in-Read-third.is c.read_field-fourth.result _ c.read_field-fourth.ensures
-    c.in-Read-fourth.is).2
+pub returns-then-r-line : goal.returns-then-r-line
+returns-then-r-line c =
+    header-5 c.args.line.now _ c.in_ok-k.ensures _ c.in_ok-q.ensures _ c.in_ok-n.ensures _ c.in_ok-t.ensures _ c.in_ok-r.ensures
+    c.if-r-line.true
 
 pub returns : goal.returns
 returns c =
-    header-end c.args.text.now c.args.end c.read_field-first.result _ c.read_field-first.ensures c.in-Read.is
-    c.read_field-second.result _ c.read_field-second.ensures c.in-Read-second.is c.read_field-third.result _
-    c.read_field-third.ensures c.in-Read-third.is c.read_field-fourth.result _ c.read_field-fourth.ensures c.in-Read-fourth.is
-    c.read_field-fifth.result _ c.read_field-fifth.ensures c.in-Read-fifth.is c.requires
-    c.make_settings.result c.if-r-end.false c.make_settings.ensures
+    let a : to_z w32 (of_z w32 c.in_ok-k.k.number) ≡ c.in_ok-k.k.number = search rules in
+    let b : to_z w32 (of_z w32 c.in_ok-q.q.number) ≡ c.in_ok-q.q.number = search rules in
+    let d : to_z w32 (of_z w32 c.in_ok-n.n.number) ≡ c.in_ok-n.n.number = search rules in
+    let e : to_z w32 (of_z w32 c.in_ok-t.t.number) ≡ c.in_ok-t.t.number = search rules in
+    let f : to_z w32 (of_z w32 c.in_ok-r.r.number) ≡ c.in_ok-r.r.number = search rules in
+    header-end c.args.line.now _ c.in_ok-k.ensures _ c.in_ok-q.ensures _ c.in_ok-n.ensures _ c.in_ok-t.ensures _ c.in_ok-r.ensures
+    _ c.if-r-line.false (rw (a, b, d, e, f) at c.make_settings.ensures)

@@ -1,29 +1,11 @@
--- `find_byte` meets its contract. The invariant: the search from here finds what the whole search finds. Assumes nothing.
-use native.Mathlib.Omega.{arith}
-use Rattle.text_form.specs.Parts.{seek-start, seek_found, seek-next, seek-end}
+-- `find_byte` meets its contract: the library's search finds the first place. Assumes nothing.
+use Rattle.std.proofs.Common.{ℕ, eqb, rules, tests}
+use Rattle.std.proofs.lemmas.Iterator.{YieldsList-from_slice}
+use Rattle.std.proofs.lemmas.Iterator.Search.{position_from_yields_List}
+use Rattle.text_form.specs.Parts.{found-first}
 use Rattle.text_form.proofs.numbers.find_byte.Goals as goal
 
-pub loop-place-init : goal.loop-place-init
-loop-place-init c = seek-start _ _ _ _ c.requires.0
-
-pub bounds-text-place : goal.bounds-text-place
-bounds-text-place c = omega (arith, c.loop-place-test.true, c.requires.1)
-
-pub returns-then-text-place : goal.returns-then-text-place
-returns-then-text-place c =
-    seek_found c.loop-place.invariant c.requires.1 c.loop-place-test.true
-    c.if-text-place.true
-
-pub overflow_add-place : goal.overflow_add-place
-overflow_add-place c = omega (arith, c.loop-place-test.true, c.requires.1)
-
-pub loop-place-smaller : goal.loop-place-smaller
-loop-place-smaller c = omega (arith, c.loop-place-test.true)
-
-pub loop-place-preserved : goal.loop-place-preserved
-loop-place-preserved c =
-    seek-next c.loop-place.invariant c.requires.1 c.loop-place-test.true
-    c.if-text-place.false
-
 pub returns : goal.returns
-returns c = seek-end c.loop-place.invariant c.requires.1 c.loop-place-test.false
+returns c =
+    found-first c.args.byte c.args.text.now _
+    (position_from_yields_List (λ (b : ℕ). eqb b c.args.byte) _ _ _ c.position.ensures.ran (YieldsList-from_slice c.args.text.now cc) (λ x b q k. search (rules, tests)))

@@ -1,34 +1,19 @@
 -- `read_digits` meets its contract. The invariant: the digits from here on, behind those read, are worth what all are. Assumes nothing.
-use native.Mathlib.Omega.{arith}
-use Rattle.text_form.specs.Numbers.{read-start, read-stop, read_next, read-end}
+use Rattle.std.proofs.Common.{arith, refl}
+use Rattle.text_form.specs.Numbers.{read-stop, read_next, read-end}
 use Rattle.text_form.proofs.numbers.read_digits.Goals as goal
 
-pub loop-place-init : goal.loop-place-init
-loop-place-init c = read-start _ _ _ c.requires.0
+pub loop-byte-init : goal.loop-byte-init
+loop-byte-init c = record { whole = refl; small = omega arith }
 
-pub bounds-text-place : goal.bounds-text-place
-bounds-text-place c = omega (arith, c.loop-place-test.true, c.requires.1)
+pub more_digits-requires : goal.more_digits-requires
+more_digits-requires c = c.loop-byte.invariant.small
 
-pub more_digits-more-requires : goal.more_digits-more-requires
-more_digits-more-requires c = c.loop-place.invariant.small
+pub returns-in_err-value : goal.returns-in_err-value
+returns-in_err-value c = rw c.from_residual.ensures (read-stop c.loop-byte.invariant c.loop-byte-test.true c.in_err-value.ensures)
 
-pub returns-in_default : goal.returns-in_default
-returns-in_default c =
-    read-stop c.loop-place.invariant c.requires.1
-    c.loop-place-test.true _ c.more_digits-more.ensures c.in_default.is
-
-pub overflow_add-place : goal.overflow_add-place
-overflow_add-place c =
-    omega (arith, c.loop-place-test.true, c.requires.1)
-
-pub loop-place-smaller : goal.loop-place-smaller
-loop-place-smaller c = omega (arith, c.loop-place-test.true)
-
-pub loop-place-preserved : goal.loop-place-preserved
-loop-place-preserved c =
-    read_next c.loop-place.invariant c.requires.1
-    c.loop-place-test.true _ _ c.more_digits-more.ensures
-    c.in-Value.is
+pub loop-byte-preserved : goal.loop-byte-preserved
+loop-byte-preserved c = read_next c.loop-byte.invariant c.loop-byte-test.true _ c.in_ok-value.ensures
 
 pub returns : goal.returns
-returns c = read-end c.loop-place.invariant c.loop-place-test.false
+returns c = read-end c.loop-byte.invariant c.loop-byte-test.false

@@ -1,35 +1,39 @@
 -- `read_form` meets its contract, line by line. Assumes nothing.
+use Rattle.std.proofs.Common.{◌+◌}
+use Rattle.text_form.specs.Parts.{part_rest}
 use Rattle.text_form.specs.Reads.{form-long, first-unended, second-unended, form-header, form-reads, form-read}
 use Rattle.text_form.proofs.reads.read_form.Goals as goal
 
-pub returns-then-size-gt8192 : goal.returns-then-size-gt8192
-returns-then-size-gt8192 c = form-long _ c.if-size-gt8192.true
+pub returns-then-text-gt8192 : goal.returns-then-text-gt8192
+returns-then-text-gt8192 c = form-long _ c.if-text-gt8192.true
 
-pub returns-then-first-size : goal.returns-then-first-size
-returns-then-first-size c =
-    first-unended c.args.text.now c.if-size-gt8192.false _ c.find_byte-first.ensures
-    c.if-first-size.true
+pub returns-in_err-first : goal.returns-in_err-first
+returns-in_err-first c = rw c.from_residual.ensures (first-unended c.args.text.now c.if-text-gt8192.false c.in_err-first.ensures)
 
-pub returns-then-second-size : goal.returns-then-second-size
-returns-then-second-size c =
-    second-unended c.args.text.now c.if-size-gt8192.false _
-    c.find_byte-first.ensures c.if-first-size.false _ c.find_byte-second.ensures c.if-second-size.true
+pub returns-in_err-second : goal.returns-in_err-second
+returns-in_err-second c =
+    let t = c.args.text.now in
+    let e = c.in_ok-first.ensures in
+    let f = rw (part_rest (c.in_ok-first.first + 1) t) at c.in_err-second.ensures in
+    rw c.from_residual-in_err-second.ensures (second-unended t c.if-text-gt8192.false _ e.0 e.1 f)
 
-pub returns-in_default : goal.returns-in_default
-returns-in_default c =
-    form-header c.args.text.now c.if-size-gt8192.false _
-    c.find_byte-first.ensures c.if-first-size.false _
-    c.find_byte-second.ensures c.if-second-size.false
-    c.read_header-header.result c.read_header-header.ensures c.in_default.is
+pub returns-in_err-settings : goal.returns-in_err-settings
+returns-in_err-settings c =
+    let t = c.args.text.now in
+    let e = c.in_ok-first.ensures in
+    let f = rw (part_rest (c.in_ok-first.first + 1) t) at c.in_ok-second.ensures in
+    rw c.from_residual-in_err-settings.ensures (form-header t c.if-text-gt8192.false _ e.0 e.1 _ f.0 f.1 c.in_err-settings.ensures)
 
-pub returns-in_default-scan : goal.returns-in_default-scan
-returns-in_default-scan c =
-    form-reads c.args.text.now c.if-size-gt8192.false _ c.find_byte-first.ensures c.if-first-size.false _ c.find_byte-second.ensures
-    c.if-second-size.false c.scan_reads-scan.result
-    c.scan_reads-scan.ensures c.in_default-scan.is
+pub returns-in_err-tally : goal.returns-in_err-tally
+returns-in_err-tally c =
+    let t = c.args.text.now in
+    let e = c.in_ok-first.ensures in
+    let f = rw (part_rest (c.in_ok-first.first + 1) t) at c.in_ok-second.ensures in
+    rw c.from_residual-in_err-tally.ensures (form-reads t c.if-text-gt8192.false _ e.0 e.1 _ f.0 f.1 c.in_err-tally.ensures)
 
 pub returns : goal.returns
 returns c =
-    form-read c.args.text.now c.if-size-gt8192.false _ c.find_byte-first.ensures c.if-first-size.false _ c.find_byte-second.ensures
-    c.if-second-size.false c.read_header-header.result _ c.read_header-header.ensures c.in-Read.is
-    c.scan_reads-scan.result _ c.scan_reads-scan.ensures c.in-Reads.is
+    let t = c.args.text.now in
+    let e = c.in_ok-first.ensures in
+    let f = rw (part_rest (c.in_ok-first.first + 1) t) at c.in_ok-second.ensures in
+    form-read t c.if-text-gt8192.false _ e.0 e.1 _ f.0 f.1 _ c.in_ok-settings.ensures _ c.in_ok-tally.ensures

@@ -1,5 +1,4 @@
-use Prim.Native.Nat.{◌-◌}
-use lib.ListN.{length}
+use Rattle.std.proofs.Common.{◌-◌, length}
 use Rattle.text_form.specs.Reads.{Scanning}
 use Rattle.text_form.proofs.reads.scan_reads.Given as goal
 
