@@ -14,7 +14,7 @@ fn leads(scores: &[f64], a: u32, b: u32) -> bool
 {
     let x = scores[a as usize];
     let y = scores[b as usize];
-    // Tried, and slower, since they compile without a jump: (y, a) < (x, b), three times; if x == y { a < b } else { y < x }, a seventh of a search.
+    // Tried, and slower: (y, a) < (x, b), three times; if x == y { a < b } else { y < x }, by a sixteenth of the whole call on the hardest queue.
     if y < x {
         return true;
     }
