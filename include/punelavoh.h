@@ -21,7 +21,7 @@
 extern "C" {
 #endif
 
-#define PUNELAVOH_VERSION "0.5.2"
+#define PUNELAVOH_VERSION "0.5.3"
 #define PUNELAVOH_VERSION_MAJOR 0
 #define PUNELAVOH_VERSION_MINOR 5
 #define PUNELAVOH_VERSION_PATCH 2
@@ -116,7 +116,7 @@ typedef struct {
     size_t columns;  /* each of three columns that the rows are made in */
 } PunelavohWorkspace;
 
-/* The answer of `lengths`: a refusal, or how many elements each slice needs; there are two slices of `origins` numbers. */
+/* The answer of `lengths`, for C: the number of a refusal, or 0 and how many elements each slice needs; there are two slices of `origins` numbers. */
 typedef struct {
     uint32_t refusal;
     size_t edges;
@@ -127,7 +127,8 @@ typedef struct {
     PunelavohWorkspace workspace;
 } PunelavohLengthsTold;
 
-/* An origin's part for callers that take no slice back: start and length, in the read bases (1) or in the reference (0). */
+/* An origin's part for C, which takes no slice back: the number of a refusal, or 0 and start and length in the read bases (1) or in the reference
+   (0). */
 typedef struct {
     uint32_t refusal;
     uint32_t in_reads;
@@ -161,7 +162,7 @@ typedef struct {
     PunelavohSearchMaxima search;
 } PunelavohSettings;
 
-/* The answer of the call for the list: a refusal, or how many paths are listed, the pushes made, and the waiting mark. */
+/* The answer of the call for the list, for C: the number of a refusal, or 0 and how many paths are listed, the pushes made, and the waiting mark. */
 typedef struct {
     uint32_t refusal;
     uint32_t paths;

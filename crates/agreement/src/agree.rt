@@ -20,6 +20,7 @@ pub trait Element: Copy {
     // What every element is told by that is lent.
     const LENT: u64;
 
+    // (Each `impl` has a body of its own: a default body would need `From` of all four, and a score is told by its bits.)
     fn is(self, number: u64) -> bool
         ensures { result ≡ true → shown self ≡ number };
 }
@@ -63,15 +64,11 @@ impl Element for u8 {
 pub fn same<T: Element>(elements: &[T], told: &[u32]) -> bool
     ensures { result ≡ true → Same T.shown elements.now told.now }
 {
-    if elements.len() != told.len() {
-        return false;
-    }
-    for (x, number) in elements.iter().zip(told) {
-        if !x.is(u64::from(*number)) {
-            return false;
-        }
-    }
-    true
+    elements.len() == told.len()
+        && elements
+            .iter()
+            .zip(told)
+            .all(|(x, number)| x.is(u64::from(*number)))
 }
 
 pub fn all_are<T: Element>(elements: &[T], number: u64) -> bool

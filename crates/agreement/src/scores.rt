@@ -32,8 +32,3 @@ pub fn score_is(score: f64, bits: u64) -> bool
 {
     !score.is_nan() && score.to_bits() == bits
 }
-
-// The score at a place, and 1.5 beyond the end.
-pub fn score_at(scores: &[f64], place: usize) -> f64 {
-    scores.get(place).copied().unwrap_or(1.5)
-}

@@ -1,8 +1,10 @@
 // The graph in two lent tables of numbers, zero where not used yet; a kmer is its place in the text, the reference with the read bases after it.
 // vertices, 12 numbers each: 0 to 7 the out-edges, by the code b / 2 % 8 of the base b that the target ends in (A 0, C 1, T 2, G 3, N 7), each an
-// edge's number plus 1, or 0; 8 the kmer's place; 9 how many edges enter; 10 one of those, plus 1; 11 for the slot of its tree's root, written by the evidence walk. Slot 4, which no base has, is for the symbolic edge.
+// edge's number plus 1, or 0; 8 the kmer's place; 9 how many edges enter; 10 one of those, plus 1; 11 for the slot of its tree's root, written by the
+// evidence walk. Slot 4, which no base has, is for the symbolic edge.
 // edges, in the order of birth, 6 numbers each: from, to, support, mark, the origin's sequence and place.
 // How many rows are used stands beside a table: it is lent as long as its maximum allows, and rows are added to it.
+// Each function asks for the rows that it reads or writes: the tables are lent slices of numbers, so no type of this project holds that they are there.
 #![tactic(auto)]
 
 ghost use Rattle.std.specs.Prelude.{◌≡◌, ◌+◌, ◌^◌, ◌<◌};
@@ -25,7 +27,7 @@ const INS: usize = 9;
 
 const INTO: usize = 10;
 
-// Where the fields of an edge stand: its ends, its support and its mark.
+// Where the fields of an edge stand: its ends, its support and its mark, which is a number, since the table is lent as one flat slice of numbers.
 pub const FROM: usize = 0;
 
 pub const TO: usize = 1;
@@ -39,14 +41,15 @@ pub const SEQUENCE: usize = 4;
 
 pub const PLACE: usize = 5;
 
-// What made an edge first: its sequence, 0 for the reference, and the place of the edge's left kmer in it.
+// What made an edge first: its sequence, 0 for the reference, and the place of the edge's left kmer in it. (A sequence is one number for both, as document
+// 01 has it: the rows of the edges and the call for an origin's bytes tell it so.)
 #[derive(Clone, Copy)]
 pub struct Origin {
     pub sequence: u32,
     pub place: u32,
 }
 
-// ---- reading a vertex
+// ---- reading a vertex, a function for each field: one for all would be told by number which field to read
 
 // The number of the out-edge of v whose target's last base has the code c.
 pub fn out_edge(vertices: &[u32], v: usize, c: usize) -> Option<usize>

@@ -26,6 +26,10 @@ at_least_two k = elim (leb 2 k) [ true ↦ ok k | false ↦ refused 1 ]
 abbrev pub k_rules : ℕ → List Rule
 k_rules k = record { number = 1; holds = k_fits k } ∷ []
 
+-- of k and the answer for it: the refusal is the first rule of k that is broken, and the size of an accepted k is k
+abbrev pub Sized : ℕ → Prelude.Result KmerSize Refusal → Type 0
+Sized k r = (refusal_of r ≡ first_broken (k_rules k)) × IfOk r (λ s. s.0 ≡ k)
+
 -- ---- laws, one for each return of the code
 
 pub too_small : (k : ℕ) → k < 2 → refused 1 ≡ at_least_two k

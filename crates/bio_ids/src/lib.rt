@@ -1,10 +1,8 @@
 // The kmer size of `bio_ids.rs`, and document 01's limit on it.
 #![tactic(auto)]
 
-ghost use Rattle.std.specs.Prelude.{◌≡◌, IfOk};
-ghost use Rattle.definition.specs.Refusal.{first_broken};
-ghost use Rattle.refusals.specs.Numbers.{refusal_of};
-ghost use Rattle.bio_ids.specs.Sizes.{size_of, at_least_two, k_rules};
+ghost use Rattle.std.specs.Prelude.{◌≡◌};
+ghost use Rattle.bio_ids.specs.Sizes.{size_of, at_least_two, Sized};
 
 use refusals::Refusal;
 
@@ -32,12 +30,15 @@ impl KmerSize {
 }
 
 // The size of a k within the calls' limits, 2 to 128; the upper limit comes first, since only then does k fit a kmer size.
-pub fn kmer_size(k: u32) -> Result<KmerSize, Refusal>
-    ensures refusal { refusal_of result ≡ first_broken (k_rules k) }
-    ensures size { IfOk result (λ s. s.0 ≡ k) }
-{
-    if k > 128 {
-        return Err(Refusal::K);
+impl TryFrom<u32> for KmerSize {
+    type Error = Refusal;
+
+    ghost try_from_gives = { Sized };
+
+    fn try_from(k: u32) -> Result<KmerSize, Refusal> {
+        if k > 128 {
+            return Err(Refusal::K);
+        }
+        KmerSize::try_new(k as u16)
     }
-    KmerSize::try_new(k as u16)
 }

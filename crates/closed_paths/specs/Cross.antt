@@ -12,7 +12,7 @@ use Rattle.definition.specs.Threading.{Ends, eq_ends}
 use Rattle.definition.specs.Search.{SearchInput, cross_off}
 use Rattle.path_store.specs.Walk.{run, Runs, sole, next}
 use Rattle.path_store.specs.Cells.{parent_of, chain_of, edge_of, end_of}
-use Rattle.path_edges.specs.Path.{last_edge, piece_is, piece_of, Table, edges, edges-up, edges_none, piece-at}
+use Rattle.path_edges.specs.Path.{last_edge, piece_is, piece_of, Table, edges, edges-up, edges_none, piece-at, piece-up}
 use Rattle.path_growth.specs.Link.{Agrees}
 
 -- the marks of these edges are cleared
@@ -83,12 +83,12 @@ module _ (index targets t : List ℕ) (sc : List Float) (n : ℕ) (T : Table ind
       -- the last edge alone, and all edges that the record adds
       own : (e : ℕ) → e < length m₀ → Fork index e → get_or (clears m (last_edge (edge_of t r))) e 0 ≡ get_or (clears m (piece_of index targets t r)) e 0
       own e b F =
-          let P = piece-at index targets t sc n T r U.low (omega arith) in
-          let u = end_of t (parent_of t r - 1) in
+          let P = piece-at index targets t sc n T (record { path = r; parent = p }) U.low h in
+          let u = end_of t p in
           let c = chain_of t r in
           let k = length-clears m (run index targets u c) in
           sym
-          (ap (λ x. get_or (clears m x) e 0) (piece_is index targets u c (edge_of t r))
+          (ap (λ x. get_or (clears m x) e 0) (sym (piece-up P) ∙ piece_is index targets u c (edge_of t r))
           ∙ ap (λ (x : List ℕ). get_or x e 0) (clears-append m (run index targets u c) (last_edge (edge_of t r)))
           ∙ clears-agree e (last_edge (edge_of t r)) (clears m (run index targets u c)) m (omega (arith, U.size)) k (run-off index targets e F m u c P.runs))
 

@@ -25,6 +25,10 @@ last_into targets v es = find_last (λ d. eqb (get_or targets d 0) v) es
 unfoldable pub split_at : List ℕ → ℕ → List ℕ → ℕ
 split_at targets v es = elim (last_into targets v es) [ none ↦ 0 | some d ↦ suc (position (eqb d) es) ]
 
+-- the same where an edge enters v
+unfoldable pub split_of : List ℕ → ℕ → List ℕ → Option ℕ
+split_of targets v es = elim (last_into targets v es) [ none ↦ None | some d ↦ Some (suc (position (eqb d) es)) ]
+
 -- ---- last_into: the edge e where it enters v, else the one that was found last
 pub record Latest (targets : List ℕ) (v : ℕ) (walk : List ℕ) (i : ℕ) (last : Option ℕ) : Type 0 where
   pub low : i ≤ length walk
@@ -84,25 +88,45 @@ place-none e es h = go (Bool-cases (ltb (std.position_or_len (eqb e) es) (length
     go (inr k) = omega (arith, ltb-false _ _ k, place-is e es)
 
 -- ---- split_place
-pub split-none : (targets : List ℕ) (v : ℕ) (es : List ℕ) → numbered (found (last_into targets v es)) ≡ None → 0 ≡ split_at targets v es
-unfolding split_at
+pub split-none : (targets : List ℕ) (v : ℕ) (es : List ℕ) → numbered (found (last_into targets v es)) ≡ None → None ≡ split_of targets v es
+unfolding split_of
 split-none targets v es h = go (last_into targets v es) refl
   where
-    go : (o : math.Option ℕ) → last_into targets v es ≡ o → 0 ≡ split_at targets v es
-    go none e = rw (e, split_at)
+    go : (o : math.Option ℕ) → last_into targets v es ≡ o → None ≡ split_of targets v es
+    go none e = rw (e, split_of)
     go (some d) e = let z : ◌≡◌ {A = Option ℕ} (Some d) None = rw e at h in cc
 
 pub split-some : (targets : List ℕ) (v : ℕ) (es : List ℕ) (d : ℕ) → numbered (found (last_into targets v es)) ≡ Some d
-    → (last_into targets v es ≡ some d) × (position (eqb d) es + 1 ≡ split_at targets v es)
-unfolding split_at
+    → (last_into targets v es ≡ some d) × (Some (position (eqb d) es + 1) ≡ split_of targets v es)
+unfolding split_of
 split-some targets v es d h = go (last_into targets v es) refl
   where
-    go : (o : math.Option ℕ) → last_into targets v es ≡ o → (last_into targets v es ≡ some d) × (position (eqb d) es + 1 ≡ split_at targets v es)
+    go : (o : math.Option ℕ) → last_into targets v es ≡ o → (last_into targets v es ≡ some d) × (Some (position (eqb d) es + 1) ≡ split_of targets v es)
     go none e = let z : ◌≡◌ {A = Option ℕ} None (Some d) = rw e at h in cc
     go (some x) e =
         let z : ◌≡◌ {A = Option ℕ} (Some x) (Some d) = rw e at h in
         let q : x ≡ d = cc in
-        (rw q at e, rw (e, split_at, q) (add-one (position (eqb d) es)))
+        (rw q at e, rw (e, split_of, q) (ap (λ x. Some x) (add-one (position (eqb d) es))))
+
+-- the count that the Option tells
+pub split-told : (targets : List ℕ) (v : ℕ) (es : List ℕ) (k : ℕ) → Some k ≡ split_of targets v es → (k ≡ split_at targets v es) × (0 < k)
+unfolding split_at split_of
+split-told targets v es k h = go (last_into targets v es) refl
+  where
+    go : (o : math.Option ℕ) → last_into targets v es ≡ o → (k ≡ split_at targets v es) × (0 < k)
+    go none e = let z : ◌≡◌ {A = Option ℕ} (Some k) None = (rw (e, split_of) at h) in cc
+    go (some d) e =
+        let z : ◌≡◌ {A = Option ℕ} (Some k) (Some (suc (position (eqb d) es))) = (rw (e, split_of) at h) in
+        let q : k ≡ suc (position (eqb d) es) = cc in
+        (rw (e, split_at) q, omega arith)
+
+pub split-lost : (targets : List ℕ) (v : ℕ) (es : List ℕ) → None ≡ split_of targets v es → split_at targets v es ≡ 0
+unfolding split_at split_of
+split-lost targets v es h = go (last_into targets v es) refl
+  where
+    go : (o : math.Option ℕ) → last_into targets v es ≡ o → split_at targets v es ≡ 0
+    go none e = rw (e, split_at)
+    go (some d) e = let z : ◌≡◌ {A = Option ℕ} None (Some (suc (position (eqb d) es))) = (rw (e, split_of) at h) in cc
 
 -- ---- over the definition's edges
 

@@ -4,13 +4,13 @@ ghost use Rattle.path_store.specs.Cells.{numbered};
 ghost use Rattle.path_edges.specs.Path.{Table, edges};
 ghost use Rattle.closed_paths.specs.Cross.{clears, Struck};
 ghost use Rattle.closed_paths.specs.Best.{outscores, later, best_of, ClosedIn};
-ghost use Rattle.closed_paths.specs.Split.{found, last_into, split_at};
+ghost use Rattle.closed_paths.specs.Split.{found, last_into, split_of};
 
 use path_edges::count_in_path;
 use path_store::chains::Chains;
 use path_store::records::Paths;
 
-// The mark of a last edge is cleared, where there is one.
+// The mark of a last edge is cleared, where there is one. A mark is a number, since the marks lie in a lent slice of numbers.
 fn clear_last(marks: &mut [u32], edge: Option<u32>)
     requires { IfSome edge (λ e. e < length marks.old) }
     ensures { marks.new ≡ clears marks.old (option_to_list edge) }
@@ -26,12 +26,8 @@ pub fn cross_off(paths: Paths, chains: Chains, marks: &mut [u32], path: u32)
     requires { Table chains.index.now chains.targets.now paths.records.now paths.scores.now (path + 1) × (length chains.targets.now ≤ length marks.old) }
     ensures { Struck chains.entry.index.now marks.old (edges chains.entry.index.now chains.entry.targets.now paths.entry.records.now path) marks.new }
 {
-    let mut r = path;
-    let mut row = paths.at(r);
-    while let Some(p) = row.above() {
-        clear_last(marks, row.last());
-        r = p;
-        row = paths.at(r);
+    for link in paths.upward(path) {
+        clear_last(marks, paths.at(link.path).last());
     }
 }
 
@@ -82,7 +78,7 @@ pub fn best_through(
     best
 }
 
-// The last edge of a walk that enters v.
+// The last edge of a walk that enters v. A loop: `rev().find` was tried, and the proof did not close.
 fn last_into(walk: &[u32], targets: &[u32], v: u32) -> Option<u32>
     requires { (i : ℕ) → i < length walk.now → get_or walk.now i 0 < length targets.now }
     ensures { result ≡ numbered (found (last_into targets.now v walk.now)) }
@@ -103,18 +99,12 @@ fn first_place(walk: &[u32], e: u32) -> Option<usize>
     walk.iter().position(|d| e == *d)
 }
 
-// How many edges of a walk a recovered path keeps: those up to the first place of the last edge into v; 0 where none enters v.
-// (A count that may be 0, and no `Option`: a recovered path may keep no edge.)
-pub fn split_place(walk: &[u32], targets: &[u32], v: u32) -> usize
+// How many edges of a walk a recovered path keeps: those up to the first place of the last edge into v, where one enters v.
+pub fn split_place(walk: &[u32], targets: &[u32], v: u32) -> Option<usize>
     requires { (i : ℕ) → i < length walk.now → get_or walk.now i 0 < length targets.now }
-    ensures { result ≡ split_at targets.now v walk.now }
+    ensures { result ≡ split_of targets.now v walk.now }
 {
-    let Some(d) = last_into(walk, targets, v) else {
-        return 0;
-    };
-    match first_place(walk, d) {
-        Some(i) => i + 1,
-        // never: d is one of the walk's edges
-        None => 0,
-    }
+    let e = last_into(walk, targets, v)?;
+    let i = first_place(walk, e)?;
+    Some(i + 1)
 }

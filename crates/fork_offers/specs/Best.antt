@@ -11,9 +11,8 @@ use Rattle.definition.specs.Evidence.{Branches, bare, branch}
 use Rattle.definition.specs.Search.{SearchInput, Offer, real_branches, best}
 use Rattle.threading_node.specs.Slots.{cols, Slot}
 use Rattle.threading_node.specs.Links.{slot_at, link_to, Linked, link_is, linked_at, some-link, none-link}
-use Rattle.threading_node.specs.Cells.{above-all, left}
 use Rattle.threading_node.specs.Take.{Wide, wide-slot}
-use Rattle.threading_tree.specs.Read.{Leads, Readable, BranchAt, leads_one, leads-none, leads-branch, summing_start, summing-falls}
+use Rattle.threading_tree.specs.Read.{Leads, Readable, BranchAt, leads_one, leads-none, leads-branch}
 use Rattle.fork_offers.specs.Real.{node_edge, is_real}
 
 -- ---- the best of a list
@@ -125,11 +124,6 @@ pub record Choosing (cap n : ℕ) (x : List ℕ) (outs : List Ends) (link : ℕ)
   pub live : IfSome old (λ s. s ≤ n)
   pub real : IfSome old (λ s. is_real outs e (node_edge x s) ≡ true)
 
--- what is left of a row falls
-pub sibling-falls : (cap n : ℕ) (x : List ℕ) (at : Option ℕ) → Readable cap n x (link_to at) → Linked at → (s : ℕ) → at ≡ Some s → (nx : Option ℕ) → nx ≡ slot_at ((cols x).next s)
-    → left (above-all x) x (link_to nx) < left (above-all x) x (link_to at)
-sibling-falls cap n x at p k s e nx h = summing-falls cap n x (link_to at) p at 0 (summing_start cap n x (link_to at) p, k) s e ((cols x).count s) refl nx h
-
 -- the next link of the row
 pub next-link : (x : List ℕ) (s : ℕ) (nx : Option ℕ) → nx ≡ slot_at ((cols x).next s) → (link_to nx ≡ (cols x).next s) × Linked nx
 next-link x s nx h = (ap link_to h ∙ link_is ((cols x).next s), rw h (linked_at ((cols x).next s)))
@@ -176,9 +170,6 @@ module _ (cap n : ℕ) (x : List ℕ) (outs : List Ends) (link : ℕ) (e : Ends)
 
       pub choosing-slot : Slot s x
       choosing-slot = let q = here.live in let r = k.room in wide-slot k.wide s (omega arith)
-
-      pub choosing-falls : (nx : Option ℕ) → nx ≡ slot_at ((cols x).next s) → left (above-all x) x (link_to nx) < left (above-all x) x (link_to at)
-      choosing-falls nx h = sibling-falls cap n x at (record { branches = k.rest; leads = k.leads; room = k.room; wide = k.wide }) k.linked s is nx h
 
       module _ (new : Option ℕ) (h : Better x outs e old s new) (nx : Option ℕ) (hn : nx ≡ slot_at ((cols x).next s)) where
         pub choosing-next : Choosing cap n x outs link e nx new

@@ -11,12 +11,11 @@ use Rattle.definition.specs.Search.{SearchInput, Offer, among, unseen, real_bran
 use Rattle.assembly.specs.Store.{edge_at}
 use Rattle.threading_node.specs.Slots.{cols, Slot}
 use Rattle.threading_node.specs.Links.{slot_at, link_to, Linked, some-link, none-link}
-use Rattle.threading_node.specs.Cells.{above-all, left}
 use Rattle.threading_node.specs.Take.{Wide, wide-slot}
 use Rattle.threading_tree.specs.Read.{Leads, Readable, BranchAt, leads_one, leads-none, leads-branch}
 use Rattle.fork_offers.specs.Fields.{HasOffer}
 use Rattle.fork_offers.specs.Real.{Fork, node_edge, is_real, outs_of, RealEdge}
-use Rattle.fork_offers.specs.Best.{offer_of, Chosen, real-bare, real-at, sibling-falls, next-link}
+use Rattle.fork_offers.specs.Best.{offer_of, Chosen, real-bare, real-at, next-link}
 use Rattle.fork_offers.specs.Rows.{Few, seen_of, Offered, Grown, row_put, append-nil, grown-none, grown-one, grown-trans, grown-seen, grown-many, unseen-none, unseen-yes, unseen-no, unseen-split}
 
 -- ---- one branch
@@ -172,12 +171,9 @@ module _ (vs es : List ℕ) (m cap n : ℕ) (x : List ℕ) (link t v : ℕ) (e :
       here : BranchAt n x s w.rest
       here = leads-branch n x s w.rest leads-at (some-link at s w.linked is)
 
-      pub branching-slot : Slot s x
+      branching-slot : Slot s x
       unfolding here
       branching-slot = let q = here.live in let r = w.few in wide-slot w.wide s (omega arith)
-
-      pub branching-falls : (nx : Option ℕ) → nx ≡ slot_at ((cols x).next s) → left (above-all x) x (link_to nx) < left (above-all x) x (link_to at)
-      branching-falls nx h = sibling-falls cap n x at (record { branches = w.rest; leads = w.leads; room = w.few; wide = w.wide }) w.linked s is nx h
 
       seen_same : seen_of es out k₀ ≡ seen_of es out₀ k₀
       seen_same = grown-seen w.grown k₀ (omega arith)

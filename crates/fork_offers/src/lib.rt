@@ -1,4 +1,5 @@
 // What a fork offers a path, over the stores. An active tree of a path is a slot of the node table, and its branches are the children of that slot.
+// Each function asks for the rows that it reads or writes: the tables are lent slices of numbers, so no type of this project holds that they are there.
 // (Rust: JtPath, junction_kbest.rs)
 #![tactic(auto)]
 
@@ -21,9 +22,9 @@ ghost use Rattle.assembly.specs.Store.{edge_at, edges_of};
 ghost use Rattle.fork_offers.specs.Fields.{HasOffer, row_of, put_row};
 
 use assembly::{SUPPORT, edge_is_ref, edge_support, edge_to};
-use out_edges::Graph;
+use out_edges::{Graph, next_out};
 use tables::{EDGE, OFFER};
-use threading_node::{Edge, edge_of, evidence_count, first_child, next_sibling};
+use threading_node::{Edge, edge_of, evidence_count, first_child, siblings_from};
 use threading_tree::Trees;
 
 // The least total that reaches the threshold, which may be below zero.
@@ -33,9 +34,12 @@ pub fn least_total(threshold: i32) -> usize
     usize::try_from(threshold).unwrap_or(0)
 }
 
+// The trees of a path stand at `count` places from `at` on of a table that all paths share. The three functions that take them are given place and count,
+// and no sub-slice: `walk_trees` reads one part of the lent table and writes another, so that all three contracts speak of the one table, and none of a
+// part cut out of it.
+
 // At the sink: no active tree reaches the threshold, or it or an earlier one offers the symbolic edge. `least` is the least total that reaches the
-// threshold. The trees of a path stand at `count` places from `at` on of a table that all paths share: place and count tell them, and no sub-slice, since
-// `walk_trees` reads one part of the lent table and writes another.
+// threshold.
 pub fn has_stopping_evidence(
     trees: Trees,
     active: &[u16],
@@ -98,7 +102,8 @@ pub fn walk_trees(
 
 // ---- the rows of the offers
 
-// A row has the edge's number, the count, the total, and 1 where a tree offers it.
+// A row has the edge's number, the count, the total, and 1 where a tree offers it: numbers, since the rows stand in a lent slice of them. How many rows there
+// are (k, of them `seen` to be looked through) is told beside it, since the slice is lent as long as a fork could ever need and no Vec may be made.
 const OFFER_EDGE: usize = 0;
 
 const OFFER_COUNT: usize = 1;
@@ -141,7 +146,7 @@ fn put_offer(out: &mut [u32], k: usize, offer: Offer) -> usize
     k + 1
 }
 
-// Whether one of the first k rows names the edge.
+// Whether one of the first k rows names the edge. (A loop: with `any` the same two cases are left to be shown, and one lemma more is needed.)
 fn offered(out: &[u32], k: usize, edge: usize) -> bool
     requires { k * 4 ≤ length out.now }
     ensures { Offered out.now k edge result }
@@ -156,7 +161,8 @@ fn offered(out: &[u32], k: usize, edge: usize) -> bool
 
 // ---- the fork
 
-// Where a path stands: the stores, the vertex, and the symbolic edge, which is no branch.
+// Where a path stands: the stores, the vertex, and the symbolic edge, which is no branch. `Fork` is asked by the methods and is no ghost field, since `Adds`,
+// `Offering` and `Forks`, which ask for room besides, hold it already.
 #[derive(Clone, Copy)]
 pub struct Junction<'v, 'e, 'n> {
     pub graph: Graph<'v, 'e>,
@@ -171,7 +177,7 @@ impl<'v, 'e, 'n> Junction<'v, 'e, 'n> {
         requires { Fork self.graph.vertices.now self.graph.edges.now self.graph.count self.vertex }
         ensures { OutTo self.entry.graph.edges.now self.entry.graph.count self.entry.vertex to result }
     {
-        let i = self.graph.next_out(self.vertex, to)?;
+        let i = next_out(self.graph.vertices, self.graph.edges, self.vertex, to)?;
         if edge_to(self.graph.edges, i) != to {
             return None;
         }
@@ -216,10 +222,8 @@ impl<'v, 'e, 'n> Junction<'v, 'e, 'n> {
         ensures { Chosen self.entry.trees.count self.entry.trees.nodes.now (outs_of self.entry.graph.edges.now self.entry.graph.count self.entry.vertex) (link_to start) (ends_of self.entry.symbolic) result }
     {
         let mut best = None;
-        let mut at = start;
-        while let Some(s) = at {
+        for s in siblings_from(self.trees.nodes, start) {
             best = self.better(best, s);
-            at = next_sibling(self.trees.nodes, s);
         }
         best
     }
@@ -250,10 +254,8 @@ impl<'v, 'e, 'n> Junction<'v, 'e, 'n> {
         ensures { TreeOffered self.entry.graph.edges.now self.entry.graph.count self.entry.trees.count self.entry.trees.nodes.now (link_to start) total self.entry.vertex (ends_of self.entry.symbolic) out.old out.new k result }
     {
         let mut row = k;
-        let mut at = start;
-        while let Some(s) = at {
+        for s in siblings_from(self.trees.nodes, start) {
             row = self.offer_branch(s, total, out, k, row);
-            at = next_sibling(self.trees.nodes, s);
         }
         row
     }
@@ -334,7 +336,8 @@ fn offer_edge(
     put_offer(out, k, offer)
 }
 
-// The supports of v's out-edges, added.
+// The supports of v's out-edges, added. (As a loop: `sum` asks that every sum along the iterator fits, and `map` that its closure may be called at each
+// turn; the loop's invariant says both, so that the chain is no plainer.)
 fn total_support(graph: Graph, v: usize) -> usize
     requires { Fork graph.vertices.now graph.edges.now graph.count v × (all_support graph.edges.now graph.count v < 2 ^ 32) }
     ensures { result ≡ all_support graph.entry.edges.now graph.entry.count v }

@@ -29,16 +29,16 @@ use Rattle.graph_call.specs.Outcome.{outcome, refused_answer}
 -- ---- the rows
 
 pub record Writes (wv we wx wo es ns : List ℕ) (b : Raise) (cap : ℕ) : Type 0 where
-  pub sink-in : HasVertex wv b.sink
-  pub few : b.edges + 1 ≤ 8192
+  pub sink-in : HasVertex wv b.built.sink
+  pub few : b.built.edges + 1 ≤ 8192
   pub many : b.nodes ≤ 16384
-  pub orders : Orders (linked wv b.sink b.edges) we es (b.edges + 1)
-  pub long : (b.edges + 1) * edge_width ≤ length es
+  pub orders : Orders (linked wv b.built.sink b.built.edges) we es (b.built.edges + 1)
+  pub long : (b.built.edges + 1) * edge_width ≤ length es
   pub nodes : Writable cap b.nodes wx wo ns
 
 pub record Wrote (we wx wo wo' es es' ns ns' : List ℕ) (b : Raise) (r : GraphAnswer) : Type 0 where
-  pub answer : r ≡ record { refusal = 0; edges = b.edges + 1; nodes = b.nodes }
-  pub edges : es' ≡ written_at 0 (flat edge_row (edges_of we (b.edges + 1))) es
+  pub answer : r ≡ record { refusal = 0; edges = b.built.edges + 1; nodes = b.nodes }
+  pub edges : es' ≡ written_at 0 (flat edge_row (edges_of we (b.built.edges + 1))) es
   pub nodes : Written b.nodes wx wo wo' ns ns'
 
 -- ---- the whole
@@ -59,7 +59,7 @@ module _ {s : Sample} {m : GraphMaxima} {es ns wv we wi wx wo : List ℕ} (x : L
       raised : RaisedAt s m vs es₁ xs os b
       raised = rw d at h
 
-      room-v : HasVertices vs b.vertices
+      room-v : HasVertices vs b.built.vertices
       room-v = let l = x.w-vertices in let f = raised.at.vertices-fit in let q = lv in omega arith
 
       pub fill-writes : Writes vs es₁ xs os es ns b m.nodes
@@ -80,16 +80,16 @@ module _ {s : Sample} {m : GraphMaxima} {es ns wv we wi wx wo : List ℕ} (x : L
             sink-in = omega arith;
             few = omega arith;
             many = (let j = nodes-few m x.maxima in omega arith);
-            orders = linked-orders at.good b.sink at.inside at.from at.to room-v es (omega arith) (omega arith) (omega arith);
+            orders = linked-orders at.good b.built.sink at.inside at.from at.to room-v es (omega arith) (omega arith) (omega arith);
             long = omega arith;
             nodes = held-writable (begun (evidence s (threaded s))) m.nodes b.nodes 0 there.bound (root_of vs) xs os there.held os ns (omega arith) (omega arith);
           }
 
-      edges-many : length (with_symbolic s (threaded s)) ≡ b.edges + 1
+      edges-many : length (with_symbolic s (threaded s)) ≡ b.built.edges + 1
       unfolding edges_of
       edges-many =
           let at = raised.at in
-          sym (ap length at.edges) ∙ length-table (edge_at es₁) (b.edges + 1) (linked-distinct at.good b.sink at.inside at.from at.to room-v)
+          sym (ap length at.edges) ∙ length-table (edge_at es₁) (b.built.edges + 1) (linked-distinct at.good b.built.sink at.inside at.from at.to room-v)
 
       pub fill_done : (es₃ ns₃ os₃ : List ℕ) (a : GraphAnswer) → Wrote es₁ xs os os₃ es es₃ ns ns₃ b a → outcome a es₃ ns₃ ≡ graph_of (built s m) es ns
       unfolding graph_of
@@ -99,4 +99,4 @@ module _ {s : Sample} {m : GraphMaxima} {es ns wv we wi wx wo : List ℕ} (x : L
           let q : ns₃ ≡ written_at 0 (flat node_row (nodes (evidence s (threaded s)))) ns
           = held-written (begun (evidence s (threaded s))) m.nodes b.nodes 0 there.bound (root_of vs) xs os there.held os ns os₃ ns₃ w.nodes in
           ap (λ (q : GraphAnswer). outcome q es₃ ns₃) w.answer
-          ∙ same_outcome (b.edges + 1) _ b.nodes _ es₃ _ ns₃ _ (sym edges-many) (sym there.count) p q ∙ sym (ap (λ (o : definition.Result Built). graph_of o es ns) (raised-built raised))
+          ∙ same_outcome (b.built.edges + 1) _ b.nodes _ es₃ _ ns₃ _ (sym edges-many) (sym there.count) p q ∙ sym (ap (λ (o : definition.Result Built). graph_of o es ns) (raised-built raised))

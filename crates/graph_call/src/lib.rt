@@ -11,7 +11,7 @@ ghost use Rattle.samples.specs.Handed.{sample_of};
 ghost use Rattle.limits.specs.Handed.{graph_maxima_of};
 ghost use Rattle.slice_lengths.specs.Lengths.{graph_slices};
 ghost use Rattle.graph_call.specs.Lent.{told_for, told_of, lent_of, Lent};
-ghost use Rattle.graph_call.specs.Outcome.{outcome, refused_answer, Graphed};
+ghost use Rattle.graph_call.specs.Outcome.{outcome, refused_answer, answer_of, Graphed};
 ghost use Rattle.graph_call.specs.Clear.{Zeroed};
 ghost use Rattle.graph_call.specs.Fill.{Writes, Wrote};
 ghost use Rattle.graph_call.specs.Made.{Made};
@@ -19,7 +19,7 @@ ghost use Rattle.graph_call.specs.Made.{Made};
 use assembly::link_symbolic_edge;
 use graph_rows::write_edges;
 use graph_work::{Raise, raise_graph};
-use limits::{GraphMaxima, SearchMaxima, check_graph};
+use limits::{GraphMaxima, Maxima, SearchMaxima, check_graph};
 use out_edges::Graph;
 use refusals::Refusal;
 use samples::Sample;
@@ -35,7 +35,7 @@ pub struct GraphAnswer {
     pub nodes: u32,
 }
 
-// The lengths of the slices lent: for rows, and as workspace.
+// The lengths of the slices lent: for rows, and as workspace. (No field `workspace: Workspace`, since this call is lent five of its fifteen slices.)
 #[derive(Clone, Copy)]
 pub struct GraphLent {
     pub edge_rows: usize,
@@ -57,7 +57,12 @@ fn told_for(k: u32, g: GraphMaxima) -> LengthsTold
         active: 1,
         pushes: 1,
     };
-    lengths_within(k, 0, g, search)
+    let least = Maxima {
+        asked: 0,
+        graph: g,
+        search,
+    };
+    lengths_within(k, least)
 }
 
 // 7: whether each lent slice is as long as told.
@@ -80,7 +85,7 @@ fn check(sample: Sample, g: GraphMaxima, l: GraphLent) -> Result<LengthsTold, Re
         (graph_maxima_of g) (told_of (graph_maxima_of g)) (lent_of l)) }
     ensures told { IfOk result (λ t. t ≡ told_for sample.entry.k (graph_maxima_of g)) }
 {
-    check_graph(sample, g, true)?;
+    check_graph(sample, g)?;
     let told = told_for(sample.k, g);
     if !lent_fits(told, l) {
         return Err(Refusal::ShortSlice);
@@ -89,16 +94,19 @@ fn check(sample: Sample, g: GraphMaxima, l: GraphLent) -> Result<LengthsTold, Re
 }
 
 // A refused answer holds 0 in every other field.
-fn refused(refusal: Refusal) -> GraphAnswer
-    ensures { result ≡ refused_answer (number refusal) }
-{
-    GraphAnswer {
-        refusal: u32::from(refusal),
-        ..GraphAnswer::default()
+impl From<Refusal> for GraphAnswer {
+    ghost from_gives = { λ refusal answer. answer ≡ refused_answer (number refusal) };
+
+    fn from(refusal: Refusal) -> GraphAnswer {
+        GraphAnswer {
+            refusal: u32::from(refusal),
+            ..GraphAnswer::default()
+        }
     }
 }
 
-// ---- the work; each slice of the workspace is a `&mut` of its own, since a struct of them would need a clause in each contract on which slice it lends
+// ---- the work; each slice of the workspace is a `&mut` of its own, since a struct of them would need a clause in each contract on which slice it lends;
+// the sample and the maxima stay two parameters, as the exported call is given them
 
 // All of the workspace becomes 0.
 fn clear_all(
@@ -131,11 +139,11 @@ fn write_rows(
     requires { Writes w_vertices.old w_edges.now w_nodes.now w_open.old edges.old nodes.old b cap }
     ensures { Wrote w_edges.now w_nodes.now w_open.old w_open.new edges.old edges.new nodes.old nodes.new b result }
 {
-    link_symbolic_edge(w_vertices, b.sink, b.edges);
+    link_symbolic_edge(w_vertices, b.built.sink, b.built.edges);
     let graph = Graph {
         vertices: w_vertices,
         edges: w_edges,
-        count: b.edges + 1,
+        count: b.built.edges + 1,
     };
     write_edges(graph, edges);
     let trees = Trees {
@@ -146,7 +154,7 @@ fn write_rows(
     trees.write_nodes(w_open, nodes);
     GraphAnswer {
         refusal: 0,
-        edges: (b.edges + 1) as u32,
+        edges: (b.built.edges + 1) as u32,
         nodes: b.nodes as u32,
     }
 }
@@ -162,18 +170,18 @@ fn fill(
     w_index: &mut [u32],
     w_nodes: &mut [u32],
     w_open: &mut [u32],
-) -> GraphAnswer
+) -> Result<GraphAnswer, Refusal>
     requires { Lent (sample_of sample) (graph_maxima_of maxima) edges.old nodes.old w_vertices.old w_edges.old w_index.old w_nodes.old w_open.old }
-    ensures { outcome result edges.new nodes.new ≡ graph_of (built (sample_of sample.entry) (graph_maxima_of maxima)) edges.old nodes.old }
+    ensures { outcome (answer_of result) edges.new nodes.new ≡ graph_of (built (sample_of sample.entry) (graph_maxima_of maxima)) edges.old nodes.old }
 {
     let cap = maxima.nodes as usize;
     let r = raise_graph(
         sample, maxima, w_vertices, w_edges, w_index, w_nodes, w_open,
     );
     let Ok(b) = r else {
-        return refused(r.unwrap_err());
+        return Err(r.unwrap_err());
     };
-    write_rows(w_vertices, w_edges, w_nodes, w_open, edges, nodes, b, cap)
+    Ok(write_rows(w_vertices, w_edges, w_nodes, w_open, edges, nodes, b, cap))
 }
 
 // The whole work over a workspace of just the lengths told: it may hold anything before, and is zero after.
@@ -187,9 +195,9 @@ fn make_graph(
     w_index: &mut [u32],
     w_nodes: &mut [u32],
     w_open: &mut [u32],
-) -> GraphAnswer
+) -> Result<GraphAnswer, Refusal>
     requires { Lent (sample_of sample) (graph_maxima_of maxima) edges.old nodes.old w_vertices.old w_edges.old w_index.old w_nodes.old w_open.old }
-    ensures { Made (sample_of sample.entry) (graph_maxima_of maxima) result edges.old edges.new nodes.old nodes.new w_vertices.old w_vertices.new w_edges.old w_edges.new w_index.old w_index.new w_nodes.old w_nodes.new w_open.old w_open.new }
+    ensures { Made (sample_of sample.entry) (graph_maxima_of maxima) (answer_of result) edges.old edges.new nodes.old nodes.new w_vertices.old w_vertices.new w_edges.old w_edges.new w_index.old w_index.new w_nodes.old w_nodes.new w_open.old w_open.new }
 {
     let r = fill(
         sample, maxima, edges, nodes, w_vertices, w_edges, w_index, w_nodes, w_open,
@@ -225,9 +233,9 @@ pub fn graph(
     };
     let tables = match check(sample, maxima, l) {
         Ok(told) => told.workspace,
-        Err(refusal) => return refused(refusal),
+        Err(refusal) => return GraphAnswer::from(refusal),
     };
-    make_graph(
+    let r = make_graph(
         sample,
         maxima,
         edges,
@@ -237,5 +245,9 @@ pub fn graph(
         &mut w_index[..tables.index],
         &mut w_nodes[..tables.nodes],
         &mut w_open[..tables.open],
-    )
+    );
+    match r {
+        Ok(answer) => answer,
+        Err(refusal) => GraphAnswer::from(refusal),
+    }
 }

@@ -1,5 +1,8 @@
 // The kmers of the graph as bytes of the text, the reference with the read bases after it: how one is found, and the bases of a path.
-// index, by which a kmer is found: its first half holds for each bucket the last vertex of it, its second half for each vertex the last before it of its bucket; each a vertex's number plus 1, or 0.
+// index, by which a kmer is found: its first half holds for each bucket the last vertex of it, its second half for each vertex the last before it of
+// its bucket; each a vertex's number plus 1, or 0.
+// Each function asks for the rows and the bytes that it reads: the tables and the text are lent slices, so no type of this project holds that they are there.
+// `text` and `k` stand one by one: a caller has k in a struct of its own, beside other things, so that a struct of the two would be made at each call.
 #![tactic(auto)]
 
 ghost use Rattle.std.specs.Prelude.{◌≡◌, ◌+◌, ◌^◌, ◌<◌, ◌≤◌, length, get_or};
@@ -16,6 +19,8 @@ use assembly::{edge_to, kmer_place};
 use samples::Text;
 
 // Whether the k bytes at p are those at q.
+// (Byte by byte: the text is two slices, and the contract does not keep a kmer to one of them. With `all` in place of the `for` it was not proved that the
+// answer is the equality of the two parts.)
 fn same_kmer(text: Text, k: usize, p: usize, q: usize) -> bool
     requires { (p + k ≤ length (text_of text)) × (q + k ≤ length (text_of text)) }
     ensures { result ≡ eq_list (part k (text_of text.entry) p) (part k (text_of text.entry) q) }
@@ -42,6 +47,8 @@ pub fn kmer_bucket(text: Text, k: usize, q: usize, size: usize) -> usize
 }
 
 // The number of the kmer at q, of bucket h: only vertices of that bucket are compared, the last first.
+// (A `while let`: it steps by the links of the bucket and counts no index. `n`, how many vertices there are, stands in the contract alone. As a ghost
+// parameter it was tried, and the proof did not close: a call may make it of its other arguments only, and they do not tell it.)
 // (`h` stands beside k and q, so that the bucket, a pass over k bases, is worked out once for the search and for a kmer that is added.)
 pub fn find_in_bucket(
     text: Text,

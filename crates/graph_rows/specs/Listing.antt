@@ -7,10 +7,11 @@ use Rattle.laws.specs.Records.{put_from, length-put_from}
 use Rattle.laws.specs.ListLaws.{length-nil}
 use Rattle.definition.specs.Threading.{Edge}
 use Rattle.definition.specs.Calls.{written_at, flat, edge_row}
-use Rattle.assembly.specs.Fields.{HasVertex, vertex_end, out_edge, HasEdges, HasEdge, edge_to}
+use Rattle.assembly.specs.Fields.{HasVertex, vertex_end, HasEdges, HasEdge, edge_to}
 use Rattle.assembly.specs.Table.{length-table}
 use Rattle.assembly.specs.Store.{edge_at, edges_of}
-use Rattle.out_edges.specs.Outs.{Nexts, Slots, Names}
+use Rattle.out_edges.specs.Outs.{Nexts, Slots}
+use Rattle.out_edges.specs.Walked.{Named, named}
 use Rattle.out_edges.specs.Sorted.{Orders, rest, rest-start, rest-skip, rest-take, rest_end}
 use Rattle.threading_node.specs.Front.{front, front-row, written-front, flat-last, flat-many}
 
@@ -117,8 +118,8 @@ orders-along o e = (
 )
 
 module _ {vs es out : List ℕ} {m v p : ℕ} (x : Rows vs es m v out p) where
-  pub rows-names : (HasVertex vs v) × ((c : ℕ) → c < 8 → Names es (out_edge vs v c))
-  rows-names = (x.v-in, λ c h z. (let w = ((x.orders.0.slots v x.v-in).full c h z).0 in let r = x.orders.0.room-e in omega arith))
+  pub rows-names : Named vs es v
+  rows-names = named x.v-in (x.orders.0.slots v x.v-in) x.orders.0.room-e
 
   pub rows-slots : Slots vs es m v
   rows-slots = x.orders.0.slots v x.v-in

@@ -1,7 +1,7 @@
-// The rows of the edges, straight into the slice that the caller lent; and the clearing of workspace.
+// The rows of the edges, straight into the slice that the caller lent.
 #![tactic(auto)]
 
-ghost use Rattle.std.specs.Prelude.{◌≡◌, ◌+◌, ◌*◌, ◌≤◌, length, replicate};
+ghost use Rattle.std.specs.Prelude.{◌≡◌};
 ghost use Rattle.laws.specs.Records.{put_from};
 ghost use Rattle.definition.specs.Calls.{written_at, flat, edge_row};
 ghost use Rattle.assembly.specs.Fields.{HasEdges, HasEdge};
@@ -12,6 +12,8 @@ ghost use Rattle.graph_rows.specs.Listing.{Rows, Rowed};
 use assembly::{FROM, MARK, PLACE, SEQUENCE, SUPPORT, TO, edge_is_ref};
 use out_edges::Graph;
 use tables::EDGE;
+
+// ---- the slices are lent and have no type of their own, so each function asks that the rows are there
 
 // The edge in row i of the table becomes row p of `out`.
 fn copy_row(edges: &[u32], i: usize, out: &mut [u32], p: usize)
@@ -34,6 +36,7 @@ fn write_out_edges(graph: Graph, v: usize, out: &mut [u32], p: usize) -> usize
     ensures { Rowed graph.entry.edges.now graph.entry.count v out.old out.new p result }
 {
     let mut row = p;
+    // Counted by hand, since how many rows are written is the answer, which `enumerate` does not give.
     for i in graph.out_edges(v) {
         copy_row(graph.edges, i, out, row);
         row += 1;
@@ -52,15 +55,5 @@ pub fn write_edges(graph: Graph, out: &mut [u32])
     while p < graph.count {
         p = write_out_edges(graph, v, out, p);
         v += 1;
-    }
-}
-
-// The first n elements become zero, whatever stands for zero.
-pub fn clear<T: Copy>(elements: &mut [T], n: usize, zero: T)
-    requires { n ≤ length elements.old }
-    ensures { elements.new ≡ written_at 0 (replicate n zero) elements.old }
-{
-    for i in 0..n {
-        elements[i] = zero;
     }
 }

@@ -40,7 +40,7 @@ pub record Raises (s : Sample) (m : GraphMaxima) (wv we wi wx wo : List ℕ) : T
 
 -- the tables hold the graph and its trees, which fit the maxima
 pub record RaisedAt (s : Sample) (m : GraphMaxima) (vs es x op : List ℕ) (b : Raise) : Type 0 where
-  pub at : BuiltAt s m.vertices m.edges vs es b.vertices b.edges b.sink
+  pub at : BuiltAt s m.vertices m.edges vs es b.built.vertices b.built.edges b.built.sink
   pub there : Evident s vs x op m.nodes b.nodes
 
 abbrev pub RaisedOf : Sample → GraphMaxima → List ℕ → List ℕ → List ℕ → List ℕ → Result Raise Refusal → Type 0
@@ -102,7 +102,7 @@ module _ {s : Sample} {m : GraphMaxima} {wv we wi wx wo : List ℕ} (x : Raises 
         pub raise-nine : {e : Refusal} → t ≡ Err e → built s m ≡ refused (number e)
         raise-nine {e} f = let o : NotEvident s m.nodes (number e) = rw f at g.is in built-over at m.nodes (number e) o
 
-        pub raise-done : {c : ℕ} → t ≡ Ok c → RaisedAt s m vs₂ es₁ xs₂ os₂ (record { vertices = b.vertices; edges = b.edges; sink = b.sink; nodes = c })
+        pub raise-done : {c : ℕ} → t ≡ Ok c → RaisedAt s m vs₂ es₁ xs₂ os₂ (record { built = b; nodes = c })
         raise-done {c} e =
             let y : Evident s vs₂ xs₂ os₂ m.nodes c = rw e at g.is in
             record { at = built-kept g.kept at; there = y }

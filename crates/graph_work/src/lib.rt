@@ -1,4 +1,5 @@
 // The graph and its trees, over tables of just the lengths told: the work that the call for edges and trees and the call for the list both begin with.
+// The tables are lent one by one: a struct of `&mut` slices would need in each contract a clause on which slice it lends.
 #![tactic(auto)]
 
 ghost use Rattle.samples.specs.Handed.{sample_of};
@@ -6,19 +7,17 @@ ghost use Rattle.limits.specs.Handed.{graph_maxima_of};
 ghost use Rattle.graph_work.specs.Clear.{Cleared};
 ghost use Rattle.graph_work.specs.Raise.{Raises, RaisedOf};
 
-use junction_tree_graph::build_graph;
+use junction_tree_graph::{Built, build_graph};
 use junction_trees::build_trees;
 use kmer_threading::Most;
 use limits::GraphMaxima;
 use refusals::Refusal;
 use samples::Sample;
 
-// A graph with its trees in the tables: how many kmers, threaded edges and tree nodes, and which kmer is the sink.
+// A graph with its trees in the tables: what was built, and how many tree nodes.
 #[derive(Clone, Copy)]
 pub struct Raise {
-    pub vertices: usize,
-    pub edges: usize,
-    pub sink: usize,
+    pub built: Built,
     pub nodes: usize,
 }
 
@@ -50,7 +49,7 @@ pub fn raise_graph(
     };
     clear_tables(w_vertices, w_index, w_nodes);
     let r = build_graph(sample, w_vertices, w_edges, w_index, most);
-    let Ok(b) = r else {
+    let Ok(built) = r else {
         return Err(r.unwrap_err());
     };
     let t = build_trees(
@@ -60,16 +59,11 @@ pub fn raise_graph(
         w_index,
         w_nodes,
         w_open,
-        b,
+        built,
         maxima.nodes as usize,
     );
     let Ok(nodes) = t else {
         return Err(t.unwrap_err());
     };
-    Ok(Raise {
-        vertices: b.vertices,
-        edges: b.edges,
-        sink: b.sink,
-        nodes,
-    })
+    Ok(Raise { built, nodes })
 }

@@ -1,4 +1,5 @@
 // Best-path search over a built graph with its trees. (Rust: junction_kbest.rs)
+// The slices that a step writes stay parameters one by one: held in a struct, each contract would have to say of each which slice was lent.
 #![tactic(auto)]
 
 ghost use Rattle.path_queue.specs.Push.{Pushes};
@@ -26,12 +27,12 @@ fn extend_taken(
     closed: &mut [u32],
     marks: &mut [u32],
     walks: &mut [u32],
-    g: Setting,
+    g: &Setting,
     taken: Taken,
     p: Progress,
 ) -> Result<Progress, Refusal>
-    requires { ExtendsTaken (setting_of g) g.graph.vertices.now g.graph.edges.now g.trees.nodes.now g.chains.index.now g.chains.targets.now g.column.now paths.old scores.old active.old closed.old marks.old walks.old p taken }
-    ensures { TakenExtended (setting_of g.entry) g.entry.graph.vertices.now g.entry.graph.edges.now g.entry.trees.nodes.now g.entry.chains.index.now g.entry.chains.targets.now g.entry.column.now paths.old scores.old active.old closed.old marks.old p taken result paths.new scores.new active.new closed.new marks.new }
+    requires { ExtendsTaken (setting_of g.now) g.now.graph.vertices.now g.now.graph.edges.now g.now.trees.nodes.now g.now.chains.index.now g.now.chains.targets.now g.now.column.now paths.old scores.old active.old closed.old marks.old walks.old p taken }
+    ensures { TakenExtended (setting_of g.now) g.now.graph.vertices.now g.now.graph.edges.now g.now.trees.nodes.now g.now.chains.index.now g.now.chains.targets.now g.now.column.now paths.old scores.old active.old closed.old marks.old p taken result paths.new scores.new active.new closed.new marks.new }
 {
     let a = add_junction_tree(paths, scores, active, g, taken);
     let Ok(_) = a else {
@@ -56,12 +57,12 @@ fn take_path(
     closed: &mut [u32],
     marks: &mut [u32],
     walks: &mut [u32],
-    g: Setting,
+    g: &Setting,
     p: Progress,
     path: u32,
 ) -> Result<Progress, Refusal>
-    requires { TakesPath (setting_of g) g.graph.vertices.now g.graph.edges.now g.trees.nodes.now g.chains.index.now g.chains.targets.now g.column.now paths.old scores.old active.old closed.old marks.old walks.old p path }
-    ensures { PathTaken (setting_of g.entry) g.entry.graph.vertices.now g.entry.graph.edges.now g.entry.trees.nodes.now g.entry.chains.index.now g.entry.chains.targets.now g.entry.column.now paths.old scores.old active.old closed.old marks.old p path result paths.new scores.new active.new closed.new marks.new }
+    requires { TakesPath (setting_of g.now) g.now.graph.vertices.now g.now.graph.edges.now g.now.trees.nodes.now g.now.chains.index.now g.now.chains.targets.now g.now.column.now paths.old scores.old active.old closed.old marks.old walks.old p path }
+    ensures { PathTaken (setting_of g.now) g.now.graph.vertices.now g.now.graph.edges.now g.now.trees.nodes.now g.now.chains.index.now g.now.chains.targets.now g.now.column.now paths.old scores.old active.old closed.old marks.old p path result paths.new scores.new active.new closed.new marks.new }
 {
     let held = Paths {
         records: paths,
@@ -78,12 +79,12 @@ fn take_path(
 fn push_turn(
     scores: &[f64],
     queue: &mut [u32],
-    g: Setting,
+    g: &Setting,
     q: Progress,
     from: u32,
 ) -> Result<Option<Progress>, Refusal>
-    requires { Pushes scores.now queue.old (setting_of g) q from }
-    ensures { PushedTurn scores.now queue.old (setting_of g.entry) q from queue.new result }
+    requires { Pushes scores.now queue.old (setting_of g.now) q from }
+    ensures { PushedTurn scores.now queue.old (setting_of g.now) q from queue.new result }
 {
     let d = push_paths(scores, queue, g, q, from);
     let Ok(n) = d else {
@@ -101,11 +102,11 @@ fn next_path(
     closed: &mut [u32],
     marks: &mut [u32],
     walks: &mut [u32],
-    g: Setting,
+    g: &Setting,
     p: Progress,
 ) -> Result<Option<Progress>, Refusal>
-    requires { NextTurn (setting_of g) g.graph.vertices.now g.graph.edges.now g.trees.nodes.now g.chains.index.now g.chains.targets.now g.column.now paths.old scores.old active.old queue.old closed.old marks.old walks.old p }
-    ensures { TurnMade (setting_of g.entry) g.entry.graph.vertices.now g.entry.graph.edges.now g.entry.trees.nodes.now g.entry.chains.index.now g.entry.chains.targets.now g.entry.column.now paths.old scores.old active.old queue.old closed.old marks.old p result paths.new scores.new active.new queue.new closed.new marks.new }
+    requires { NextTurn (setting_of g.now) g.now.graph.vertices.now g.now.graph.edges.now g.now.trees.nodes.now g.now.chains.index.now g.now.chains.targets.now g.now.column.now paths.old scores.old active.old queue.old closed.old marks.old walks.old p }
+    ensures { TurnMade (setting_of g.now) g.now.graph.vertices.now g.now.graph.edges.now g.now.trees.nodes.now g.now.chains.index.now g.now.chains.targets.now g.now.column.now paths.old scores.old active.old queue.old closed.old marks.old p result paths.new scores.new active.new queue.new closed.new marks.new }
 {
     if too_many(p) {
         return Ok(None);
@@ -129,11 +130,11 @@ fn try_pivotal(
     order: &[u32],
     marks: &[u32],
     walks: &mut [u32],
-    g: Setting,
+    g: &Setting,
     p: Progress,
 ) -> Result<Option<Progress>, Refusal>
-    requires { PivotTurn g.graph.edges.now g.chains.index.now g.chains.targets.now paths.old scores.old queue.old closed.now order.now marks.now walks.old (setting_of g) p }
-    ensures { PivotMade g.entry.graph.edges.now g.entry.chains.index.now g.entry.chains.targets.now paths.old scores.old queue.old closed.now order.now marks.now (setting_of g.entry) p result paths.new scores.new queue.new }
+    requires { PivotTurn g.now.graph.edges.now g.now.chains.index.now g.now.chains.targets.now paths.old scores.old queue.old closed.now order.now marks.now walks.old (setting_of g.now) p }
+    ensures { PivotMade g.now.graph.edges.now g.now.chains.index.now g.now.chains.targets.now paths.old scores.old queue.old closed.now order.now marks.now (setting_of g.now) p result paths.new scores.new queue.new }
 {
     let r = enqueue_next_pivotal_edge(paths, scores, closed, order, marks, walks, g, p);
     let Ok(recovered) = r else {
@@ -155,11 +156,11 @@ fn turn(
     order: &[u32],
     marks: &mut [u32],
     walks: &mut [u32],
-    g: Setting,
+    g: &Setting,
     p: Progress,
 ) -> Result<Option<Progress>, Refusal>
-    requires { TurnAsks (setting_of g) g.graph.vertices.now g.graph.edges.now g.trees.nodes.now g.chains.index.now g.chains.targets.now g.column.now paths.old scores.old active.old queue.old closed.old order.now marks.old walks.old p }
-    ensures { TurnMadeIn order.now (setting_of g.entry) g.entry.graph.vertices.now g.entry.graph.edges.now g.entry.trees.nodes.now g.entry.chains.index.now g.entry.chains.targets.now g.entry.column.now paths.old scores.old active.old queue.old closed.old marks.old p result paths.new scores.new active.new queue.new closed.new marks.new }
+    requires { TurnAsks (setting_of g.now) g.now.graph.vertices.now g.now.graph.edges.now g.now.trees.nodes.now g.now.chains.index.now g.now.chains.targets.now g.now.column.now paths.old scores.old active.old queue.old closed.old order.now marks.old walks.old p }
+    ensures { TurnMadeIn order.now (setting_of g.now) g.now.graph.vertices.now g.now.graph.edges.now g.now.trees.nodes.now g.now.chains.index.now g.now.chains.targets.now g.now.column.now paths.old scores.old active.old queue.old closed.old marks.old p result paths.new scores.new active.new queue.new closed.new marks.new }
 {
     if p.waiting > 0 {
         return next_path(paths, scores, active, queue, closed, marks, walks, g, p);
@@ -178,11 +179,11 @@ pub fn find_junction_best_haplotypes(
     order: &mut [u32],
     marks: &mut [u32],
     walks: &mut [u32],
-    g: Setting,
+    g: &Setting,
     recovery: bool,
 ) -> Result<Progress, Refusal>
-    requires { Finds (setting_of g) g.graph.vertices.now g.graph.edges.now g.trees.nodes.now g.chains.index.now g.chains.targets.now g.column.now paths.old scores.old active.old queue.old closed.old order.old marks.old walks.old }
-    ensures { Found (setting_of g.entry) g.entry.graph.vertices.now g.entry.graph.edges.now g.entry.trees.nodes.now g.entry.chains.index.now g.entry.chains.targets.now g.entry.column.now recovery result paths.new scores.new active.new queue.new closed.new order.new marks.new }
+    requires { Finds (setting_of g.now) g.now.graph.vertices.now g.now.graph.edges.now g.now.trees.nodes.now g.now.chains.index.now g.now.chains.targets.now g.now.column.now paths.old scores.old active.old queue.old closed.old order.old marks.old walks.old }
+    ensures { Found (setting_of g.now) g.now.graph.vertices.now g.now.graph.edges.now g.now.trees.nodes.now g.now.chains.index.now g.now.chains.targets.now g.now.column.now recovery result paths.new scores.new active.new queue.new closed.new order.new marks.new }
 {
     let mut p = begin(paths, scores, queue, walks, order, marks, g, recovery);
     while !all_closed(p.closed, g.asked) {

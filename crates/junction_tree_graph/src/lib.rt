@@ -1,4 +1,5 @@
 // The graph of a sample: the reference is threaded first, then the reads; the symbolic vertex and edge come last.
+// The tables are lent one by one: a struct of `&mut` slices would need in each contract a clause on which slice it lends.
 #![tactic(auto)]
 
 ghost use Rattle.std.specs.Prelude.{◌+◌, ◌*◌, length};
@@ -11,7 +12,7 @@ ghost use Rattle.junction_tree_graph.specs.Answers.{BuiltOf, FoundOf};
 
 use assembly::{Origin, add_symbolic_edge};
 use graph_kmers::find_kmer;
-use kmer_threading::{At, Most};
+use kmer_threading::{At, Ground, Most};
 use read_threading::thread_reads;
 use refusals::Refusal;
 use samples::Sample;
@@ -27,14 +28,13 @@ pub struct Built {
 
 // The reference first, then the reads in order.
 fn build(
-    sample: Sample,
+    d: &Ground,
     vertices: &mut [u32],
     edges: &mut [u32],
     index: &mut [u32],
-    most: Most,
 ) -> Result<At, Refusal>
-    requires { Begins (sample_of sample) vertices.old edges.old most × Fresh (most.vertices + 1) index.old }
-    ensures { Threaded sample.entry.k (text_of sample.entry.text) vertices.new edges.new most (2 * length (text_of sample.entry.text)) result (threaded (sample_of sample.entry)) × Keeps sample.entry.k (text_of sample.entry.text) vertices.new index.new most result }
+    requires { Begins (sample_of d.now.sample) vertices.old edges.old d.now.most × Fresh (d.now.most.vertices + 1) index.old }
+    ensures { Threaded d.now.sample.k (text_of d.now.sample.text) vertices.new edges.new d.now.most (2 * length (text_of d.now.sample.text)) result (threaded (sample_of d.now.sample)) × Keeps d.now.sample.k (text_of d.now.sample.text) vertices.new index.new d.now.most result }
 {
     let s0 = At {
         vertices: 0,
@@ -43,15 +43,13 @@ fn build(
         steps: 0,
     };
     let r = thread_sequence(
-        sample.text,
+        d,
         vertices,
         edges,
         index,
-        sample.k as usize,
-        most,
         s0,
         0,
-        sample.text.reference.len(),
+        d.sample.text.reference.len(),
         true,
         Origin {
             sequence: 0,
@@ -61,7 +59,7 @@ fn build(
     let Ok(s) = r else {
         return r;
     };
-    thread_reads(sample, vertices, edges, index, most, s)
+    thread_reads(d, vertices, edges, index, s)
 }
 
 // The graph of a sample, with the symbolic edge, in tables of exactly the lengths told; `GraphSize` is refused just where it does not fit the maxima.
@@ -79,7 +77,7 @@ pub fn build_graph(
         vertices: maxima.vertices - 1,
         edges: maxima.edges - 1,
     };
-    let r = build(sample, vertices, edges, index, most);
+    let r = build(&Ground { sample, most }, vertices, edges, index);
     let Ok(s) = r else {
         return Err(r.unwrap_err());
     };

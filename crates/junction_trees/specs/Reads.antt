@@ -24,7 +24,7 @@ module _ {d : Ground} {text vs es x op : List ℕ} {a len count : ℕ} (q : Walk
   run-skip h =
       let z : length (take len (drop a text)) ≡ len = length-take-le len (drop a text) (rw (length-drop a text) (let y = q.inside in omega arith)) in
       record {
-        is = λ ts st. rw (stretch-short d.k (ground_of d text vs es) d.sink (symbolic_ends d) (stretch_at text a len 0 0) ts (rw z h)) (state-more (a + len) (omega arith) st);
+        is = λ ts st. rw (stretch-short d.k (ground_of d text vs es) d.built.sink (symbolic_ends d) (stretch_at text a len 0 0) ts (rw z h)) (state-more (a + len) (omega arith) st);
         frame = frame_self d vs x op;
       }
 
@@ -34,7 +34,7 @@ unfolding runs_at runs
 none_left good sq start e bs qs p h = let z : e - p ≡ 0 = omega arith in rw z
 
 abbrev pub walks_of : Ground → List ℕ → List ℕ → List ℕ → List Stretch → List Tree → List Tree
-walks_of d text vs es rs ts = walk_all d.k (ground_of d text vs es) d.sink (symbolic_ends d) rs ts
+walks_of d text vs es rs ts = walk_all d.k (ground_of d text vs es) d.built.sink (symbolic_ends d) rs ts
 
 module _ (k : ℕ) (g : Graph) (sink : ℕ) (sy : Ends) where
   all_none : (ts : List Tree) → walk_all k g sink sy [] ts ≡ ts
@@ -134,7 +134,7 @@ module _ {d : Ground} {reference bases quals vs₁ es x₁ op₁ : List ℕ} {st
     read-end h sq =
         record {
           is = λ ts st.
-              rw (← (b sq).run ts, walk_end d.k G d.sink (symbolic_ends d) (usable least) sq start e bases quals p h ((b sq).walked ts))
+              rw (← (b sq).run ts, walk_end d.k G d.built.sink (symbolic_ends d) (usable least) sq start e bases quals p h ((b sq).walked ts))
               (state-more (length reference + e) (b sq).capped ((b sq).is ts st));
           frame = (b sq).frame;
         }
@@ -145,9 +145,6 @@ module _ {d : Ground} {reference bases quals vs₁ es x₁ op₁ : List ℕ} {st
 
       pub read_fits : length reference + p < 2 ^ 64
       read_fits = let z = inside in let u = y.sound.small in omega arith
-
-      pub read-more-fits : q + 1 < 2 ^ 64
-      read-more-fits = let z = inside in let u = y.sound.small in let v = r.from in omega arith
 
       pub read-run : Walks d (reference ++ bases) vs es x op (length reference + p) (q - p) c
       read-run =
@@ -160,7 +157,7 @@ module _ {d : Ground} {reference bases quals vs₁ es x₁ op₁ : List ℕ} {st
           }
 
       graph-now : ground_of d (reference ++ bases) vs es ≡ ground_of d (reference ++ bases) vs₁ es
-      graph-now = graph-kept (b 0).frame.kept d.k (reference ++ bases) es d.edges
+      graph-now = graph-kept (b 0).frame.kept d.k (reference ++ bases) es d.built.edges
 
       same-run : stretch_at (reference ++ bases) (length reference + p) (q - p) 0 0 ≡ record { sequence = 0; place = 0; bytes = take (q - p) (drop p bases) }
       same-run = rw (drop-append-add reference bases p)
@@ -171,7 +168,7 @@ module _ {d : Ground} {reference bases quals vs₁ es x₁ op₁ : List ℕ} {st
       turn : (sq : ℕ) (ts : List Tree) → walks_of d (reference ++ bases) vs₁ es (long_of d.k (runs_at (usable least) sq start e bases quals (q + 1))) (after ((b sq).walked ts)) ≡ whole sq ts
       turn sq ts =
           rw (graph-now, same-run)
-          (sym (walk-ahead d.k G d.sink (symbolic_ends d) (usable least) sq start e bases quals y.in_b y.in-q p q y.sound.some (b sq).from l r ((b sq).walked ts)) ∙ (b sq).run ts)
+          (sym (walk-ahead d.k G d.built.sink (symbolic_ends d) (usable least) sq start e bases quals y.in_b y.in-q p q y.sound.some (b sq).from l r ((b sq).walked ts)) ∙ (b sq).run ts)
 
       module _ (vs' x' op' : List ℕ) (a : Result ℕ Refusal) (k : Walking (walk_of d (reference ++ bases) vs es (length reference + p) (q - p)) d (length reference + p) (length reference + p + (q - p)) c vs vs' x x' op op' a) where
         pub read_next : (c' : ℕ) → a ≡ Ok c' → length x' ≡ length x → length op' ≡ length op → (sq : ℕ) → ReadLeft d least reference bases quals es start e count₁ vs₁ x₁ op₁ vs' x' op' c' (q + 1) sq
@@ -205,7 +202,7 @@ module _ {d : Ground} {reference bases quals vs₁ es x₁ op₁ : List ℕ} {st
           where
             over : (ts : List Tree) → d.most < length (nodes (after ((b sq).walked ts))) → d.most < length (nodes (whole sq ts))
             over ts h =
-                let g = all-grows d.k G d.sink (symbolic_ends d) (long_of d.k (runs_at (usable least) sq start e bases quals (q + 1))) (after ((b sq).walked ts)) in
+                let g = all-grows d.k G d.built.sink (symbolic_ends d) (long_of d.k (runs_at (usable least) sq start e bases quals (q + 1))) (after ((b sq).walked ts)) in
                 let z = ap (λ (t : List Tree). length (nodes t)) (turn sq ts) in
                 omega arith
 
@@ -270,7 +267,7 @@ module _ {d : Ground} {reference ends bases quals vs₁ es x₁ op₁ : List ℕ
       where
         left : (ts : List Tree) → drop j ends ≡ [] → b.walked ts ≡ all_of ts
         left ts f =
-            sym (all_none d.k G' d.sink (symbolic_ends d) (b.walked ts))
+            sym (all_none d.k G' d.built.sink (symbolic_ends d) (b.walked ts))
             ∙ ap (λ (l : List Stretch). walks_of d (reference ++ bases) vs₁ es l (b.walked ts)) (sym (from-nil (usable least) d.k (j + 1) start (drop start bases) (drop start quals)))
             ∙ (rw f at (b.run ts))
 
@@ -290,7 +287,7 @@ module _ {d : Ground} {reference ends bases quals vs₁ es x₁ op₁ : List ℕ
           }
 
       graph-there : ground_of d (reference ++ bases) vs es ≡ ground_of d (reference ++ bases) vs₁ es
-      graph-there = graph-kept b.frame.kept d.k (reference ++ bases) es d.edges
+      graph-there = graph-kept b.frame.kept d.k (reference ++ bases) es d.built.edges
 
       abbrev read : List Tree → List Tree
       read ts = walks_of d (reference ++ bases) vs es (read_of d.k least bases quals (j + 1) start e) ts
@@ -300,7 +297,7 @@ module _ {d : Ground} {reference ends bases quals vs₁ es x₁ op₁ : List ℕ
       onward ts =
           let n : j + 1 + 1 ≡ suc (j + 1) = omega arith in
           rw (graph-there, n, ← later start e bases next.order, ← later start e quals next.order)
-          (sym (all_append d.k G' d.sink (symbolic_ends d) (read_of d.k least bases quals (j + 1) start e) (stretches_from (usable least) d.k (suc (j + 1)) e (drop (j + 1) ends) (drop (e - start) (drop start bases)) (drop (e - start) (drop start quals))) (b.walked ts))
+          (sym (all_append d.k G' d.built.sink (symbolic_ends d) (read_of d.k least bases quals (j + 1) start e) (stretches_from (usable least) d.k (suc (j + 1)) e (drop (j + 1) ends) (drop (e - start) (drop start bases)) (drop (e - start) (drop start quals))) (b.walked ts))
           ∙ ap (λ (l : List Stretch). walks_of d (reference ++ bases) vs₁ es l (b.walked ts)) (sym (from_cons (usable least) d.k (j + 1) start e (drop (j + 1) ends) (drop start bases) (drop start quals)))
           ∙ (rw next.split at (b.run ts)))
 
@@ -332,6 +329,6 @@ module _ {d : Ground} {reference ends bases quals vs₁ es x₁ op₁ : List ℕ
           where
             over : (ts : List Tree) → d.most < length (nodes (read (b.walked ts))) → d.most < length (nodes (all_of ts))
             over ts h =
-                let g = all-grows d.k G' d.sink (symbolic_ends d) (stretches_from (usable least) d.k (j + 1 + 1) e (drop (j + 1) ends) (drop e bases) (drop e quals)) (read (b.walked ts)) in
+                let g = all-grows d.k G' d.built.sink (symbolic_ends d) (stretches_from (usable least) d.k (j + 1 + 1) e (drop (j + 1) ends) (drop e bases) (drop e quals)) (read (b.walked ts)) in
                 let z = ap (λ (t : List Tree). length (nodes t)) (onward ts) in
                 omega arith

@@ -25,15 +25,15 @@ use Rattle.junction_trees.specs.Roots.{root_of, Kept, kept_self, kept_on, kept_p
 
 -- ---- the graph that is walked, which the tables hold
 pub record Sound (d : Ground) (text vs es : List ℕ) : Type 0 where
-  pub good : Good d.k text vs d.vertices es d.edges
+  pub good : Good d.k text vs d.built.vertices es d.built.edges
   pub some : 0 < d.k
-  pub room-v : HasVertex vs d.vertices
-  pub room-e : HasEdges es d.edges
-  pub few : d.vertices < 2 ^ 16
-  pub sink : d.sink < d.vertices
+  pub room-v : HasVertex vs d.built.vertices
+  pub room-e : HasEdges es d.built.edges
+  pub few : d.built.vertices < 2 ^ 16
+  pub sink : d.built.sink < d.built.vertices
   pub small : length text ≤ 33792
 
-pub sound-kept : {d : Ground} {text vs vs' es : List ℕ} → Kept d.vertices vs vs' → Sound d text vs es → Sound d text vs' es
+pub sound-kept : {d : Ground} {text vs vs' es : List ℕ} → Kept d.built.vertices vs vs' → Sound d text vs es → Sound d text vs' es
 sound-kept {d = d} {text = text} p s =
     let z = p.size in
     let r = s.room-v in
@@ -62,12 +62,12 @@ bound-fits p o h q = let a : p * suc p ≤ 33792 * suc p = mul-le-mul_right (suc
 
 -- ---- what a call leaves alone
 pub record Frame (d : Ground) (vs vs' x x' op op' : List ℕ) : Type 0 where
-  pub kept : Kept d.vertices vs vs'
+  pub kept : Kept d.built.vertices vs vs'
   pub beyond : Beyond (told d.most) x x'
   pub beyond-open : Beyond (open_numbers d.most) op op'
 
 pub frame_self : (d : Ground) (vs x op : List ℕ) → Frame d vs vs x x op op
-frame_self d vs x op = record { kept = kept_self d.vertices vs; beyond = λ i h. refl; beyond-open = λ i h. refl }
+frame_self d vs x op = record { kept = kept_self d.built.vertices vs; beyond = λ i h. refl; beyond-open = λ i h. refl }
 
 pub frame_on : {d : Ground} {vs vs' vs'' x x' x'' op op' op'' : List ℕ} → Frame d vs vs' x x' op op' → Frame d vs' vs'' x' x'' op' op'' → Frame d vs vs'' x x'' op op''
 frame_on a b =
@@ -81,11 +81,11 @@ pub record Passing (d : Ground) (s : Way) (i : ℕ) (vs es x op : List ℕ) : Ty
   pub steps : ℕ
   pub state : State d walk steps s.nodes s.groups vs x op
   pub low : steps ≤ 33792
-  pub edge : i < d.edges
+  pub edge : i < d.built.edges
   pub from : edge_from es i ≡ s.here
 
 abbrev pub pass_of : Ground → List ℕ → ℕ → Walk → Walk
-pass_of d es i w = pass (edges_of es d.edges) (edge_at es i).ends w
+pass_of d es i w = pass (edges_of es d.built.edges) (edge_at es i).ends w
 
 abbrev pub PassedTo : Ground → ℕ → Walk → ℕ → List ℕ → List ℕ → List ℕ → List ℕ → Result Way Refusal → Type 0
 PassedTo d i w p vs es x op (Ok t) = State d (pass_of d es i w) (suc p) t.nodes t.groups vs x op
@@ -106,7 +106,7 @@ unless-many true e w = refl
 unless-many false e w = take-many e w
 
 module _ {d : Ground} {s : Way} {i : ℕ} {vs es x op : List ℕ} (q : Passing d s i vs es x op) where
-  here_in : s.here < d.vertices
+  here_in : s.here < d.built.vertices
   here_in = rw (← q.from) (q.sound.good.from_in i q.edge)
 
   pub pass-row : HasVertex vs s.here
@@ -116,7 +116,7 @@ module _ {d : Ground} {s : Way} {i : ℕ} {vs es x op : List ℕ} (q : Passing d
   pass-here-fits = let a = here_in in let b = q.sound.few in omega arith
 
   module _ (to : ℕ) (ht : to ≡ edge_to es i) where
-    to_in : to < d.vertices
+    to_in : to < d.built.vertices
     to_in = rw ht (q.sound.good.to_in i q.edge)
 
     pub pass-to-fits : to < 2 ^ 32
@@ -127,7 +127,7 @@ module _ {d : Ground} {s : Way} {i : ℕ} {vs es x op : List ℕ} (q : Passing d
 
     module _ (root : Option ℕ) (hr : root ≡ slot_at (tree_root vs s.here)) where
       abbrev told_of : ThreadingState
-      told_of = record { nodes = s.nodes; groups = s.groups; root = root }
+      told_of = record { nodes = s.nodes; cap = d.most; groups = s.groups; root = root }
 
       told-root : tree_root vs s.here ≡ link_to root
       told-root = sym (ap link_to hr ∙ link_is (tree_root vs s.here))
@@ -152,9 +152,9 @@ module _ {d : Ground} {s : Way} {i : ℕ} {vs es x op : List ℕ} (q : Passing d
           (k : Steps (λ w. take_unless (eqb outs 1) (ends s.here to) (open_where o s.here w)) passing d.most s.here told_of x x' op op' r) where
         step_is : (w : Walk) → take_unless (eqb outs 1) (ends s.here to) (open_where o s.here w) ≡ pass_of d es i w
         step_is w =
-            let m : outs ≡ length (leaving (edges_of es d.edges) s.here) = hd.is q.sound.good here_in in
+            let m : outs ≡ length (leaving (edges_of es d.built.edges) s.here) = hd.is q.sound.good here_in in
             rw (ho.is q.sound.good s.here i q.edge q.from (sym ht) m, m, ends-are)
-            (sym (pass-is (edges_of es d.edges) (ends s.here to) w))
+            (sym (pass-is (edges_of es d.built.edges) (ends s.here to) w))
 
         pass-few : (w : Walk) → length (pass_of d es i w).opened ≤ length w.opened + 1
         pass-few w =
@@ -194,7 +194,7 @@ module _ {d : Ground} {s : Way} {i : ℕ} {vs es x op : List ℕ} (q : Passing d
               (record {
                 is = went;
                 arrives = ht;
-                frame = record { kept = kept_put d.vertices vs s.here (link_to h.root) here_in; beyond = k.beyond; beyond-open = k.beyond-open };
+                frame = record { kept = kept_put d.built.vertices vs s.here (link_to h.root) here_in; beyond = k.beyond; beyond-open = k.beyond-open };
               })
 
         pub pass-stop : (m : Refusal) → r ≡ Err m → Passed d s i vs vs es x x' op op' (Err m)
@@ -203,24 +203,24 @@ module _ {d : Ground} {s : Way} {i : ℕ} {vs es x op : List ℕ} (q : Passing d
             record {
               is = λ w p st. let o = k'.is w (p * suc p) (root_of vs) st.held told-root in (o.0, rw (← step_is w) o.1);
               arrives = tt;
-              frame = record { kept = kept_self d.vertices vs; beyond = k.beyond; beyond-open = k.beyond-open };
+              frame = record { kept = kept_self d.built.vertices vs; beyond = k.beyond; beyond-open = k.beyond-open };
             }
 
 -- ---- the end of a walk
 unfoldable pub end_of : Ground → ℕ → Walk → Walk
-end_of d v w = elim (eqb v d.sink) [ true ↦ take_edge (ends d.sink d.vertices) w | false ↦ w ]
+end_of d v w = elim (eqb v d.built.sink) [ true ↦ take_edge (ends d.built.sink d.built.vertices) w | false ↦ w ]
 
-pub end_is : (g : Graph) (d : Ground) (v : ℕ) (w : Walk) → walk_bases g d.sink (ends d.sink d.vertices) v [] w ≡ end_of d v w
+pub end_is : (g : Graph) (d : Ground) (v : ℕ) (w : Walk) → walk_bases g d.built.sink (ends d.built.sink d.built.vertices) v [] w ≡ end_of d v w
 unfolding walk_bases end_of
 end_is g d v w = refl
 
-end-yes : (d : Ground) (v : ℕ) (w : Walk) → v ≡ d.sink → end_of d v w ≡ take_edge (ends d.sink d.vertices) w
+end-yes : (d : Ground) (v : ℕ) (w : Walk) → v ≡ d.built.sink → end_of d v w ≡ take_edge (ends d.built.sink d.built.vertices) w
 unfolding end_of
-end-yes d v w h = rw (eq-eqb v d.sink h, end_of)
+end-yes d v w h = rw (eq-eqb v d.built.sink h, end_of)
 
-end-no : (d : Ground) (v : ℕ) (w : Walk) → (v ≡ d.sink → ⊥) → end_of d v w ≡ w
+end-no : (d : Ground) (v : ℕ) (w : Walk) → (v ≡ d.built.sink → ⊥) → end_of d v w ≡ w
 unfolding end_of
-end-no d v w h = rw (ne_eqb v d.sink h, end_of)
+end-no d v w h = rw (ne_eqb v d.built.sink h, end_of)
 
 pub record Ending (d : Ground) (s : Way) (x op : List ℕ) : Type 0 where
   pub walk : Walk
@@ -228,8 +228,8 @@ pub record Ending (d : Ground) (s : Way) (x op : List ℕ) : Type 0 where
   pub roots : List ℕ
   pub state : State d walk steps s.nodes s.groups roots x op
   pub low : steps ≤ 33792
-  pub few : d.vertices < 2 ^ 16
-  pub sink : d.sink < d.vertices
+  pub few : d.built.vertices < 2 ^ 16
+  pub sink : d.built.sink < d.built.vertices
 
 abbrev pub EndedTo : Ground → ℕ → Walk → ℕ → List ℕ → List ℕ → List ℕ → Result Way Refusal → Type 0
 EndedTo d v w p vs x op (Ok t) = State d (end_of d v w) (suc p) t.nodes t.groups vs x op
@@ -241,26 +241,26 @@ pub record Ended (d : Ground) (s : Way) (x x' op op' : List ℕ) (r : Result Way
   pub beyond-open : Beyond (open_numbers d.most) op op'
 
 module _ {d : Ground} {s : Way} {x op : List ℕ} (q : Ending d s x op) where
-  pub end_stays : (s.here ≡ d.sink → ⊥) → Ended d s x x op op (Ok s)
+  pub end_stays : (s.here ≡ d.built.sink → ⊥) → Ended d s x x op op (Ok s)
   end_stays h = record { is = λ w p vs st. rw (end-no d s.here w h) (state-more (suc p) (omega arith) st); beyond = λ i j. refl; beyond-open = λ i j. refl }
 
-  pub end-asks : Asks d.most s.nodes s.groups (ends d.sink d.vertices) x op
+  pub end-asks : Asks d.most s.nodes s.groups (ends d.built.sink d.built.vertices) x op
   end-asks =
       let f = q.few in
       let k = q.sink in
       let b = bound-fits q.steps (length q.walk.opened) q.low q.state.few in
-      held-walking q.walk d.most s.nodes s.groups (q.steps * suc q.steps) (root_of q.roots) x op q.state.held (ends d.sink d.vertices) (omega arith, omega arith) (omega arith)
+      held-walking q.walk d.most s.nodes s.groups (q.steps * suc q.steps) (root_of q.roots) x op q.state.held (ends d.built.sink d.built.vertices) (omega arith, omega arith) (omega arith)
 
-  pub end-sink-fits : d.sink < 2 ^ 32
+  pub end-sink-fits : d.built.sink < 2 ^ 32
   end-sink-fits = let f = q.few in let k = q.sink in omega arith
 
-  pub end-to-fits : d.vertices < 2 ^ 32
+  pub end-to-fits : d.built.vertices < 2 ^ 32
   end-to-fits = let f = q.few in omega arith
 
-  module _ (h : s.here ≡ d.sink) (x' op' : List ℕ) (r : Result ℕ Refusal) (t : TookAll d.most s.nodes s.groups (ends d.sink d.vertices) x x' op op' r) where
+  module _ (h : s.here ≡ d.built.sink) (x' op' : List ℕ) (r : Result ℕ Refusal) (t : TookAll d.most s.nodes s.groups (ends d.built.sink d.built.vertices) x x' op op' r) where
     far : Beyond (open_numbers d.most) op op'
     far i j =
-        let a = held-few q.walk d.most s.nodes s.groups (q.steps * suc q.steps) (root_of q.roots) x op q.state.held (ends d.sink d.vertices) in
+        let a = held-few q.walk d.most s.nodes s.groups (q.steps * suc q.steps) (root_of q.roots) x op q.state.held (ends d.built.sink d.built.vertices) in
         t.beyond-open i (omega arith)
 
     pub end-next : (n : ℕ) → r ≡ Ok n → length x' ≡ length x → length op' ≡ length op → Ended d s x x' op op' (Ok (record { here = s.here; nodes = n; groups = s.groups }))
@@ -270,12 +270,12 @@ module _ {d : Ground} {s : Way} {x op : List ℕ} (q : Ending d s x op) where
         go w p vs st =
             let f = st.few in
             let b = bound-step p (p * suc p) (length w.opened) (omega arith) f in
-            let m = take-many (ends d.sink d.vertices) w in
+            let m = take-many (ends d.built.sink d.built.vertices) w in
             rw (end-yes d s.here w h)
             (record {
               held =
                   held-under (suc p * suc (suc p)) (omega arith)
-                  (held-takes w d.most s.nodes s.groups (p * suc p) (root_of vs) x op st.held (ends d.sink d.vertices) x' op' n (rw e at t) lx lo);
+                  (held-takes w d.most s.nodes s.groups (p * suc p) (root_of vs) x op st.held (ends d.built.sink d.built.vertices) x' op' n (rw e at t) lx lo);
               few = omega arith;
             })
 
@@ -283,7 +283,7 @@ module _ {d : Ground} {s : Way} {x op : List ℕ} (q : Ending d s x op) where
     end-stop m e =
         record {
           is = λ w p vs st.
-              let o = held-full w d.most s.nodes s.groups (p * suc p) (root_of vs) x op st.held (ends d.sink d.vertices) x' op' m (rw e at t) in
+              let o = held-full w d.most s.nodes s.groups (p * suc p) (root_of vs) x op st.held (ends d.built.sink d.built.vertices) x' op' m (rw e at t) in
               (o.0, rw (end-yes d s.here w h) o.1);
           beyond = t.beyond;
           beyond-open = far;

@@ -28,14 +28,14 @@ begun ts = record { trees = ts; opened = [] }
 
 -- the graph that the tables hold
 abbrev pub ground_of : Ground → List ℕ → List ℕ → List ℕ → Graph
-ground_of d text vs es = graph_of d.k text vs d.vertices es d.edges
+ground_of d text vs es = graph_of d.k text vs d.built.vertices es d.built.edges
 
 abbrev pub symbolic_ends : Ground → Ends
-symbolic_ends d = ends d.sink d.vertices
+symbolic_ends d = ends d.built.sink d.built.vertices
 
 -- what a stretch makes of the trees
 abbrev pub walk_of : Ground → List ℕ → List ℕ → List ℕ → ℕ → ℕ → List Tree → List Tree
-walk_of d text vs es a len ts = walk_stretch d.k (ground_of d text vs es) d.sink (symbolic_ends d) (stretch_at text a len 0 0) ts
+walk_of d text vs es a len ts = walk_stretch d.k (ground_of d text vs es) d.built.sink (symbolic_ends d) (stretch_at text a len 0 0) ts
 
 abbrev pub Answered : Ground → List Tree → ℕ → List ℕ → List ℕ → List ℕ → Result ℕ Refusal → Type 0
 Answered d ts p vs x op (Ok c) = State d (begun ts) p c 0 vs x op
@@ -79,32 +79,32 @@ state-closed {op = op} s = record { held = held-again op s.held.in-open s.held; 
 -- ---- the loop
 module _ (d : Ground) (text es : List ℕ) (a len first count : ℕ) (vs₁ x₁ op₁ : List ℕ) where
   abbrev whole_walk : List Tree → Walk
-  whole_walk ts = walk_bases (ground_of d text vs₁ es) d.sink (symbolic_ends d) first (drop d.k (take len (drop a text))) (begun ts)
+  whole_walk ts = walk_bases (ground_of d text vs₁ es) d.built.sink (symbolic_ends d) first (drop d.k (take len (drop a text))) (begun ts)
 
   pub record Left (vs x op : List ℕ) (s : Way) (j : ℕ) : Type 0 where
     pub within : j ≤ len - d.k
-    pub here : s.here ≤ d.vertices
+    pub here : s.here ≤ d.built.vertices
     pub frame : Frame d vs₁ vs x₁ x op₁ op
     pub size-x : length x ≡ length x₁
     pub size-op : length op ≡ length op₁
     pub walked : List Tree → Walk
     pub is : (ts : List Tree) → State d (begun ts) a count 0 vs₁ x₁ op₁ → State d (walked ts) (a + j) s.nodes s.groups vs x op
-    pub run : (ts : List Tree) → walk_bases (ground_of d text vs₁ es) d.sink (symbolic_ends d) s.here (drop (d.k + j) (take len (drop a text))) (walked ts) ≡ whole_walk ts
+    pub run : (ts : List Tree) → walk_bases (ground_of d text vs₁ es) d.built.sink (symbolic_ends d) s.here (drop (d.k + j) (take len (drop a text))) (walked ts) ≡ whole_walk ts
 
 -- what the search for the first kmer asks
 pub walk-find : {d : Ground} {text vs es x op : List ℕ} {a len count : ℕ} → Walks d text vs es x op a len count → d.k < len
-    → (a + d.k ≤ length text) × (HasVertices vs d.vertices) × ((v : ℕ) → v < d.vertices → kmer_place vs v + d.k ≤ length text)
+    → (a + d.k ≤ length text) × (HasVertices vs d.built.vertices) × ((v : ℕ) → v < d.built.vertices → kmer_place vs v + d.k ≤ length text)
 walk-find q long = ((let z = q.inside in omega arith), (let z = q.sound.room-v in omega arith), q.sound.good.fits)
 
 module _ {d : Ground} {text vs₁ es x₁ op₁ : List ℕ} {a len count : ℕ} (q : Walks d text vs₁ es x₁ op₁ a len count) (long : d.k < len)
-    (first : ℕ) (hf : first ≡ number_of (kmers_of d.k text vs₁ d.vertices) (part d.k text a)) where
+    (first : ℕ) (hf : first ≡ number_of (kmers_of d.k text vs₁ d.built.vertices) (part d.k text a)) where
   pub left-start : Left d text es a len first count vs₁ x₁ op₁ vs₁ x₁ op₁ (record { here = first; nodes = count; groups = 0 }) 0
   left-start =
       let z : a + 0 ≡ a = omega arith in
       let y : d.k + 0 ≡ d.k = omega arith in
       record {
         within = omega arith;
-        here = rw hf (number-le d.k text vs₁ d.vertices a);
+        here = rw hf (number-le d.k text vs₁ d.built.vertices a);
         frame = frame_self d vs₁ x₁ op₁;
         size-x = refl;
         size-op = refl;
@@ -121,11 +121,11 @@ module _ {d : Ground} {text vs₁ es x₁ op₁ : List ℕ} {a len count : ℕ} 
   unfolding graph_of
   whole_is ts =
       let e : take d.k (take len (drop a text)) ≡ part d.k text a = take-take d.k len (drop a text) (omega arith) in
-      sym (stretch-long d.k (ground_of d text vs₁ es) d.sink (symbolic_ends d) (stretch_at text a len 0 0) ts (rw size long) ∙ rw (e, ← hf))
+      sym (stretch-long d.k (ground_of d text vs₁ es) d.built.sink (symbolic_ends d) (stretch_at text a len 0 0) ts (rw size long) ∙ rw (e, ← hf))
 
   module _ {vs x op : List ℕ} {s : Way} {j : ℕ} (b : Left d text es a len first count vs₁ x₁ op₁ vs x op s j) where
     graph-now : ground_of d text vs es ≡ ground_of d text vs₁ es
-    graph-now = graph-kept b.frame.kept d.k text es d.edges
+    graph-now = graph-kept b.frame.kept d.k text es d.built.edges
 
     sound-now : Sound d text vs es
     sound-now = sound-kept b.frame.kept q.sound
@@ -151,7 +151,7 @@ module _ {d : Ground} {text vs₁ es x₁ op₁ : List ℕ} {a len count : ℕ} 
           sym (end_is (ground_of d text vs₁ es) d s.here (b.walked ts)) ∙ (rw z at (b.run ts))
 
       end_frame : Frame d vs₁ vs x₁ x' op₁ op'
-      end_frame = frame_on b.frame (record { kept = kept_self d.vertices vs; beyond = e.beyond; beyond-open = e.beyond-open })
+      end_frame = frame_on b.frame (record { kept = kept_self d.built.vertices vs; beyond = e.beyond; beyond-open = e.beyond-open })
 
       pub left_end : (t : Way) → r ≡ Ok t → Walking (walk_of d text vs₁ es a len) d a (a + len) count vs₁ vs x₁ x' op₁ op' (Ok t.nodes)
       left_end t f =
@@ -205,7 +205,7 @@ module _ {d : Ground} {text vs₁ es x₁ op₁ : List ℕ} {a len count : ℕ} 
             let u = b.within in
             record {
               is = λ ts st.
-                  rw (← whole_is ts, ← b.run ts, ahead, walk_none (ground_of d text vs₁ es) d.sink (symbolic_ends d) s.here (get_or text (a + d.k + j) 0) (drop (d.k + (j + 1)) (take len (drop a text))) (b.walked ts) f)
+                  rw (← whole_is ts, ← b.run ts, ahead, walk_none (ground_of d text vs₁ es) d.built.sink (symbolic_ends d) s.here (get_or text (a + d.k + j) 0) (drop (d.k + (j + 1)) (take len (drop a text))) (b.walked ts) f)
                   (state-more (a + len) (omega arith) (state-closed (b.is ts st)));
               frame = b.frame;
             }
@@ -215,17 +215,17 @@ module _ {d : Ground} {text vs₁ es x₁ op₁ : List ℕ} {a len count : ℕ} 
           p : sl ≡ 0 → ⊥
           p z = omega arith
 
-          here_in : s.here < d.vertices
-          here_in = go (dec_lt s.here d.vertices)
+          here_in : s.here < d.built.vertices
+          here_in = go (dec_lt s.here d.built.vertices)
             where
-              go : Dec (s.here < d.vertices) → s.here < d.vertices
+              go : Dec (s.here < d.built.vertices) → s.here < d.built.vertices
               go (yes h) = h
               go (no h) = absurd (p (hs ∙ sound-now.good.zeros s.here (code (get_or text (a + d.k + j) 0)) (omega arith) (let y = code_lt (get_or text (a + d.k + j) 0) in omega arith)))
 
           pos : 0 < out_edge vs s.here (code (get_or text (a + d.k + j) 0))
           pos = omega arith
 
-          full : (sl ≤ d.edges) × (edge_from es i ≡ s.here)
+          full : (sl ≤ d.built.edges) × (edge_from es i ≡ s.here)
           full =
               let w = sound-now.good.full s.here (code (get_or text (a + d.k + j) 0)) here_in (code_lt (get_or text (a + d.k + j) 0)) pos in
               let z : out_edge vs s.here (code (get_or text (a + d.k + j) 0)) - 1 ≡ i = omega arith in
@@ -242,11 +242,11 @@ module _ {d : Ground} {text vs₁ es x₁ op₁ : List ℕ} {a len count : ℕ} 
               rw (← graph-now) (rw z at (follow-some sound-now.good s.here (get_or text (a + d.k + j) 0) here_in base-here pos))
 
           turn : (ts : List Tree)
-              → walk_bases (ground_of d text vs₁ es) d.sink (symbolic_ends d) (edge_to es i) (drop (d.k + (j + 1)) (take len (drop a text))) (pass_of d es i (b.walked ts))
+              → walk_bases (ground_of d text vs₁ es) d.built.sink (symbolic_ends d) (edge_to es i) (drop (d.k + (j + 1)) (take len (drop a text))) (pass_of d es i (b.walked ts))
               ≡ whole_walk d text es a len first count vs₁ x₁ op₁ ts
           unfolding graph_of
           turn ts =
-              sym (walk-some (ground_of d text vs₁ es) d.sink (symbolic_ends d) s.here (get_or text (a + d.k + j) 0) (drop (d.k + (j + 1)) (take len (drop a text))) (b.walked ts) (edge_at es i) found)
+              sym (walk-some (ground_of d text vs₁ es) d.built.sink (symbolic_ends d) s.here (get_or text (a + d.k + j) 0) (drop (d.k + (j + 1)) (take len (drop a text))) (b.walked ts) (edge_at es i) found)
               ∙ (rw ahead at (b.run ts))
 
           module _ (vs' x' op' : List ℕ) (r : Result Way Refusal) (e : Passed d s i vs vs' es x x' op op' r) where
@@ -276,14 +276,14 @@ module _ {d : Ground} {text vs₁ es x₁ op₁ : List ℕ} {a len count : ℕ} 
               where
                 over : (ts : List Tree) → d.most < many (pass_of d es i (b.walked ts)) → d.most < length (nodes (walk_of d text vs₁ es a len ts))
                 over ts h =
-                    let g = walk-grows (ground_of d text vs₁ es) d.sink (symbolic_ends d) (edge_to es i) (drop (d.k + (j + 1)) (take len (drop a text))) (pass_of d es i (b.walked ts)) in
-                    let z : many (walk_bases (ground_of d text vs₁ es) d.sink (symbolic_ends d) (edge_to es i) (drop (d.k + (j + 1)) (take len (drop a text))) (pass_of d es i (b.walked ts))) ≡ length (nodes (walk_of d text vs₁ es a len ts))
+                    let g = walk-grows (ground_of d text vs₁ es) d.built.sink (symbolic_ends d) (edge_to es i) (drop (d.k + (j + 1)) (take len (drop a text))) (pass_of d es i (b.walked ts)) in
+                    let z : many (walk_bases (ground_of d text vs₁ es) d.built.sink (symbolic_ends d) (edge_to es i) (drop (d.k + (j + 1)) (take len (drop a text))) (pass_of d es i (b.walked ts))) ≡ length (nodes (walk_of d text vs₁ es a len ts))
                     = ap many (turn ts) ∙ ap (λ (l : List Tree). length (nodes l)) (whole_is ts) in
                     omega arith
 
 -- no vertex has the stretch's first kmer: the walk stops where it begins
 pub left-missing : {d : Ground} {text vs es x op : List ℕ} {a len count : ℕ} → Walks d text vs es x op a len count → d.k < len
-    → d.vertices ≡ number_of (kmers_of d.k text vs d.vertices) (part d.k text a) → Walking (walk_of d text vs es a len) d a (a + len) count vs vs x x op op (Ok count)
+    → d.built.vertices ≡ number_of (kmers_of d.k text vs d.built.vertices) (part d.k text a) → Walking (walk_of d text vs es a len) d a (a + len) count vs vs x x op op (Ok count)
 left-missing {d = d} {text = text} {vs = vs} {a = a} q long h =
-    left-none q long d.vertices h (left-start q long d.vertices h) (omega arith) 0
-    (sym (q.sound.good.zeros d.vertices (code (get_or text (a + d.k + 0) 0)) (omega arith) (let y = code_lt (get_or text (a + d.k + 0) 0) in omega arith))) refl
+    left-none q long d.built.vertices h (left-start q long d.built.vertices h) (omega arith) 0
+    (sym (q.sound.good.zeros d.built.vertices (code (get_or text (a + d.k + 0) 0)) (omega arith) (let y = code_lt (get_or text (a + d.k + 0) 0) in omega arith))) refl

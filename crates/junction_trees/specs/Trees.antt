@@ -93,7 +93,7 @@ module _ {s : Sample} {v e : ℕ} {vs es : List ℕ} {n m sink : ℕ} (a : Built
   built-over r o = rw (a.fits, built_of, lt-leb (length (nodes (evidence s (threaded s)))) most o.over, o.nine)
 
 abbrev pub ground_for : Sample → Built → ℕ → Ground
-ground_for s b most = record { k = s.k; vertices = b.vertices; edges = b.edges; sink = b.sink; most = most }
+ground_for s b most = record { k = s.k; built = b; most = most }
 
 module _ {s : Sample} {vs es x op : List ℕ} {b : Built} {most : ℕ} (q : Gathers s vs es x op b most) where
   fits : Fits s

@@ -1,6 +1,10 @@
 // Evidence: each read stretch longer than k is walked again over the graph as it was before the symbolic edge, and the walk counts in the trees that it
 // has opened. The trees and the active trees of a walk are the tables of `threading_tree`; the link to a vertex's root is field 11 of its record, which
 // the graph does not use.
+//
+// The tables are lent one by one: a struct of `&mut` slices would need in each contract a clause on which slice it lends.
+// Each function asks for the rows that it reads or writes: the tables are lent slices of numbers, so no type of this project holds that they are there.
+// `nodes` and `vertices` are lent longer than they are filled, so a number beside each says how many rows there are.
 #![tactic(auto)]
 
 ghost use Rattle.std.specs.Prelude.{◌≡◌, ℕ, ◌+◌, ◌^◌, ◌<◌, length, get_or};
@@ -25,7 +29,7 @@ use samples::{Sample, Text};
 use tables::VERTEX;
 use threading_node::{Edge, link_to, slot_at};
 use threading_tree::{ThreadingState, add_edge_to_junction_tree_nodes, pass_edge};
-use usable_stretches::run_end;
+use usable_stretches::usable_runs;
 
 // ---- the slot of a vertex's root, none where it has no tree
 
@@ -55,7 +59,8 @@ fn clear_roots(vertices: &mut [u32], n: usize)
 
 // ---- the out-edges of a vertex
 
-// How many edges leave v: its slots that name one.
+// How many edges leave v: its slots that name one. (Counted in a loop: `filter` and `count` were tried, and slower, by a third of the build's
+// instructions.)
 fn out_degree(vertices: &[u32], v: usize) -> usize
     requires { HasVertex vertices.now v }
     ensures { OutDegree vertices.now v result }
@@ -80,13 +85,11 @@ fn vertex_warrants_junction_tree(vertices: &[u32], outs: usize, to: usize) -> bo
 
 // ---- one walk
 
-// What a walk goes over: k, how many vertices and edges the graph has, its sink, and how many nodes there may be.
+// What a walk goes over: k, the graph, and how many nodes there may be.
 #[derive(Clone, Copy)]
 pub struct Ground {
     pub k: usize,
-    pub vertices: usize,
-    pub edges: usize,
-    pub sink: usize,
+    pub built: Built,
     pub most: usize,
 }
 
@@ -104,6 +107,7 @@ fn next_edge(text: Text, vertices: &[u32], v: usize, q: usize) -> Option<usize>
     ensures { slot_of result ≡ out_edge vertices.now v (code (get_or (text_of text.entry) q 0)) }
 {
     let b = usize::from(text.byte_at(q));
+    // The code of a base, as the head of `assembly` tells it: one expression, for which a function of its own is no plainer.
     out_edge(vertices, v, b / 2 % 8)
 }
 
@@ -126,6 +130,7 @@ fn extend_junction_threading_by_one(
     let warrants = vertex_warrants_junction_tree(vertices, outs, to);
     let held = ThreadingState {
         nodes: s.nodes,
+        cap: d.most,
         groups: s.groups,
         root: root_slot(vertices, v),
     };
@@ -133,7 +138,7 @@ fn extend_junction_threading_by_one(
         from: v as u32,
         to: to as u32,
     };
-    let r = pass_edge(nodes, active, held, d.most, edge, warrants, outs == 1);
+    let r = pass_edge(nodes, active, held, edge, warrants, outs == 1);
     let Ok(h) = r else {
         return Err(r.unwrap_err());
     };
@@ -155,12 +160,12 @@ fn take_symbolic_edge(
     requires { Ending d s nodes.old active.old }
     ensures { Ended d s nodes.old nodes.new active.old active.new result }
 {
-    if s.here != d.sink {
+    if s.here != d.built.sink {
         return Ok(s);
     }
     let edge = Edge {
-        from: d.sink as u32,
-        to: d.vertices as u32,
+        from: d.built.sink as u32,
+        to: d.built.vertices as u32,
     };
     let r = add_edge_to_junction_tree_nodes(nodes, active, s.groups, s.nodes, d.most, edge);
     let Ok(n) = r else {
@@ -183,11 +188,11 @@ fn walk_stretch(
     len: usize,
     count: usize,
 ) -> Result<usize, Refusal>
-    requires { Walks d (text_of text) vertices.old edges.now nodes.old active.old a len count × (d.k < len) × Finding d.k (text_of text) vertices.old index.now d.vertices }
+    requires { Walks d (text_of text) vertices.old edges.now nodes.old active.old a len count × (d.k < len) × Finding d.k (text_of text) vertices.old index.now d.built.vertices }
     ensures { Walking (walk_of d (text_of text.entry) vertices.old edges.now a len) d a (a + len) count vertices.old vertices.new nodes.old nodes.new active.old active.new result }
 {
     // The definition stops here too, where there is no vertex or no edge; a stretch that was threaded never does (its theorem Visits.walk-visits).
-    let Some(first) = find_kmer(text, vertices, index, d.vertices, d.k, a) else {
+    let Some(first) = find_kmer(text, vertices, index, d.built.vertices, d.k, a) else {
         return Ok(count);
     };
     let mut s = Way {
@@ -227,7 +232,7 @@ fn walk_run(
     len: usize,
     count: usize,
 ) -> Result<usize, Refusal>
-    requires { Walks d (text_of text) vertices.old edges.now nodes.old active.old a len count × Finding d.k (text_of text) vertices.old index.now d.vertices }
+    requires { Walks d (text_of text) vertices.old edges.now nodes.old active.old a len count × Finding d.k (text_of text) vertices.old index.now d.built.vertices }
     ensures { Walking (walk_of d (text_of text.entry) vertices.old edges.now a len) d a (a + len) count vertices.old vertices.new nodes.old nodes.new active.old active.new result }
 {
     if len <= d.k {
@@ -251,16 +256,14 @@ fn walk_read(
     end: usize,
     count: usize,
 ) -> Result<usize, Refusal>
-    requires { ReadWalks d sample.text.reference.now sample.text.bases.now sample.qualities.now vertices.old edges.now nodes.old active.old start end count × Finding d.k (text_of sample.text) vertices.old index.now d.vertices }
+    requires { ReadWalks d sample.text.reference.now sample.text.bases.now sample.qualities.now vertices.old edges.now nodes.old active.old start end count × Finding d.k (text_of sample.text) vertices.old index.now d.built.vertices }
     ensures { (q : ℕ) → Walking (walks_of d (text_of sample.entry.text) vertices.old edges.now (read_of d.k sample.entry.quality sample.entry.text.bases.now sample.entry.qualities.now q start end)) d (length sample.entry.text.reference.now + start) (length sample.entry.text.reference.now + end) count vertices.old vertices.new nodes.old nodes.new active.old active.new result }
 {
     let text = sample.text;
     let n = text.reference.len();
     let mut c = count;
-    let mut p = start;
-    // Each turn is a run, not a byte.
-    while p < end {
-        let q = run_end(sample, p, end);
+    for run in usable_runs(sample, start, end) {
+        let len = run.to - run.from;
         let r = walk_run(
             text,
             vertices,
@@ -269,15 +272,14 @@ fn walk_read(
             nodes,
             active,
             d,
-            n + p,
-            q - p,
+            n + run.from,
+            len,
             c,
         );
         let Ok(more) = r else {
             return r;
         };
         c = more;
-        p = q + 1;
     }
     Ok(c)
 }
@@ -293,7 +295,7 @@ fn generate_junction_trees(
     d: Ground,
     count: usize,
 ) -> Result<usize, Refusal>
-    requires { ReadsWalk d sample.text.reference.now sample.ends.now sample.text.bases.now sample.qualities.now vertices.old edges.now nodes.old active.old count × Finding d.k (text_of sample.text) vertices.old index.now d.vertices }
+    requires { ReadsWalk d sample.text.reference.now sample.ends.now sample.text.bases.now sample.qualities.now vertices.old edges.now nodes.old active.old count × Finding d.k (text_of sample.text) vertices.old index.now d.built.vertices }
     ensures { Walking (walks_of d (text_of sample.entry.text) vertices.old edges.now (reads_of d.k sample.entry.quality sample.entry.ends.now sample.entry.text.bases.now sample.entry.qualities.now)) d (length sample.entry.text.reference.now) (length (text_of sample.entry.text)) count vertices.old vertices.new nodes.old nodes.new active.old active.new result }
 {
     let mut c = count;
@@ -329,11 +331,9 @@ pub fn build_trees(
 {
     let d = Ground {
         k: sample.k as usize,
-        vertices: built.vertices,
-        edges: built.edges,
-        sink: built.sink,
+        built,
         most,
     };
-    clear_roots(vertices, d.vertices);
+    clear_roots(vertices, built.vertices);
     generate_junction_trees(sample, vertices, edges, index, nodes, active, d, 0)
 }

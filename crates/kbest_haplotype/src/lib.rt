@@ -32,7 +32,8 @@ fn climbs(x: f64, y: f64) -> bool
     x <= y && y <= 16.0
 }
 
-// Whether every place from 1 on may follow the one before it; place 0 is not read.
+// Whether every place from 1 on may follow the one before it; place 0 is not read. (A `for` that carries the last logarithm along: the contract compares
+// place 1 with zero, which `is_sorted_by` does not. By place, since the loop's invariant speaks of the entries from a place on.)
 fn column_climbs(column: &[f64]) -> bool
     ensures { result ≡ climbing float_zero (drop 1 column.now) }
 {

@@ -1,4 +1,6 @@
 // Threading, one kmer at a time: the vertex of a kmer, and the step to it from the vertex reached.
+// The tables are lent one by one: a struct of `&mut` slices would need in each contract a clause on which slice it lends.
+// Each function asks for the rows that it reads or writes: the tables are lent slices of numbers, so no type of this project holds that they are there.
 #![tactic(auto)]
 
 ghost use Rattle.std.specs.Prelude.{◌+◌};
@@ -12,13 +14,21 @@ ghost use Rattle.kmer_threading.specs.Indexes.{Indexes, Keeps};
 use assembly::{Origin, add_edge, create_vertex, edge_to, inc_edge, out_edge};
 use graph_kmers::{enter_kmer, find_in_bucket, kmer_bucket};
 use refusals::Refusal;
-use samples::Text;
+use samples::Sample;
 
 // The most vertices and edges: of the caller's maxima the symbolic vertex and edge count, of those that threading keeps to they do not.
 #[derive(Clone, Copy)]
 pub struct Most {
     pub vertices: usize,
     pub edges: usize,
+}
+
+// What threading goes by and never changes: the sample, of which a kmer's step takes the text and k, and the most vertices and edges. The steps are lent
+// it: by value, which was tried, it was copied for each base, and the build took longer.
+#[derive(Clone, Copy)]
+pub struct Ground<'a> {
+    pub sample: Sample<'a>,
+    pub most: Most,
 }
 
 // How much of the tables is used, the vertex reached, and a bound of the counts made: no support is above it, so that all fit.
@@ -32,23 +42,23 @@ pub struct At {
 
 // The vertex of the kmer at place q of the text, made where the kmer has none.
 pub fn get_or_create_kmer_vertex(
-    text: Text,
+    d: &Ground,
     vertices: &mut [u32],
     index: &mut [u32],
-    k: usize,
-    most: Most,
     s: At,
     q: usize,
 ) -> Result<At, Refusal>
-    requires { Gets k (text_of text) vertices.old most s q × Indexes k (text_of text) vertices.old index.old most s.vertices }
-    ensures { Got k (text_of text.entry) vertices.old vertices.new most s q result × Keeps k (text_of text.entry) vertices.new index.new most result }
+    requires { Gets d.now.sample.k (text_of d.now.sample.text) vertices.old d.now.most s q × Indexes d.now.sample.k (text_of d.now.sample.text) vertices.old index.old d.now.most s.vertices }
+    ensures { Got d.now.sample.k (text_of d.now.sample.text) vertices.old vertices.new d.now.most s q result × Keeps d.now.sample.k (text_of d.now.sample.text) vertices.new index.new d.now.most result }
 {
+    let text = d.sample.text;
+    let k = d.sample.k as usize;
     let n = s.vertices;
     let h = kmer_bucket(text, k, q, index.len() / 2);
     if let Some(here) = find_in_bucket(text, vertices, index, n, k, q, h) {
         return Ok(At { here, ..s });
     }
-    if n >= most.vertices {
+    if n >= d.most.vertices {
         return Err(Refusal::GraphSize);
     }
     create_vertex(vertices, n, q);
@@ -62,21 +72,21 @@ pub fn get_or_create_kmer_vertex(
 
 // One step: from the vertex reached to the kmer at place q of the text, whose left neighbour has the origin.
 pub fn extend_chain_by_one(
-    text: Text,
+    d: &Ground,
     vertices: &mut [u32],
     edges: &mut [u32],
     index: &mut [u32],
-    k: usize,
-    most: Most,
     s: At,
     q: usize,
     is_ref: bool,
     origin: Origin,
 ) -> Result<At, Refusal>
-    requires { Extends k (text_of text) vertices.old edges.old most s q × Indexes k (text_of text) vertices.old index.old most s.vertices }
-    ensures { Stepped k (text_of text.entry) vertices.new edges.new most (s.steps + 1) result (step is_ref (origin_of origin) (part k (text_of text.entry) q) (threading_of k (text_of text.entry) vertices.old edges.old s)) × Keeps k (text_of text.entry) vertices.new index.new most result }
+    requires { Extends d.now.sample.k (text_of d.now.sample.text) vertices.old edges.old d.now.most s q × Indexes d.now.sample.k (text_of d.now.sample.text) vertices.old index.old d.now.most s.vertices }
+    ensures { Stepped d.now.sample.k (text_of d.now.sample.text) vertices.new edges.new d.now.most (s.steps + 1) result (step is_ref (origin_of origin) (part d.now.sample.k (text_of d.now.sample.text) q) (threading_of d.now.sample.k (text_of d.now.sample.text) vertices.old edges.old s)) × Keeps d.now.sample.k (text_of d.now.sample.text) vertices.new index.new d.now.most result }
 {
-    let b = usize::from(text.byte_at(q + k - 1));
+    let k = d.sample.k as usize;
+    let b = usize::from(d.sample.text.byte_at(q + k - 1));
+    // The code of a base, as the head of `assembly` tells it: one expression, for which a function of its own is no plainer.
     let c = b / 2 % 8;
     if let Some(i) = out_edge(vertices, s.here, c) {
         let here = edge_to(edges, i);
@@ -88,10 +98,10 @@ pub fn extend_chain_by_one(
         });
     }
     let m = s.edges;
-    if m >= most.edges {
+    if m >= d.most.edges {
         return Err(Refusal::GraphSize);
     }
-    let r = get_or_create_kmer_vertex(text, vertices, index, k, most, s, q);
+    let r = get_or_create_kmer_vertex(d, vertices, index, s, q);
     let Ok(t) = r else {
         return r;
     };

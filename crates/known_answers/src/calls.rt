@@ -3,9 +3,10 @@ ghost use Rattle.std.specs.Prelude.{◌≤◌};
 
 use crate::numbers::{behind, field};
 use agreement::agree::{Element, LENT, left, same, written};
+use assembly::Origin;
 use graph_call::GraphAnswer;
-use limits::{GraphMaxima, SearchMaxima, workspace_kept};
-use samples::{Sample, Text};
+use limits::{GraphMaxima, Maxima, SearchMaxima, Sequences, workspace_kept};
+use samples::Sample;
 use slice_lengths::{LengthsTold, Workspace};
 use tables::{EDGE_ROW, NODE_ROW};
 
@@ -32,12 +33,12 @@ fn search_maxima(call: &[u32], place: usize) -> SearchMaxima
 // ---- lengths: k, paths, maxima; refusal, rows of edges and nodes, paths, bases, origins
 
 pub fn lengths_agree(call: &[u32]) -> bool {
-    let told = slice_lengths::lengths(
-        field(call, 1),
-        field(call, 2),
-        graph_maxima(call, 3),
-        search_maxima(call, 6),
-    );
+    let maxima = Maxima {
+        asked: field(call, 2),
+        graph: graph_maxima(call, 3),
+        search: search_maxima(call, 6),
+    };
+    let told = slice_lengths::lengths(field(call, 1), maxima);
     told.refusal == field(call, 9)
         && told.edges == field(call, 10) as usize * EDGE_ROW
         && told.nodes == field(call, 11) as usize * NODE_ROW
@@ -48,11 +49,18 @@ pub fn lengths_agree(call: &[u32]) -> bool {
 
 // ---- origin: sequence, place; refusal, bytes
 
-pub fn origin_agrees(call: &[u32], k: u32, text: Text, ends: &[u32]) -> bool {
-    let sequence = field(call, 1);
-    let place = field(call, 2);
-    let part = origins::origin_part(k, text, ends, sequence, place);
-    let bytes = origins::origin_bytes(k, text, ends, sequence, place);
+pub fn origin_agrees(call: &[u32], sample: Sample) -> bool {
+    let sequences = Sequences {
+        k: sample.k,
+        text: sample.text,
+        ends: sample.ends,
+    };
+    let origin = Origin {
+        sequence: field(call, 1),
+        place: field(call, 2),
+    };
+    let part = origins::origin_part(sequences, origin);
+    let bytes = origins::origin_bytes(sequences, origin);
     part.refusal == field(call, 3) && part.length == bytes.len() && same(bytes, behind(call, 4))
 }
 
@@ -66,37 +74,42 @@ pub fn lent(told: usize, room: usize, short: bool) -> usize
     if short { n.saturating_sub(1) } else { n }
 }
 
-// The lengths told for a call for edges and trees, which has no search.
+// The lengths told for a call for edges and trees, which has no search. (They are asked of the exported call, as its callers do, so not by what
+// `graph_call` asks inside.)
 fn told_for(k: u32, maxima: GraphMaxima) -> LengthsTold {
     let search = SearchMaxima {
         path_edges: 1,
         active: 1,
         pushes: 1,
     };
-    slice_lengths::lengths(k, 0, maxima, search)
+    let least = Maxima {
+        asked: 0,
+        graph: maxima,
+        search,
+    };
+    slice_lengths::lengths(k, least)
 }
 
-// What tells the elements of the workspace where they were told: what they were lent as, or zero.
+// What tells the elements of the workspace where they were told: what they were lent as, or zero. (The refusal is a number here, since that is how the
+// exported answer tells it.)
 pub fn value_left<T: Element>(refusal: u32) -> u64 {
     if workspace_kept(refusal) { T::LENT } else { 0 }
 }
 
-// Each slice of the workspace.
-fn workspace_left(
+// The workspace that each call is lent for the graph and its trees, but for what it opens.
+pub fn graph_tables_left(
     refusal: u32,
     told: Workspace,
     w_vertices: &[u32],
     w_edges: &[u32],
     w_index: &[u32],
     w_nodes: &[u32],
-    w_open: &[u32],
 ) -> bool {
     let value = value_left::<u32>(refusal);
     left(w_vertices, told.vertices, value)
         && left(w_edges, told.edges, value)
         && left(w_index, told.index, value)
         && left(w_nodes, told.nodes, value)
-        && left(w_open, told.open, value)
 }
 
 fn graph_answered(call: &[u32], answer: GraphAnswer) -> bool {
@@ -112,7 +125,8 @@ fn rows_written(call: &[u32], edges: &[u32], nodes: &[u32]) -> bool {
     written(edges, &rows[..n]) && written(nodes, &rows[n..])
 }
 
-// The call itself, in as much of each slice as is told, and one element fewer of the one that is to be short.
+// The call itself, in as much of each slice as is told, and one element fewer of the one that is to be short. (`short` is the number that the data tell;
+// no slice has the number 0, so that a call with none short needs no case of its own. The slices are parameters one by one, as the call takes them.)
 fn make_graph(
     sample: Sample,
     maxima: GraphMaxima,
@@ -147,7 +161,8 @@ fn make_graph(
     )
 }
 
-// Each call is made in slices of its own, as long as the limits allow, so that nothing of an earlier one can help it.
+// Each call is made in slices of its own, as long as the limits allow, so that nothing of an earlier one can help it. (Each has a name of its own, as the
+// call takes them one by one.)
 pub fn graph_agrees(call: &[u32], sample: Sample) -> bool {
     let maxima = graph_maxima(call, 1);
     let told = told_for(sample.k, maxima);
@@ -173,13 +188,17 @@ pub fn graph_agrees(call: &[u32], sample: Sample) -> bool {
     );
     graph_answered(call, answer)
         && rows_written(call, &edges, &nodes)
-        && workspace_left(
+        && graph_tables_left(
             answer.refusal,
             told.workspace,
             &w_vertices,
             &w_edges,
             &w_index,
             &w_nodes,
+        )
+        && left(
             &w_open,
+            told.workspace.open,
+            value_left::<u32>(answer.refusal),
         )
 }

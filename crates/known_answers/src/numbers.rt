@@ -1,6 +1,8 @@
-// The form of the data: numbers in text, a list as its length and then its elements.
+// The form of the data: numbers in text, a list as its length and then its elements. Numbers and bytes are written into lent slices, and how many is told
+// beside them: a Vec needs a heap.
 ghost use Rattle.std.specs.Prelude.{◌≤◌, length};
-ghost use Rattle.known_answers.specs.Places.{Within};
+ghost use Rattle.std.specs.Iterator.{at_most};
+ghost use Rattle.known_answers.specs.Parts.{Parted, Steps};
 
 // How far the text is read: the number whose digits were read and that is not ended, and how many numbers are behind it.
 #[derive(Clone, Copy)]
@@ -63,26 +65,34 @@ pub fn behind(numbers: &[u32], place: usize) -> &[u32] {
     &numbers[place.min(n)..]
 }
 
-// Where the elements of a list stand.
-#[derive(Clone, Copy)]
-pub struct Part {
-    pub start: usize,
-    pub end: usize,
+// The first list, whose length stands in front of it, and the numbers behind it; a list that the numbers cut short ends with them.
+pub fn split_list(numbers: &[u32]) -> (&[u32], &[u32])
+    ensures { Parted numbers.now result.0.now result.1.now }
+{
+    let Some((size, rest)) = numbers.split_first() else {
+        return (numbers, numbers);
+    };
+    rest.split_at((*size as usize).min(rest.len()))
 }
 
-// The list whose length stands at a place; one that the numbers cut short ends with them.
-pub fn list_at(numbers: &[u32], place: usize) -> Part
-    ensures { Within place result.start result.end (length numbers.now) }
-{
-    let n = numbers.len();
-    if place >= n {
-        return Part { start: n, end: n };
-    }
-    let start = place + 1;
-    let size = numbers[place] as usize;
-    Part {
-        start,
-        end: start + size.min(n - start),
+// The lists that numbers are, one behind the other.
+#[derive(Clone, Drop)]
+pub struct Lists<'a>(pub &'a [u32]);
+
+impl<'a> Iterator for Lists<'a> {
+    type Item = &'a [u32];
+
+    ghost next_gives = { Steps };
+
+    ghost remaining = { λ s. at_most (length s.0.now) };
+
+    fn next(&mut self) -> Option<&'a [u32]> {
+        if self.0.is_empty() {
+            return None;
+        }
+        let (list, behind) = split_list(self.0);
+        self.0 = behind;
+        Some(list)
     }
 }
 

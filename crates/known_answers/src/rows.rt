@@ -1,22 +1,22 @@
-// Whether the rows of a list are as told. A row told is a list: the halves of its score, closing number, edges, flag, then two lists, its bases and its origins.
+// Whether the rows of a list are as told. A row told is a list: the halves of its score, closing number, edges, flag, then two lists, its bases and
+// its origins.
 ghost use Rattle.std.specs.Prelude.{◌≡◌, true, ℕ, ◌+◌, ◌<◌, ◌≤◌, length, get_or};
-ghost use Rattle.known_answers.specs.Places.{Within};
 
-use crate::numbers::{Part, field, list_at};
+use crate::numbers::{Lists, behind, field, split_list};
 use agreement::agree::{all_are, untouched, written};
-use agreement::scores::{joined, score_at, score_is};
+use agreement::scores::{joined, score_is};
 
 // ---- scores, closing numbers, edges
 
 // The columns have no flag, and every flag of the list is 0.
-fn numbers_agree(row: &[u32], score: f64, closing: u32, edges: u32) -> bool {
-    score_is(score, joined(field(row, 0), field(row, 1)))
+fn numbers_agree(row: &[u32], score: Option<&f64>, closing: u32, edges: u32) -> bool {
+    score.is_some_and(|s| score_is(*s, joined(field(row, 0), field(row, 1))))
         && closing == field(row, 2)
         && edges == field(row, 3)
         && field(row, 4) == 0
 }
 
-// The numbers of all rows, which are as many as are listed; behind them nothing touched.
+// The numbers of all rows, which are as many as the answer lists; behind them nothing touched. (`listed` is a number to compare, and the columns are longer.)
 pub fn columns_agree(
     rows: &[u32],
     listed: usize,
@@ -24,57 +24,47 @@ pub fn columns_agree(
     closings: &[u32],
     edges: &[u32],
 ) -> bool {
+    // Counted by hand, since how many rows are told is compared behind the loop, which `enumerate` does not give.
     let mut row: usize = 0;
-    let mut at: usize = 0;
-    // Each turn steps over a list as long as its first number says, so no `for` counts them.
-    while at < rows.len() {
-        let part = list_at(rows, at);
+    for told in Lists(rows) {
         if !numbers_agree(
-            &rows[part.start..part.end],
-            score_at(scores, row),
+            told,
+            scores.get(row),
             field(closings, row),
             field(edges, row),
         ) {
             return false;
         }
         row += 1;
-        at = part.end;
     }
     row == listed && untouched(scores, row) && untouched(closings, row) && untouched(edges, row)
 }
 
 // ---- bases
 
-// Where the bases of a row are told.
-fn bases_told(row: &[u32]) -> Part
-    ensures { Within 5 result.start result.end (length row.now) }
-{
-    list_at(row, 5)
+// The bases told of a row, and what is told behind them.
+fn bases_told(row: &[u32]) -> (&[u32], &[u32]) {
+    split_list(behind(row, 5))
 }
 
 fn row_bases_agree(row: &[u32], bases: &[u8]) -> bool {
-    let part = bases_told(row);
-    written(bases, &row[part.start..part.end])
+    written(bases, bases_told(row).0)
 }
 
 // The bases of all rows, each with as much room as the stride; behind them nothing touched.
 pub fn bases_agree(rows: &[u32], stride: usize, bases: &[u8]) -> bool {
-    let mut from: usize = 0;
-    let mut at: usize = 0;
-    // Likewise: a list a turn.
-    while at < rows.len() {
-        let part = list_at(rows, at);
-        if stride > bases.len() - from {
+    let mut left = bases;
+    for told in Lists(rows) {
+        if stride > left.len() {
             return false;
         }
-        let next = from + stride;
-        if !row_bases_agree(&rows[part.start..part.end], &bases[from..next]) {
+        let (room, rest) = left.split_at(stride);
+        if !row_bases_agree(told, room) {
             return false;
         }
-        from = next;
-        at = part.end;
+        left = rest;
     }
-    untouched(bases, from)
+    untouched(left, 0)
 }
 
 // ---- origins
@@ -83,12 +73,10 @@ pub fn bases_agree(rows: &[u32], stride: usize, bases: &[u8]) -> bool {
 fn rises(places: &[u32], first: u32) -> bool
     ensures { result ≡ true → (i : ℕ) → i < length places.now → get_or places.now i 0 ≡ first + i }
 {
-    for (i, place) in places.iter().enumerate() {
-        if *place as usize != first as usize + i {
-            return false;
-        }
-    }
-    true
+    places
+        .iter()
+        .enumerate()
+        .all(|(i, place)| *place as usize == first as usize + i)
 }
 
 // Whether a run of origins, told as sequence, place and count, stands at the front.
@@ -122,34 +110,25 @@ fn runs_agree(runs: &[u32], edges: usize, sequences: &[u32], places: &[u32]) -> 
 
 fn row_origins_agree(row: &[u32], sequences: &[u32], places: &[u32]) -> bool {
     let edges = field(row, 3) as usize;
-    let bases = bases_told(row);
-    let part = list_at(row, bases.end);
-    runs_agree(&row[part.start..part.end], edges, sequences, places)
+    let (runs, _) = split_list(bases_told(row).1);
+    runs_agree(runs, edges, sequences, places)
 }
 
 // The origins of all rows, each with as much room as the stride; behind them nothing touched.
 pub fn origins_agree(rows: &[u32], stride: usize, sequences: &[u32], places: &[u32]) -> bool {
-    if sequences.len() != places.len() {
-        return false;
-    }
-    let mut from: usize = 0;
-    let mut at: usize = 0;
-    // Likewise: a list a turn.
-    while at < rows.len() {
-        let part = list_at(rows, at);
-        if stride > sequences.len() - from {
+    let mut sequences_left = sequences;
+    let mut places_left = places;
+    for told in Lists(rows) {
+        if stride > sequences_left.len() || stride > places_left.len() {
             return false;
         }
-        let next = from + stride;
-        if !row_origins_agree(
-            &rows[part.start..part.end],
-            &sequences[from..next],
-            &places[from..next],
-        ) {
+        let (row_sequences, more_sequences) = sequences_left.split_at(stride);
+        let (row_places, more_places) = places_left.split_at(stride);
+        if !row_origins_agree(told, row_sequences, row_places) {
             return false;
         }
-        from = next;
-        at = part.end;
+        sequences_left = more_sequences;
+        places_left = more_places;
     }
-    untouched(sequences, from) && untouched(places, from)
+    untouched(sequences_left, 0) && untouched(places_left, 0)
 }

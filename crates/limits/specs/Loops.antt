@@ -1,19 +1,17 @@
--- The loops over the reference and over the read ends: what is left to read decides as the whole does.
-use Rattle.std.specs.Prelude.{◌≡◌, refl, ℕ, suc, ◌+◌, ◌-◌, ◌<◌, ◌≤◌, Bool, false, ◌&&◌, List, [], ◌∷◌, leb, length, drop, get_or}
-use Rattle.std.proofs.Common.{sym, ◌∙◌, add-one, arith, drop_of_length-le, drop-cons, le-leb}
+-- The tests of the reference's bytes and of the read ends: std's decide as the definition does.
+use Rattle.std.specs.Prelude.{◌≡◌, refl, ℕ, zero, suc, ◌+◌, ◌-◌, ◌<◌, ◌≤◌, Bool, false, ◌&&◌, List, [], ◌∷◌, leb, length, get_or}
+use Rattle.std.proofs.Common.{sym, subst, ◌∙◌, add-one, arith, le-leb}
 use Rattle.std.proofs.Math.Path.{ap}
-use Rattle.std.proofs.Math.Bool.{true}
+use Rattle.std.proofs.Math.Bool.{true, and-false}
 use Rattle.std.proofs.lemmas.Bool.{lt-leb}
+use Rattle.std.specs.Bool.{MatchBool}
+use Rattle.std.specs.List.Sorted.{IsNonDecreasing}
 use Rattle.laws.specs.Lists.{last_or}
 use Rattle.std.specs.List.{list_all}
 use Rattle.std.specs.Prelude.{slice_get}
 use Rattle.std.specs.Option.{unwrap_or}
 use Rattle.std.proofs.lemmas.Option.{unwrap_or-slice_get}
 use Rattle.definition.specs.Limits.{is_base, reference_bases, rising}
-
--- the element at place i, then the rest
-next : (xs : List ℕ) (i : ℕ) → i < length xs → drop i xs ≡ get_or xs i 0 ∷ drop (i + 1) xs
-next xs i h = drop-cons xs i 0 h ∙ ap (λ (m : ℕ). get_or xs i 0 ∷ drop m xs) (sym (add-one i))
 
 -- ---- the reference's bytes
 
@@ -25,29 +23,26 @@ every (x ∷ xs) = ap (λ (t : Bool). is_base x && t) (every xs)
 
 -- ---- the read ends
 
--- `last` is the end before place i
-pub Rising : List ℕ → ℕ → ℕ → Type 0
-Rising xs last i = rising last (drop i xs) ≡ rising 0 xs
+-- no end is below the one before it
+climb : (n x : ℕ) (xs : List ℕ) → n ≤ x → ((k : ℕ) → suc k < length (x ∷ xs) → get_or (x ∷ xs) k 0 ≤ get_or (x ∷ xs) (suc k) 0) → true ≡ rising n (x ∷ xs)
+unfolding rising
+climb n x [] h a = rw (le-leb n x h)
+climb n x (y ∷ ys) h a = rw (le-leb n x h) (climb x y ys (a 0 (omega arith)) (λ k l. a (suc k) (omega arith)))
 
-pub rising-start : (xs : List ℕ) → Rising xs 0 0
-unfolding Rising
-rising-start xs = refl
+-- end k + 1 is below end k
+fall : (n : ℕ) (xs : List ℕ) (k : ℕ) → suc k < length xs → get_or xs (suc k) 0 < get_or xs k 0 → false ≡ rising n xs
+unfolding rising
+fall n [] k l h = absurd (omega arith)
+fall n (x ∷ []) k l h = absurd (omega arith)
+fall n (x ∷ y ∷ ys) zero l h = rw (lt-leb x y h) (sym (and-false (leb n x)))
+fall n (x ∷ y ∷ ys) (suc k) l h = rw (← fall x (y ∷ ys) k (omega arith) h) (sym (and-false (leb n x)))
 
-pub rising-end : (xs : List ℕ) (last i : ℕ) → Rising xs last i → length xs ≤ i → true ≡ rising 0 xs
-unfolding Rising rising
-rising-end xs last i left h = ap (rising last) (sym (drop_of_length-le xs h)) ∙ left
-
-module _ (xs : List ℕ) (last i : ℕ) (left : Rising xs last i) (inside : i < length xs) where
-  step : (t : Bool) → leb last (get_or xs i 0) ≡ t → (t && rising (get_or xs i 0) (drop (i + 1) xs)) ≡ rising 0 xs
-  unfolding Rising rising
-  step t h = ap (λ (b : Bool). b && rising (get_or xs i 0) (drop (i + 1) xs)) (sym h) ∙ ap (rising last) (sym (next xs i inside)) ∙ left
-
-  pub rising-stop : get_or xs i 0 < last → false ≡ rising 0 xs
-  rising-stop h = step false (lt-leb last (get_or xs i 0) h)
-
-  pub rising-next : last ≤ get_or xs i 0 → Rising xs (get_or xs i 0) (i + 1)
-  unfolding Rising
-  rising-next h = step true (le-leb last (get_or xs i 0) h)
+-- std's test of each end and the next is the definition's
+pub sorted : (xs : List ℕ) (r : Bool) → MatchBool r (IsNonDecreasing xs) ((k : ℕ) × (k + 1 < length xs) × ((d : ℕ) → get_or xs (k + 1) d < get_or xs k d)) → r ≡ rising 0 xs
+unfolding rising
+sorted [] true h = refl
+sorted (x ∷ xs) true h = climb 0 x xs (omega arith) (λ k l. h k (suc k) 0 (omega arith) l)
+sorted xs false h = fall 0 xs h.0 (omega (arith, h.1)) (subst (λ (n : ℕ). get_or xs n 0 < get_or xs h.0 0) (add-one h.0) (h.2 0))
 
 -- ---- the last end
 

@@ -49,30 +49,26 @@ first-hold (r ∷ rs) ys d e = go r.holds refl (λ k. first-hold rs ys d.1 k)
     go true f ih = rw (f, first_broken) (ih (rw (f, first_broken) at e))
     go false f ih = let z : 0 ≡ r.number = rw (f, first_broken) at e in let y : 0 < r.number = d.0 in absurd (omega arith)
 
--- ---- a last rule m, tested once the rules before it hold
+-- ---- 7, tested once the rules before it hold
 
-module _ (xs : List Rule) (numbered : Numbered xs) (m : ℕ) where
-  -- n is what the code's check answered where the last rule is taken to hold
-  module _ (n : ℕ) (h : n ≡ first_broken (xs ++ (rule m true ∷ []))) where
-    before_last : n ≡ first_broken xs
-    before_last = go (first_broken xs) refl
-      where
-        go : (k : ℕ) → first_broken xs ≡ k → n ≡ first_broken xs
-        go zero e = h ∙ sym (first-hold xs (rule m true ∷ []) numbered (sym e)) ∙ sym (holds m true [] refl) ∙ sym all_hold ∙ sym e
-        go (suc k) e = h ∙ sym (first-broken xs (rule m true ∷ []) (suc k) (sym e) (omega arith)) ∙ sym e
+-- what the rules before 7 answered, and 7 where they hold and a slice is short
+unfoldable pub or_short : ℕ → Bool → ℕ
+or_short zero b = elim b [ true ↦ 0 | false ↦ 7 ]
+or_short (suc n) b = suc n
 
-    pub last-untested : 0 < n → (b : Bool) → n ≡ first_broken (xs ++ (rule m b ∷ []))
-    last-untested l b = first-broken xs (rule m b ∷ []) n before_last l
+-- a refusal by an earlier rule stays
+pub earlier : (n : ℕ) (b : Bool) → 0 < n → n ≡ or_short n b
+unfolding or_short
+earlier zero b h = absurd (omega arith)
+earlier (suc n) b h = refl
 
-    module _ (l : n ≤ 0) (b : Bool) where
-      before_held : 0 ≡ first_broken xs
-      before_held = let z : n ≡ 0 = omega arith in sym z ∙ before_last
-
-      pub last-broken : b ≡ false → m ≡ first_broken (xs ++ (rule m b ∷ []))
-      last-broken e = broken m b [] e ∙ first-hold xs (rule m b ∷ []) numbered before_held
-
-      pub last-holds : b ≡ true → 0 ≡ first_broken (xs ++ (rule m b ∷ []))
-      last-holds e = all_hold ∙ holds m b [] e ∙ first-hold xs (rule m b ∷ []) numbered before_held
+-- n is what the code's check of the rules before it answered
+module _ (xs : List Rule) (numbered : Numbered xs) where
+  pub then-7 : (n : ℕ) → n ≡ first_broken xs → (b : Bool) → or_short n b ≡ first_broken (xs ++ (rule 7 b ∷ []))
+  unfolding or_short
+  then-7 zero h true = all_hold ∙ holds 7 true [] refl ∙ first-hold xs (rule 7 true ∷ []) numbered h
+  then-7 zero h false = broken 7 false [] refl ∙ first-hold xs (rule 7 false ∷ []) numbered h
+  then-7 (suc n) h b = first-broken xs (rule 7 b ∷ []) (suc n) h (omega arith)
 
 -- the check of k refused nothing
 pub k-holds : (k : ℕ) (ys : List Rule) → 0 ≡ first_broken (k_rules k) → first_broken ys ≡ first_broken (rule 1 (k_fits k) ∷ ys)
@@ -118,7 +114,19 @@ pub graph-rules : (s : Sample) (m : GraphMaxima) (told lent : List ℕ)
 unfolding graph_rules
 graph-rules s m told lent = refl
 
-pub list-rules : (i : Input) (told lent : List ℕ)
-    → first_broken (sample_rules i.sample ++ (rule 5 (settings_fit i.asked i.graph_maxima i.search_maxima) ∷ rule 6 (column_fits i.column) ∷ rule 7 (is_long_enough told lent) ∷ [])) ≡ first_broken (list_rules i told lent)
-unfolding list_rules
-list-rules i told lent = refl
+-- 1 to 5
+unfoldable pub graph_early : Sample → GraphMaxima → List Rule
+graph_early s m = sample_rules s ++ (rule 5 (graph_maxima_fit m) ∷ [])
+
+pub graph-then-7 : (s : Sample) (m : GraphMaxima) (n : ℕ) → n ≡ first_broken (graph_early s m) → (told lent : List ℕ) → or_short n (is_long_enough told lent) ≡ first_broken (graph_rules s m told lent)
+unfolding graph_early graph_rules sample_rules
+graph-then-7 s m n h told lent = then-7 (graph_early s m) (omega arith, (omega arith, (omega arith, (omega arith, (omega arith, tt))))) n h (is_long_enough told lent)
+
+-- 1 to 6
+unfoldable pub list_early : Input → List Rule
+list_early i = sample_rules i.sample ++ (rule 5 (settings_fit i.asked i.graph_maxima i.search_maxima) ∷ rule 6 (column_fits i.column) ∷ [])
+
+pub list-then-7 : (i : Input) (n : ℕ) → n ≡ first_broken (list_early i) → (told lent : List ℕ) → or_short n (is_long_enough told lent) ≡ first_broken (list_rules i told lent)
+unfolding list_early list_rules sample_rules
+list-then-7 i n h told lent =
+    then-7 (list_early i) (omega arith, (omega arith, (omega arith, (omega arith, (omega arith, (omega arith, tt)))))) n h (is_long_enough told lent)

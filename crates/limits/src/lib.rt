@@ -9,9 +9,9 @@ ghost use Rattle.definition.specs.Limits.{reference_fits, reference_bases, risin
 ghost use Rattle.refusals.specs.Numbers.{refusal_of};
 ghost use Rattle.samples.specs.Handed.{sample_of};
 ghost use Rattle.limits.specs.Handed.{graph_maxima_of, search_maxima_of, input_of};
-ghost use Rattle.limits.specs.Rules.{reference_rules};
+ghost use Rattle.limits.specs.Rules.{reference_rules, or_short};
 
-use bio_ids::kmer_size;
+use bio_ids::KmerSize;
 use kbest_haplotype::column_fits;
 use refusals::Refusal;
 use samples::{Sample, Text, is_base};
@@ -34,6 +34,22 @@ pub struct SearchMaxima {
     pub pushes: u32,
 }
 
+// How many paths are asked, and the maxima of the graph and of the search: what the lengths of the slices go by, beside k.
+#[derive(Clone, Copy)]
+pub struct Maxima {
+    pub asked: u32,
+    pub graph: GraphMaxima,
+    pub search: SearchMaxima,
+}
+
+// k, and the sequences that an origin may name: the reference, and the reads, by where each ends in the bases.
+#[derive(Clone, Copy)]
+pub struct Sequences<'a> {
+    pub k: u32,
+    pub text: Text<'a>,
+    pub ends: &'a [u32],
+}
+
 // A limit of the paper, both ends included.
 fn in_range(low: u32, high: u32, n: u32) -> bool
     ensures { result ≡ within low high n }
@@ -41,7 +57,8 @@ fn in_range(low: u32, high: u32, n: u32) -> bool
     low <= n && n <= high
 }
 
-// "Workspace after", by the number returned: whether the table says that it is unchanged.
+// "Workspace after", by the number returned: whether the table says that it is unchanged. (By the number, since that is all of a refusal that an exported
+// answer holds, and who asks has only the answer.)
 pub fn workspace_kept(number: u32) -> bool
     ensures { result ≡ keeps_workspace number }
 {
@@ -66,14 +83,7 @@ pub fn reference_bases(reference: &[u8]) -> bool
 pub fn ends_rise(ends: &[u32]) -> bool
     ensures { result ≡ rising 0 ends.now }
 {
-    let mut last = 0;
-    for end in ends {
-        if *end < last {
-            return false;
-        }
-        last = *end;
-    }
-    true
+    ends.is_sorted()
 }
 
 // Where the last read ends, which is the number of bases that the ends divide.
@@ -116,17 +126,17 @@ pub fn search_maxima_fit(s: SearchMaxima) -> bool
 }
 
 // 5, of the calls that are given the paths asked.
-pub fn settings_fit(asked: u32, g: GraphMaxima, s: SearchMaxima) -> bool
-    ensures { result ≡ settings_fit asked (graph_maxima_of g) (search_maxima_of s) }
+pub fn settings_fit(m: Maxima) -> bool
+    ensures { result ≡ settings_fit m.asked (graph_maxima_of m.graph) (search_maxima_of m.search) }
 {
-    asked <= 128 && graph_maxima_fit(g) && search_maxima_fit(s)
+    m.asked <= 128 && graph_maxima_fit(m.graph) && search_maxima_fit(m.search)
 }
 
 // 1 to 3, which every call that is given a reference checks first.
 pub fn check_reference(k: u32, reference: &[u8]) -> Result<(), Refusal>
     ensures { refusal_of result ≡ first_broken (reference_rules k reference.now) }
 {
-    kmer_size(k)?;
+    KmerSize::try_from(k)?;
     if !reference_fits(k, reference) {
         return Err(Refusal::ReferenceLength);
     }
@@ -137,11 +147,11 @@ pub fn check_reference(k: u32, reference: &[u8]) -> Result<(), Refusal>
 }
 
 // 1 to 4, of the call for the bytes at an origin.
-pub fn check_origin(k: u32, text: Text, ends: &[u32]) -> Result<(), Refusal>
-    ensures { refusal_of result ≡ first_broken (origin_rules k text.entry.reference.now ends.now text.entry.bases.now) }
+pub fn check_origin(s: Sequences) -> Result<(), Refusal>
+    ensures { refusal_of result ≡ first_broken (origin_rules s.entry.k s.entry.text.reference.now s.entry.ends.now s.entry.text.bases.now) }
 {
-    check_reference(k, text.reference)?;
-    if !ends_fit(ends, text.bases) {
+    check_reference(s.k, s.text.reference)?;
+    if !ends_fit(s.ends, s.text.bases) {
         return Err(Refusal::Reads);
     }
     Ok(())
@@ -158,44 +168,31 @@ pub fn check_sample(sample: Sample) -> Result<(), Refusal>
     Ok(())
 }
 
-// 1 to 7 of the call for edges and trees, which is given no column; `long_enough` says that no lent slice is shorter than told.
-pub fn check_graph(sample: Sample, g: GraphMaxima, long_enough: bool) -> Result<(), Refusal>
-    ensures { (told lent : List ℕ) → is_long_enough told lent ≡ long_enough
-        → refusal_of result ≡ first_broken (graph_rules (sample_of sample.entry) (graph_maxima_of g) told lent) }
+// 1 to 5 of the call for edges and trees; 7 comes after them, since the lengths are told only of maxima within the limits.
+pub fn check_graph(sample: Sample, g: GraphMaxima) -> Result<(), Refusal>
+    ensures { (told lent : List ℕ) → or_short (refusal_of result) (is_long_enough told lent)
+        ≡ first_broken (graph_rules (sample_of sample.entry) (graph_maxima_of g) told lent) }
 {
     check_sample(sample)?;
     if !graph_maxima_fit(g) {
         return Err(Refusal::Maximum);
     }
-    if long_enough {
-        return Ok(());
-    }
-    Err(Refusal::ShortSlice)
+    Ok(())
 }
 
-// 1 to 7 of the call for the list; neither the threshold nor recovery has a limit.
-pub fn check_list(
-    sample: Sample,
-    asked: u32,
-    g: GraphMaxima,
-    s: SearchMaxima,
-    column: &[f64],
-    long_enough: bool,
-) -> Result<(), Refusal>
-    ensures { (threshold : ℤ) (recovery : Bool) (told lent : List ℕ) → is_long_enough told lent ≡ long_enough
-        → refusal_of result ≡ first_broken (list_rules
-        (input_of (sample_of sample.entry) asked threshold recovery (graph_maxima_of g) (search_maxima_of s) column.now)
+// 1 to 6 of the call for the list, before 7 too; neither the threshold nor recovery has a limit.
+pub fn check_list(sample: Sample, m: Maxima, column: &[f64]) -> Result<(), Refusal>
+    ensures { (threshold : ℤ) (recovery : Bool) (told lent : List ℕ) → or_short (refusal_of result) (is_long_enough told lent)
+        ≡ first_broken (list_rules
+        (input_of (sample_of sample.entry) m.asked threshold recovery (graph_maxima_of m.graph) (search_maxima_of m.search) column.now)
         told lent) }
 {
     check_sample(sample)?;
-    if !settings_fit(asked, g, s) {
+    if !settings_fit(m) {
         return Err(Refusal::Maximum);
     }
     if !column_fits(column) {
         return Err(Refusal::Column);
-    }
-    if !long_enough {
-        return Err(Refusal::ShortSlice);
     }
     Ok(())
 }

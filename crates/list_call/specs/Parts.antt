@@ -7,7 +7,12 @@ use Rattle.definition.specs.Calls.{written_at}
 use Rattle.theorems.proofs.Checks.{Checked}
 use Rattle.slice_lengths.specs.Bounds.{InLimits, settings-most}
 use Rattle.slice_lengths.specs.declared.Workspace.{Workspace}
-use Rattle.graph_rows.specs.Zeros.{cleared-over}
+use Rattle.slice_lengths.specs.Lengths.{workspace_told}
+use Rattle.limits.specs.declared.Maxima.{Maxima}
+use Rattle.limits.specs.Handed.{graph_maxima_of, search_maxima_of}
+use Rattle.list_interface.specs.declared.Settings.{Settings}
+use Rattle.list_interface.specs.Handed.{maxima_of}
+use Rattle.graph_rows.specs.Zeros.{cleared-over, written-zeros}
 use Rattle.list_work.specs.Outcome.{Outputs, Tables}
 use Rattle.list_call.specs.Outcome.{told_for, tables_by, zeroed_to, float_zero, cleared_tables}
 use Rattle.list_work.specs.Works.{Works}
@@ -16,14 +21,26 @@ use Rattle.list_call.specs.Within.{Room, Within}
 pub in-limits : (i : Input) → Checked i → InLimits i.asked i.graph_maxima i.search_maxima
 in-limits i c = settings-most i.asked i.graph_maxima i.search_maxima c.settings-fit
 
+-- the maxima that the lengths are told of are those of the settings
+module _ (a : Settings) (m : Maxima) (e : m ≡ maxima_of a) where
+  pub maxima-within : InLimits a.asked (graph_maxima_of a.graph) (search_maxima_of a.search) → InLimits m.asked (graph_maxima_of m.graph) (search_maxima_of m.search)
+  maxima-within = subst (λ (b : Maxima). InLimits b.asked (graph_maxima_of b.graph) (search_maxima_of b.search)) (sym e)
+
+  pub maxima-told : (t : Workspace) → t ≡ workspace_told m.asked (graph_maxima_of m.graph) (search_maxima_of m.search) → t ≡ workspace_told a.asked (graph_maxima_of a.graph) (search_maxima_of a.search)
+  maxima-told t h = h ∙ (λ j. workspace_told (e j).asked (graph_maxima_of (e j).graph) (search_maxima_of (e j).search))
+
 -- ---- one slice d, whose first n elements are lent and are e afterwards
 
 module _ {A : Type 0} (d e : List A) (n : ℕ) where
   pub part-kept : length e ≡ length (take n d) → n ≤ length d → n ≤ length (e ++ drop n d)
   part-kept k h = let z = length_front d e n k in omega arith
 
-  pub part-cleared : (z : A) (x : List A) → length e ≡ length (take n d) → n ≤ length d → x ≡ written_at 0 (replicate n z) (e ++ drop n d) → x ≡ zeroed_to z n d
-  part-cleared z x k h f = f ∙ cleared-over z n d e (k ∙ length-take-le n d h)
+  pub part-filled : (z : A) (f : List A) → length e ≡ length (take n d) → n ≤ length d → f ≡ replicate (length (take n (e ++ drop n d))) z → f ++ drop n (e ++ drop n d) ≡ zeroed_to z n d
+  part-filled z f k h g =
+      let w = e ++ drop n d in
+      ap (λ (l : List A). l ++ drop n w) (g ∙ ap (λ (m : ℕ). replicate m z) (length-take-le n w (part-kept k h)))
+      ∙ sym (written-zeros z n w)
+      ∙ cleared-over z n d e (k ∙ length-take-le n d h)
 
 -- ---- all slices
 

@@ -2,14 +2,17 @@
 #![tactic(auto)]
 
 ghost use Rattle.list_interface.specs.Handed.{handed};
+ghost use Rattle.list_interface.specs.Answers.{answer_of};
 ghost use Rattle.list_work.specs.Outcome.{outputs_of, tables_of};
 ghost use Rattle.list_call.specs.Within.{Within, Done, Called};
 
-use graph_rows::clear;
-use list_interface::{Input, ListAnswer, refused};
+use list_interface::{Input, ListAnswer};
 use list_lent::{Lent, check};
 use list_work::work;
+use refusals::Refusal;
 use slice_lengths::workspace_told;
+
+// ---- each slice that is written is a `&mut` of its own, since a struct of them would need a clause in each contract on which slice it lends
 
 // The work over just the part of each workspace slice that is told, which is zero afterwards.
 fn list_within(
@@ -33,7 +36,7 @@ fn list_within(
     w_order: &mut [u32],
     w_marks: &mut [u32],
     w_walks: &mut [u32],
-) -> ListAnswer
+) -> Result<ListAnswer, Refusal>
     requires { let outputs = outputs_of row_scores.old row_closings.old row_edges.old out_bases.old sequences.old places.old in
         let tables = tables_of w_vertices.old w_edges.old w_index.old w_nodes.old w_targets.old w_paths.old w_scores.old w_active.old w_queue.old w_closed.old w_order.old w_marks.old w_walks.old in
         Within (handed input) outputs tables }
@@ -41,10 +44,10 @@ fn list_within(
         let written = outputs_of row_scores.new row_closings.new row_edges.new out_bases.new sequences.new places.new in
         let tables = tables_of w_vertices.old w_edges.old w_index.old w_nodes.old w_targets.old w_paths.old w_scores.old w_active.old w_queue.old w_closed.old w_order.old w_marks.old w_walks.old in
         let left = tables_of w_vertices.new w_edges.new w_index.new w_nodes.new w_targets.new w_paths.new w_scores.new w_active.new w_queue.new w_closed.new w_order.new w_marks.new w_walks.new in
-        Done (handed input.entry) result outputs written tables left }
+        Done (handed input.entry) (answer_of result) outputs written tables left }
 {
-    let a = input.settings;
-    let told = workspace_told(a.asked, a.graph, a.search);
+    let told = workspace_told(input.settings.maxima());
+    // Each length has a name of its own, since it is used twice: for the part that is lent and for the part that is cleared.
     let vertices = told.vertices;
     let edges = told.edges;
     let index = told.index;
@@ -80,19 +83,19 @@ fn list_within(
         &mut w_marks[..marks],
         &mut w_walks[..walks],
     );
-    clear(w_vertices, vertices, 0);
-    clear(w_edges, edges, 0);
-    clear(w_index, index, 0);
-    clear(w_nodes, nodes, 0);
-    clear(w_targets, targets, 0);
-    clear(w_paths, paths, 0);
-    clear(w_scores, scores, 0.0);
-    clear(w_active, active, 0);
-    clear(w_queue, queue, 0);
-    clear(w_closed, closed, 0);
-    clear(w_order, order, 0);
-    clear(w_marks, marks, 0);
-    clear(w_walks, walks, 0);
+    w_vertices[..vertices].fill(0);
+    w_edges[..edges].fill(0);
+    w_index[..index].fill(0);
+    w_nodes[..nodes].fill(0);
+    w_targets[..targets].fill(0);
+    w_paths[..paths].fill(0);
+    w_scores[..scores].fill(0.0);
+    w_active[..active].fill(0);
+    w_queue[..queue].fill(0);
+    w_closed[..closed].fill(0);
+    w_order[..order].fill(0);
+    w_marks[..marks].fill(0);
+    w_walks[..walks].fill(0);
     r
 }
 
@@ -148,29 +151,33 @@ pub fn list_columns(
         row_closings: row_closings.len(),
         row_edges: row_edges.len(),
     };
-    match check(input, l) {
-        Ok(()) => list_within(
-            input,
-            row_scores,
-            row_closings,
-            row_edges,
-            out_bases,
-            sequences,
-            places,
-            w_vertices,
-            w_edges,
-            w_index,
-            w_nodes,
-            w_targets,
-            w_paths,
-            w_scores,
-            w_active,
-            w_queue,
-            w_closed,
-            w_order,
-            w_marks,
-            w_walks,
-        ),
-        Err(refusal) => refused(refusal),
+    if let Err(refusal) = check(input, l) {
+        return ListAnswer::from(refusal);
+    }
+    let r = list_within(
+        input,
+        row_scores,
+        row_closings,
+        row_edges,
+        out_bases,
+        sequences,
+        places,
+        w_vertices,
+        w_edges,
+        w_index,
+        w_nodes,
+        w_targets,
+        w_paths,
+        w_scores,
+        w_active,
+        w_queue,
+        w_closed,
+        w_order,
+        w_marks,
+        w_walks,
+    );
+    match r {
+        Ok(answer) => answer,
+        Err(refusal) => ListAnswer::from(refusal),
     }
 }

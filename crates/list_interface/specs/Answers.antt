@@ -1,11 +1,18 @@
 -- The answer of the call for the list: of a refusal, and of a search that has ended. Assumes nothing.
-use Rattle.std.specs.Prelude.{ℕ, ◌^◌, ◌<◌}
+use Rattle.std.specs.Prelude.{ℕ, ◌^◌, ◌<◌, Result, Ok, Err}
+use Rattle.refusals.specs.declared.Refusal.{Refusal}
+use Rattle.refusals.specs.Numbers.{number}
 use Rattle.search_state.specs.declared.Progress.{Progress}
 use Rattle.list_interface.specs.declared.ListAnswer.{ListAnswer}
 
 -- a refused answer
 abbrev pub refused_answer : ℕ → ListAnswer
 refused_answer n = record { refusal = n; paths = 0; pushes = 0; mark = 0 }
+
+-- what C is told of an answer or a refusal
+abbrev pub answer_of : Result ListAnswer Refusal → ListAnswer
+answer_of (Ok a) = a
+answer_of (Err e) = refused_answer (number e)
 
 -- the answer of a search that has ended
 abbrev pub found_answer : Progress → ListAnswer

@@ -1,54 +1,59 @@
 -- 1 to 7 of the call for the list: the rules 1 to 6 first, then 7, once the settings are known to be within the limits. Assumes nothing.
-use Rattle.std.specs.Prelude.{◌≡◌, refl, Bool, true, false, ◌&&◌, List, [], ◌∷◌, ◌++◌, ℕ, ◌<◌, ◌≤◌}
-use Rattle.std.proofs.Common.{sym, ap, ◌∙◌, arith}
-use Rattle.definition.specs.Refusal.{Rule, first_broken}
-use Rattle.definition.specs.Limits.{Input, settings_fit, column_fits, is_long_enough, sample_rules, list_rules}
+use Rattle.std.specs.Prelude.{◌≡◌, refl, Bool, true, false, ◌&&◌, List, [], ℕ, ℤ, ◌≤◌}
+use Rattle.std.proofs.Common.{sym, ap, subst, ◌∙◌, arith}
+use Rattle.definition.specs.Refusal.{first_broken}
+use Rattle.definition.specs.Limits.{Sample, Input, is_long_enough, list_rules}
 use Rattle.theorems.proofs.Checks.{checked}
 use Rattle.slice_lengths.specs.Bounds.{InLimits, settings-most, k-most}
-use Rattle.limits.specs.Rules.{rule, Numbered, last-untested, last-broken, last-holds}
+use Rattle.limits.specs.Rules.{or_short}
+use Rattle.limits.specs.Long as long
 use Rattle.slice_lengths.specs.Lengths.{accepted_lengths}
 use Rattle.slice_lengths.specs.declared.LengthsTold.{LengthsTold}
+use Rattle.limits.specs.declared.Maxima.{Maxima}
+use Rattle.limits.specs.Handed.{graph_maxima_of, search_maxima_of, input_of}
+use Rattle.list_interface.specs.declared.Input as code
+use Rattle.list_interface.specs.Handed.{maxima_of, handed}
 use Rattle.list_lent.specs.declared.Lent as lent
 use Rattle.list_lent.specs.Lent.{told_of, lent_of, outputs_told, outputs_lent, graph_told, graph_lent, search_told, search_lent, long-is}
 
--- 1 to 6
-early : Input → List Rule
-early i = sample_rules i.sample ++ (rule 5 (settings_fit i.asked i.graph_maxima i.search_maxima) ∷ rule 6 (column_fits i.column) ∷ [])
+-- ---- the sample and the maxima are parts of what is handed in
 
-early-numbered : (i : Input) → Numbered (early i)
-unfolding early sample_rules
-early-numbered i = (omega arith, (omega arith, (omega arith, (omega arith, (omega arith, (omega arith, tt))))))
+module _ (i : code.Input) (s : Sample) (m : Maxima) (e : s ≡ (handed i).sample) (f : m ≡ maxima_of i.settings) where
+  pub handed-checked : (n : ℕ)
+      → ((threshold : ℤ) (recovery : Bool) (told lent : List ℕ) → or_short n (is_long_enough told lent) ≡ first_broken (list_rules (input_of s m.asked threshold recovery (graph_maxima_of m.graph) (search_maxima_of m.search) i.column.now) told lent))
+      → (told lent : List ℕ) → or_short n (is_long_enough told lent) ≡ first_broken (list_rules (handed i) told lent)
+  handed-checked n h told lent =
+      let a = i.settings in
+      h a.threshold a.recovery told lent
+      ∙ (λ j. first_broken (list_rules (input_of (e j) (f j).asked a.threshold a.recovery (graph_maxima_of (f j).graph) (search_maxima_of (f j).search) i.column.now) told lent))
 
-late_is : (i : Input) (told lent : List ℕ) → list_rules i told lent ≡ early i ++ (rule 7 (is_long_enough told lent) ∷ [])
-unfolding early list_rules sample_rules
-late_is i told lent = refl
+  pub handed-within : InLimits i.settings.asked (graph_maxima_of i.settings.graph) (search_maxima_of i.settings.search) → InLimits m.asked (graph_maxima_of m.graph) (search_maxima_of m.search)
+  handed-within = subst (λ (a : Maxima). InLimits a.asked (graph_maxima_of a.graph) (search_maxima_of a.search)) (sym f)
 
-pub none-long : is_long_enough [] [] ≡ true
-unfolding is_long_enough
-none-long = refl
+  pub handed-told : (k : ℕ) (t : LengthsTold) → t ≡ accepted_lengths k m.asked (graph_maxima_of m.graph) (search_maxima_of m.search)
+      → t ≡ accepted_lengths k i.settings.asked (graph_maxima_of i.settings.graph) (search_maxima_of i.settings.search)
+  handed-told k t h = h ∙ (λ j. accepted_lengths k (f j).asked (graph_maxima_of (f j).graph) (search_maxima_of (f j).search))
 
--- n is what the code's check answered where 7 is taken to hold
-module _ (i : Input) (n : ℕ) (h : n ≡ first_broken (list_rules i [] [])) where
-  early-is : n ≡ first_broken (early i ++ (rule 7 true ∷ []))
-  early-is = h ∙ ap first_broken (late_is i [] []) ∙ ap (λ (b : Bool). first_broken (early i ++ (rule 7 b ∷ []))) none-long
+-- ---- 1 to 6, and then 7
 
-  pub early-refused : (told lent : List ℕ) → 0 < n → n ≡ first_broken (list_rules i told lent)
-  early-refused told lent l =
-      last-untested (early i) (early-numbered i) 7 n early-is l (is_long_enough told lent) ∙ ap first_broken (sym (late_is i told lent))
-
+-- n is what the code's check of 1 to 6 answered
+module _ (i : Input) (n : ℕ) (h : (told lent : List ℕ) → or_short n (is_long_enough told lent) ≡ first_broken (list_rules i told lent)) where
   module _ (l : n ≤ 0) (told lent : List ℕ) where
+    late : (b : Bool) → is_long_enough told lent ≡ b → or_short 0 b ≡ first_broken (list_rules i told lent)
+    late b e = let z : 0 ≡ n = omega arith in ap (or_short 0) (sym e) ∙ ap (λ (m : ℕ). or_short m (is_long_enough told lent)) z ∙ h told lent
+
     late-refused : is_long_enough told lent ≡ false → 7 ≡ first_broken (list_rules i told lent)
-    late-refused e =
-        last-broken (early i) (early-numbered i) 7 n early-is l (is_long_enough told lent) e ∙ ap first_broken (sym (late_is i told lent))
+    unfolding or_short
+    late-refused e = late false e
 
     late-accepted : is_long_enough told lent ≡ true → 0 ≡ first_broken (list_rules i told lent)
-    late-accepted e =
-        last-holds (early i) (early-numbered i) 7 n early-is l (is_long_enough told lent) e ∙ ap first_broken (sym (late_is i told lent))
+    unfolding or_short
+    late-accepted e = late true e
 
   -- the settings are within the limits
   pub within-limits : n ≤ 0 → (i.sample.k ≤ 128) × InLimits i.asked i.graph_maxima i.search_maxima
   within-limits l =
-      let c = checked i [] [] (sym h ∙ omega arith) in
+      let c = checked i [] [] (sym (late-accepted l [] [] (sym long.none-short))) in
       (k-most i.sample.k c.k-fits, settings-most i.asked i.graph_maxima i.search_maxima c.settings-fit)
 
   -- ---- the three tests of 7

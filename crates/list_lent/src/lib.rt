@@ -11,10 +11,10 @@ ghost use Rattle.list_lent.specs.Lent.{told_of, lent_of, outputs_told, outputs_l
 use limits::check_list;
 use list_interface::Input;
 use refusals::Refusal;
-use samples::Sample;
 use slice_lengths::{LengthsTold, Workspace, lengths_within};
 
-// The lengths of the slices lent.
+// The lengths of the slices lent. (No field `workspace: Workspace`, since three columns are lent, each at a length of its own, where one is told, and no open
+// trees.)
 #[derive(Clone, Copy)]
 pub struct Lent {
     pub rows: usize,
@@ -80,16 +80,9 @@ fn search_fits(told: Workspace, l: Lent) -> bool
 pub fn check(input: Input, l: Lent) -> Result<(), Refusal>
     ensures { refusal_of result ≡ first_broken (list_rules (handed input.entry) (told_of (handed input.entry)) (lent_of l)) }
 {
-    let a = input.settings;
-    let sample = Sample {
-        k: a.k,
-        quality: a.quality,
-        text: input.text,
-        ends: input.ends,
-        qualities: input.qualities,
-    };
-    check_list(sample, a.asked, a.graph, a.search, input.column, true)?;
-    let told = lengths_within(a.k, a.asked, a.graph, a.search);
+    let maxima = input.settings.maxima();
+    check_list(input.sample(), maxima, input.column)?;
+    let told = lengths_within(input.settings.k, maxima);
     if !outputs_fit(told, l) {
         return Err(Refusal::ShortSlice);
     }

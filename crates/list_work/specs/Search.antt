@@ -55,10 +55,10 @@ pub record Searches (i : Input) (o : Outputs) (w : Tables) (b : Raise) : Type 0 
   pub outs : Outs i o
   pub some : 0 < i.asked
   pub raised : RaisedAt i.sample i.graph_maxima w.vertices w.edges w.nodes w.walks b
-  pub rows : length w.edges ≡ edge_numbers (b.edges + 1)
+  pub rows : length w.edges ≡ edge_numbers (b.built.edges + 1)
   pub vertices : length w.vertices ≡ vertex_table i.graph_maxima
   pub index : length w.index ≡ i.graph_maxima.vertices
-  pub targets : length w.targets ≡ b.edges + 1
+  pub targets : length w.targets ≡ b.built.edges + 1
   pub paths : length w.paths ≡ path_table i.asked i.search_maxima
   pub scores : length w.scores ≡ path_scores i.asked i.search_maxima
   pub active : length w.active ≡ active_nodes i.asked i.search_maxima
@@ -124,7 +124,7 @@ module _ {i : Input} {o : Outputs} {w : Tables} {b : Raise} (q : Searches i o w 
   limits : InLimits i.asked i.graph_maxima i.search_maxima
   limits = settings-most i.asked i.graph_maxima i.search_maxima q.checks.settings-fit
 
-  at : BuiltAt i.sample i.graph_maxima.vertices i.graph_maxima.edges w.vertices w.edges b.vertices b.edges b.sink
+  at : BuiltAt i.sample i.graph_maxima.vertices i.graph_maxima.edges w.vertices w.edges b.built.vertices b.built.edges b.built.sink
   at = q.raised.at
 
   walks-room : (queued_numbers i.graph_maxima.edges ≤ length w.walks) × (offer_numbers ≤ length w.walks) × (i.asked * i.search_maxima.path_edges ≤ length w.walks)
@@ -141,12 +141,12 @@ module _ {i : Input} {o : Outputs} {w : Tables} {b : Raise} (q : Searches i o w 
       let h = limits.edges_most in
       record { edges = omega arith; vertices = omega arith; sink = omega arith }
 
-  module _ {vs₁ : List ℕ} (link : vs₁ ≡ linked w.vertices b.sink b.edges) {index₁ : List ℕ} (lo : length index₁ ≡ length w.index) where
-    lies : Lies vs₁ w.edges index₁ b.vertices b.edges
+  module _ {vs₁ : List ℕ} (link : vs₁ ≡ linked w.vertices b.built.sink b.built.edges) {index₁ : List ℕ} (lo : length index₁ ≡ length w.index) where
+    lies : Lies vs₁ w.edges index₁ b.built.vertices b.built.edges
     lies =
         let a = at.vertices-fit in
         let c = limits.vertices-most in
-        let d : length vs₁ ≡ length w.vertices = rw link (length-linked w.vertices b.sink b.edges) in
+        let d : length vs₁ ≡ length w.vertices = rw link (length-linked w.vertices b.built.sink b.built.edges) in
         let e = q.vertices in
         let h = q.index in
         record { rows = q.rows; places = omega arith; room = omega arith; few = omega arith }
@@ -165,7 +165,7 @@ module _ {i : Input} {o : Outputs} {w : Tables} {b : Raise} (q : Searches i o w 
       }
 
   module _ {vs₁ index₁ targets₁ : List ℕ} (k : Chained w.vertices w.edges b vs₁ index₁ targets₁) (lo : length index₁ ≡ length w.index) {g : Setting}
-      (ge : g ≡ setting_for i b.vertices b.edges b.sink b.nodes i.graph_maxima.nodes g.least) (gl : Least i.threshold g.least) where
+      (ge : g ≡ setting_for i b.built.vertices b.built.edges b.built.sink b.nodes i.graph_maxima.nodes g.least) (gl : Least i.threshold g.least) where
     on_ground : Ground (search_input i (built_for i.sample)) g vs₁ w.edges w.nodes index₁ targets₁
     on_ground =
         subst (λ (h : Setting). Ground f h vs₁ w.edges w.nodes index₁ targets₁) (sym ge)
@@ -173,7 +173,7 @@ module _ {i : Input} {o : Outputs} {w : Tables} {b : Raise} (q : Searches i o w 
 
     pub find-asks : Finds g vs₁ w.edges w.nodes index₁ targets₁ i.column w.paths w.scores w.active w.queue w.closed w.order w.marks w.walks
     find-asks =
-        let edges : g.edges ≡ b.edges + 1 = ap (λ (h : Setting). h.edges) ge in
+        let edges : g.edges ≡ b.built.edges + 1 = ap (λ (h : Setting). h.edges) ge in
         let most : g.most ≡ i.search_maxima.path_edges = ap (λ (h : Setting). h.most) ge in
         let active : g.active ≡ i.search_maxima.active = ap (λ (h : Setting). h.active) ge in
         let pushes : g.pushes ≡ i.search_maxima.pushes = ap (λ (h : Setting). h.pushes) ge in
@@ -245,9 +245,9 @@ module _ {i : Input} {o : Outputs} {w : Tables} {b : Raise} (q : Searches i o w 
             let n = there.holds.pushes in
             record { closed = omega arith; pushes = omega arith; mark = omega arith }
 
-        kept : (u : ℕ) → u < b.vertices → kmer_place vs₁ u ≡ kmer_place w.vertices u
+        kept : (u : ℕ) → u < b.built.vertices → kmer_place vs₁ u ≡ kmer_place w.vertices u
         unfolding linked
-        kept u h = rw k.vertices (field-other w.vertices 12 b.sink 4 (b.edges + 1) u 8 (omega arith) (omega arith) (omega arith))
+        kept u h = rw k.vertices (field-other w.vertices 12 b.built.sink 4 (b.built.edges + 1) u 8 (omega arith) (omega arith) (omega arith))
 
         most-is : g.most ≡ i.search_maxima.path_edges
         most-is = ap (λ (h : Setting). h.most) ge
@@ -267,7 +267,7 @@ module _ {i : Input} {o : Outputs} {w : Tables} {b : Raise} (q : Searches i o w 
             let few = closed-few in
             let v = walks-room.2 in
             let n-low = at.vertices-fit in
-            let lv : length vs₁ ≡ length w.vertices = rw k.vertices (length-linked w.vertices b.sink b.edges) in
+            let lv : length vs₁ ≡ length w.vertices = rw k.vertices (length-linked w.vertices b.built.sink b.built.edges) in
             let lv₂ = q.vertices in
             let out = q.outs in
             let o1 = out.scores in
@@ -286,7 +286,7 @@ module _ {i : Input} {o : Outputs} {w : Tables} {b : Raise} (q : Searches i o w 
             let asked_low = limits.asked-most in
             subst (λ (m : ℕ). list.Listable (i.sample.reference ++ i.sample.bases) vs₁ w.edges index₁ targets₁ t' sc' closed' i.sample.k m p.closed walks rank
             (length o.scores) (length o.closings) (length o.edges) (length o.bases) (length o.sequences) (length o.places)) most-is
-            (ended-listable i.sample i.graph_maxima.vertices i.graph_maxima.edges w.vertices w.edges b.vertices b.edges b.sink at vs₁ kept f g w.nodes index₁ targets₁ on_ground
+            (ended-listable i.sample i.graph_maxima.vertices i.graph_maxima.edges w.vertices w.edges b.built.vertices b.built.edges b.built.sink at vs₁ kept f g w.nodes index₁ targets₁ on_ground
             (ap (λ (h : Setting). h.edges) ge) (ap (λ (h : Setting). h.sink) ge) there.branches there.closings t' sc' ac' queue' closed' order' marks' p there.state there.holds good.0
             (omega arith) text-small (omega arith) (omega arith)
             walks rank (length o.scores) (length o.closings) (length o.edges) (length o.bases) (length o.sequences) (length o.places)
@@ -294,7 +294,7 @@ module _ {i : Input} {o : Outputs} {w : Tables} {b : Raise} (q : Searches i o w 
 
         shows : Shows (i.sample.reference ++ i.sample.bases) vs₁ w.edges index₁ targets₁ t' sc' closed' i.sample.k p.closed (built_for i.sample) there.state.closed
         shows =
-            ended-shows i.sample i.graph_maxima.vertices i.graph_maxima.edges w.vertices w.edges b.vertices b.edges b.sink at vs₁ kept f g w.nodes index₁ targets₁ on_ground
+            ended-shows i.sample i.graph_maxima.vertices i.graph_maxima.edges w.vertices w.edges b.built.vertices b.built.edges b.built.sink at vs₁ kept f g w.nodes index₁ targets₁ on_ground
             (ap (λ (h : Setting). h.edges) ge) (ap (λ (h : Setting). h.sink) ge) there.branches there.closings t' sc' ac' queue' closed' order' marks' p there.state there.holds good.0
             (built_for i.sample) refl refl good.1
 

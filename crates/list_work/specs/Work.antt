@@ -2,9 +2,9 @@
 use Rattle.std.specs.Prelude as Prelude
 use Rattle.std.specs.Prelude.{◌≡◌, ◌≢◌, List, ℕ, ◌+◌, ◌<◌, ◌≤◌, max, length, take, Ok, Err}
 use Rattle.std.proofs.Math.Path.{ap}
-use Rattle.std.proofs.Common.{refl, ◌∙◌, arith, length-take-le}
+use Rattle.std.proofs.Common.{refl, sym, subst, ◌∙◌, arith, length-take-le}
 use Rattle.definition.specs.Refusal.{Result, refused}
-use Rattle.definition.specs.Limits.{Input}
+use Rattle.definition.specs.Limits.{Sample, GraphMaxima, Input}
 use Rattle.definition.specs.Score.{column_scoring}
 use Rattle.definition.specs.Building.{Built, built}
 use Rattle.definition.specs.Listing.{after_build}
@@ -30,12 +30,20 @@ max-first a b n e = omega arith
 none-told : (a : ListAnswer) → (a.refusal ≡ 0) × ((a.paths ≡ 0) × ((a.pushes ≡ 0) × (a.mark ≡ 0))) → a ≡ refused_answer 0
 none-told a (r, (p, (q, m))) = rw (r, p, q, m) refl
 
+-- ---- the sample that is handed to the building is that of the input
+
+pub raised-of : (s s' : Sample) (m : GraphMaxima) (vs es x op : List ℕ) (r : Prelude.Result Raise Refusal) → s ≡ s' → RaisedOf s m vs es x op r → RaisedOf s' m vs es x op r
+raised-of s s' m vs es x op r e h = subst (λ (s : Sample). RaisedOf s m vs es x op r) e h
+
+pub raises-of : {s s' : Sample} {m : GraphMaxima} {vs es idx x op : List ℕ} → s ≡ s' → Raises s' m vs es idx x op → Raises s m vs es idx x op
+raises-of {m = m} {vs = vs} {es = es} {idx = idx} {x = x} {op = op} e h = subst (λ (s : Sample). Raises s m vs es idx x op) (sym e) h
+
 -- the parts of the tables that the search is handed; ne, ni and nt are the lengths of those tables
 pub record Parts (i : Input) (ne ni nt : ℕ) (b : Raise) : Type 0 where
-  pub few : b.edges + 1 ≤ 8192
-  pub rows : edge_numbers (b.edges + 1) ≤ ne
+  pub few : b.built.edges + 1 ≤ 8192
+  pub rows : edge_numbers (b.built.edges + 1) ≤ ne
   pub index : i.graph_maxima.vertices ≤ ni
-  pub targets : b.edges + 1 ≤ nt
+  pub targets : b.built.edges + 1 ≤ nt
 
 module _ {i : Input} {o : Outputs} {w : Tables} (q : Works i o w) where
   pub work-raises : Raises i.sample i.graph_maxima w.vertices w.edges w.index w.nodes w.walks
@@ -75,17 +83,17 @@ module _ {i : Input} {o : Outputs} {w : Tables} (q : Works i o w) where
 
       module _ (idx : List ℕ) (lv : length vs ≡ length w.vertices) (le : length es ≡ length w.edges) (li : length idx ≡ length w.index) where
         pub work-searches : 0 < i.asked → length op ≡ length w.walks
-            → Searches i o (tables_of vs (take (edge_numbers (b.edges + 1)) es) (take i.graph_maxima.vertices idx) x (take (b.edges + 1) w.targets) w.paths w.scores w.active w.queue w.closed w.order w.marks op) b
+            → Searches i o (tables_of vs (take (edge_numbers (b.built.edges + 1)) es) (take i.graph_maxima.vertices idx) x (take (b.built.edges + 1) w.targets) w.paths w.scores w.active w.queue w.closed w.order w.marks op) b
         work-searches some lo =
             record {
               checks = q.checks;
               outs = q.outs;
               some = some;
-              raised = record { at = built-exact es b.edges raised.at; there = raised.there };
-              rows = length-take-le (edge_numbers (b.edges + 1)) es (work-parts le li).rows;
+              raised = record { at = built-exact es b.built.edges raised.at; there = raised.there };
+              rows = length-take-le (edge_numbers (b.built.edges + 1)) es (work-parts le li).rows;
               vertices = lv ∙ q.vertices;
               index = length-take-le i.graph_maxima.vertices idx (work-parts le li).index;
-              targets = length-take-le (b.edges + 1) w.targets (work-parts le li).targets;
+              targets = length-take-le (b.built.edges + 1) w.targets (work-parts le li).targets;
               paths = q.paths;
               scores = q.scores;
               active = q.active;

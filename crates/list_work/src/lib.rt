@@ -2,21 +2,23 @@
 #![tactic(auto)]
 
 ghost use Rattle.list_interface.specs.Handed.{handed};
+ghost use Rattle.list_interface.specs.Answers.{answer_of};
 ghost use Rattle.list_work.specs.Outcome.{found, Listed, outputs_of, tables_of};
 ghost use Rattle.list_work.specs.Works.{Works};
 ghost use Rattle.list_work.specs.Search.{Searches};
 
 use graph_work::{Raise, raise_graph};
 use junction_kbest::find_junction_best_haplotypes;
-use list_interface::{Input, ListAnswer, found_answer, refused};
+use list_interface::{Input, ListAnswer, found_answer};
 use path_list::write_list;
 use path_store::chains::Chains;
 use path_store::records::Paths;
-use samples::Sample;
+use refusals::Refusal;
 use search_setup::{lay_chains, search_setting};
 use tables::EDGE;
 
-// ---- the search and the list
+// ---- the search and the list; each slice that is written is a `&mut` of its own, since a struct of them would need a clause in each contract on which
+// slice it lends
 
 // The search over a raised graph, whose edge table ends behind the symbolic edge, and the list of the paths found; or a refusal, and no output is
 // touched.
@@ -42,22 +44,22 @@ fn search_list(
     order: &mut [u32],
     marks: &mut [u32],
     walks: &mut [u32],
-) -> ListAnswer
+) -> Result<ListAnswer, Refusal>
     requires { let outputs = outputs_of row_scores.old row_closings.old row_edges.old out_bases.old sequences.old places.old in
         let tables = tables_of vertices.old edges.now index.old nodes.now targets.old paths.old scores.old active.old queue.old closed.old order.old marks.old walks.old in
         Searches (handed input) outputs tables b }
     ensures { let outputs = outputs_of row_scores.old row_closings.old row_edges.old out_bases.old sequences.old places.old in
         let written = outputs_of row_scores.new row_closings.new row_edges.new out_bases.new sequences.new places.new in
-        Listed (handed input.entry) (found (handed input.entry)) result outputs written }
+        Listed (handed input.entry) (found (handed input.entry)) (answer_of result) outputs written }
 {
     let a = input.settings;
     lay_chains(b, vertices, edges, index, targets);
     let g = search_setting(a, b, vertices, edges, nodes, index, targets, input.column);
     let r = find_junction_best_haplotypes(
-        paths, scores, active, queue, closed, order, marks, walks, g, a.recovery,
+        paths, scores, active, queue, closed, order, marks, walks, &g, a.recovery,
     );
     let Ok(p) = r else {
-        return refused(r.unwrap_err());
+        return Err(r.unwrap_err());
     };
     write_list(
         input.text,
@@ -81,7 +83,7 @@ fn search_list(
         sequences,
         places,
     );
-    found_answer(p)
+    Ok(found_answer(p))
 }
 
 // ---- the whole
@@ -109,33 +111,27 @@ pub fn work(
     w_order: &mut [u32],
     w_marks: &mut [u32],
     w_walks: &mut [u32],
-) -> ListAnswer
+) -> Result<ListAnswer, Refusal>
     requires { let outputs = outputs_of row_scores.old row_closings.old row_edges.old out_bases.old sequences.old places.old in
         let tables = tables_of w_vertices.old w_edges.old w_index.old w_nodes.old w_targets.old w_paths.old w_scores.old w_active.old w_queue.old w_closed.old w_order.old w_marks.old w_walks.old in
         Works (handed input) outputs tables }
     ensures { let outputs = outputs_of row_scores.old row_closings.old row_edges.old out_bases.old sequences.old places.old in
         let written = outputs_of row_scores.new row_closings.new row_edges.new out_bases.new sequences.new places.new in
-        Listed (handed input.entry) (found (handed input.entry)) result outputs written }
+        Listed (handed input.entry) (found (handed input.entry)) (answer_of result) outputs written }
 {
     let a = input.settings;
-    let sample = Sample {
-        k: a.k,
-        quality: a.quality,
-        text: input.text,
-        ends: input.ends,
-        qualities: input.qualities,
-    };
+    let sample = input.sample();
     let r = raise_graph(
         sample, a.graph, w_vertices, w_edges, w_index, w_nodes, w_walks,
     );
     let Ok(b) = r else {
-        return refused(r.unwrap_err());
+        return Err(r.unwrap_err());
     };
     if a.asked == 0 {
-        return ListAnswer::default();
+        return Ok(ListAnswer::default());
     }
     let size = a.graph.vertices as usize;
-    let all = b.edges + 1;
+    let all = b.built.edges + 1;
     let rows = all * EDGE;
     search_list(
         input,

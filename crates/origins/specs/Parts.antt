@@ -97,6 +97,10 @@ abbrev pub answered : ℕ → List ℕ → Origin → ℕ → OriginAnswer
 answered k ends o zero = record { refusal = 0; in_reads = slice_of o.sequence; start = start_in ends o.sequence + o.place; length = suc k }
 answered k ends o (suc n) = record { refusal = suc n; in_reads = 0; start = 0; length = 0 }
 
+-- an answer that is refused with the number n
+abbrev pub refused_part : ℕ → OriginAnswer
+refused_part n = record { refusal = n; in_reads = 0; start = 0; length = 0 }
+
 -- an exported answer and the outcome that it stands for
 pub record Names (k : ℕ) (reference ends bases : List ℕ) (o : Origin) (call : OriginOutcome) (r : OriginAnswer) : Type 0 where
   pub refusal : r.refusal ≡ call.refusal

@@ -3,12 +3,14 @@
 
 ghost use Rattle.std.specs.Prelude.{◌≡◌, ◌≤◌, Bool, length};
 ghost use Rattle.definition.specs.Calls.{origin_call};
+ghost use Rattle.refusals.specs.Numbers.{number};
+ghost use Rattle.assembly.specs.Moves.{origin_of};
 ghost use Rattle.origins.specs.Reads.{start_of};
-ghost use Rattle.origins.specs.Parts.{origin, found_in, found_of, fitted, Located, Names};
+ghost use Rattle.origins.specs.Parts.{found_in, found_of, fitted, Located, refused_part, Names};
 
-use limits::check_origin;
+use assembly::Origin;
+use limits::{Sequences, check_origin};
 use refusals::{Refusal, refusal_of};
-use samples::Text;
 
 // Where a part of k + 1 bytes starts: in the reference or in the read bases.
 #[derive(Clone, Copy, Debug, PartialEq, Eq)]
@@ -41,53 +43,47 @@ fn fit(k: u32, start: usize, length: usize, place: u32) -> Result<usize, Refusal
 }
 
 // The part that an origin names, or its refusal.
-pub fn find_origin(
-    k: u32,
-    text: Text,
-    ends: &[u32],
-    sequence: u32,
-    place: u32,
-) -> Result<Part, Refusal>
-    ensures { Located k text.entry.reference.now ends.now text.entry.bases.now (origin sequence place) (found_of result) }
+pub fn find_origin(s: Sequences, origin: Origin) -> Result<Part, Refusal>
+    ensures { Located s.entry.k s.entry.text.reference.now s.entry.ends.now s.entry.text.bases.now (origin_of origin) (found_of result) }
 {
-    check_origin(k, text, ends)?;
-    if sequence < 1 {
-        let start = fit(k, 0, text.reference.len(), place)?;
+    check_origin(s)?;
+    if origin.sequence < 1 {
+        let start = fit(s.k, 0, s.text.reference.len(), origin.place)?;
         return Ok(Part::Reference(start));
     }
-    let read = sequence as usize - 1;
-    if read >= ends.len() {
+    let read = origin.sequence as usize - 1;
+    if read >= s.ends.len() {
         return Err(Refusal::Origin);
     }
-    let start = read_start(ends, read);
-    let length = ends[read] as usize - start;
-    let at = fit(k, start, length, place)?;
+    let start = read_start(s.ends, read);
+    let length = s.ends[read] as usize - start;
+    let at = fit(s.k, start, length, origin.place)?;
     Ok(Part::Reads(at))
 }
 
-// The k + 1 bytes at an origin, a part of the reference or of the read bases; on refusal that part is empty.
-pub fn origin_bytes<'a>(k: u32, text: Text<'a>, ends: &[u32], sequence: u32, place: u32) -> &'a [u8]
-    ensures { result.now ≡ (origin_call k text.entry.reference.now ends.now text.entry.bases.now (origin sequence place)).bytes }
+// The k + 1 bytes at an origin, a part of the reference or of the read bases; on refusal that part is empty, as document 01 has it.
+pub fn origin_bytes<'a>(s: Sequences<'a>, origin: Origin) -> &'a [u8]
+    ensures { result.now ≡ (origin_call s.entry.k s.entry.text.reference.now s.entry.ends.now s.entry.text.bases.now (origin_of origin)).bytes }
 {
-    let length = k as usize + 1;
-    match find_origin(k, text, ends, sequence, place) {
-        Ok(Part::Reads(start)) => &text.bases[start..start + length],
-        Ok(Part::Reference(start)) => &text.reference[start..start + length],
-        Err(_) => &text.reference[0..0],
+    let length = s.k as usize + 1;
+    match find_origin(s, origin) {
+        Ok(Part::Reads(start)) => &s.text.bases[start..start + length],
+        Ok(Part::Reference(start)) => &s.text.reference[start..start + length],
+        Err(_) => &s.text.reference[0..0],
     }
 }
 
-// The number of an origin's refusal, 0 where its bytes can be handed back.
-pub fn origin_refusal(k: u32, text: Text, ends: &[u32], sequence: u32, place: u32) -> u32
-    ensures { result ≡ (origin_call k text.entry.reference.now ends.now text.entry.bases.now (origin sequence place)).refusal }
+// The number of an origin's refusal, 0 where its bytes can be handed back: a number, since document 01 asks for a call beside `origin_bytes` that tells it.
+pub fn origin_refusal(s: Sequences, origin: Origin) -> u32
+    ensures { result ≡ (origin_call s.entry.k s.entry.text.reference.now s.entry.ends.now s.entry.text.bases.now (origin_of origin)).refusal }
 {
-    let found = find_origin(k, text, ends, sequence, place);
+    let found = find_origin(s, origin);
     refusal_of(&found)
 }
 
-// An origin's part for callers that take no slice back: start and length, in the read bases (1) or in the reference (0).
+// An origin's part for C, which takes no slice back: the number of a refusal, or 0 and start and length in the read bases (1) or in the reference (0).
 #[repr(C)]
-#[derive(Clone, Copy)]
+#[derive(Clone, Copy, Default)]
 pub struct OriginAnswer {
     pub refusal: u32,
     pub in_reads: u32,
@@ -95,13 +91,25 @@ pub struct OriginAnswer {
     pub length: usize,
 }
 
-// As `origin_bytes` and `origin_refusal` together; 0 in every other field when refused.
-pub fn origin_part(k: u32, text: Text, ends: &[u32], sequence: u32, place: u32) -> OriginAnswer
-    ensures { Names k text.entry.reference.now ends.now text.entry.bases.now (origin sequence place)
-        (origin_call k text.entry.reference.now ends.now text.entry.bases.now (origin sequence place)) result }
+// A refused answer holds 0 in every other field.
+impl From<Refusal> for OriginAnswer {
+    ghost from_gives = { λ refusal answer. answer ≡ refused_part (number refusal) };
+
+    fn from(refusal: Refusal) -> OriginAnswer {
+        OriginAnswer {
+            refusal: u32::from(refusal),
+            ..OriginAnswer::default()
+        }
+    }
+}
+
+// As `origin_bytes` and `origin_refusal` together.
+pub fn origin_part(s: Sequences, origin: Origin) -> OriginAnswer
+    ensures { Names s.entry.k s.entry.text.reference.now s.entry.ends.now s.entry.text.bases.now (origin_of origin)
+        (origin_call s.entry.k s.entry.text.reference.now s.entry.ends.now s.entry.text.bases.now (origin_of origin)) result }
 {
-    let length = k as usize + 1;
-    match find_origin(k, text, ends, sequence, place) {
+    let length = s.k as usize + 1;
+    match find_origin(s, origin) {
         Ok(Part::Reads(start)) => OriginAnswer {
             refusal: 0,
             in_reads: 1,
@@ -114,11 +122,6 @@ pub fn origin_part(k: u32, text: Text, ends: &[u32], sequence: u32, place: u32) 
             start,
             length,
         },
-        Err(refusal) => OriginAnswer {
-            refusal: u32::from(refusal),
-            in_reads: 0,
-            start: 0,
-            length: 0,
-        },
+        Err(refusal) => OriginAnswer::from(refusal),
     }
 }

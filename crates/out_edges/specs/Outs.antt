@@ -1,7 +1,7 @@
 -- Out-edges in rising target: the definition's list is in order, so the least that passes comes first and the rest follows. Assumes nothing.
 use Rattle.std.specs.Prelude.{◌≡◌, refl, ◌≢◌, ◌⊎◌, Bool, true, false, ◌&&◌, List, [], ◌∷◌, Option, Some, None, IfSome, IsSomeAnd, eqb, leb}
 use Rattle.std.proofs.Common.{sym, ap, ◌∙◌, inl, inr, arith, eqb-true, eq-eqb, le-leb, leb-true}
-use Prim.Native.Nat.{ℕ, zero, suc, ◌+◌, ◌-◌, ◌<◌, ◌≤◌, Ordering}
+use Prim.Native.Nat.{ℕ, zero, suc, ◌+◌, ◌-◌, ◌^◌, ◌<◌, ◌≤◌, Ordering}
 use Rattle.std.proofs.Math.Decide.{ℕ_discrete}
 use Rattle.laws.specs.Lists.{keep}
 use Rattle.definition.specs.Threading.{Ends, Edge, compare_ends, put, leaving}
@@ -222,12 +222,6 @@ nexts-some es m v t i ds x =
 abbrev pub Names : List ℕ → ℕ → Type 0
 Names es r = 0 < r → HasEdge es (r - 1)
 
--- the better of what was found and a slot's edge
-pub record Lesser (es : List ℕ) (best slot : Option ℕ) (t : ℕ) (r : Option ℕ) : Type 0 where
-  pub from : (r ≡ best) ⊎ ((r ≡ slot) × IfSome slot (λ i. t ≤ edge_to es i))
-  pub keeps : IfSome best (λ j. IsSomeAnd r (λ i. edge_to es i ≤ edge_to es j))
-  pub beats : IfSome slot (λ j. t ≤ edge_to es j → IsSomeAnd r (λ i. edge_to es i ≤ edge_to es j))
-
 -- v's slots hold its out-edges and nothing else
 pub record Slots (vs es : List ℕ) (m v : ℕ) : Type 0 where
   pub full : (c : ℕ) → c < 8 → 0 < out_edge vs v c → (out_edge vs v c ≤ m) × (edge_from es (out_edge vs v c - 1) ≡ v)
@@ -248,3 +242,8 @@ pub record Best (vs es : List ℕ) (v t c : ℕ) (r : Option ℕ) : Type 0 where
   pub within : c ≤ 8
   pub there : IfSome r (λ i. (d : ℕ) × (d < c) × (vertex_field vs v d ≡ i + 1) × (t ≤ edge_to es i))
   pub least : (d : ℕ) → d < c → 0 < vertex_field vs v d → t ≤ edge_to es (vertex_field vs v d - 1) → IsSomeAnd r (λ i. edge_to es i ≤ edge_to es (vertex_field vs v d - 1))
+
+-- the target of what was found, and above each target where nothing was
+abbrev pub reach : List ℕ → Option ℕ → ℕ
+reach es None = 2 ^ 64 - 1
+reach es (Some i) = edge_to es i

@@ -1,14 +1,17 @@
 -- The walk over the out-edges of a vertex: what may be asked, and what a step gives. Assumes nothing.
 use Rattle.std.specs.Prelude.{◌≡◌, ℕ, ◌+◌, ◌<◌, List, Option, IfSome}
 use Rattle.std.proofs.Common.{◌∙◌}
-use Rattle.assembly.specs.Fields.{HasVertex, out_edge, edge_to}
+use Rattle.assembly.specs.Fields.{HasVertex, out_edge, HasEdges, edge_to}
 use Rattle.out_edges.specs.declared.Graph.{Graph}
 use Rattle.out_edges.specs.declared.OutEdges.{OutEdges}
-use Rattle.out_edges.specs.Outs.{Names, Slots, Nexts}
+use Rattle.out_edges.specs.Outs.{Names, Slots, Nexts, slots-names}
 
 -- the table has the vertex, and its slots name edges
 abbrev pub Named : List ℕ → List ℕ → ℕ → Type 0
 Named vs es v = (HasVertex vs v) × ((c : ℕ) → c < 8 → Names es (out_edge vs v c))
+
+pub named : {vs es : List ℕ} {m v : ℕ} → HasVertex vs v → Slots vs es m v → HasEdges es m → Named vs es v
+named h s r = (h, slots-names s r)
 
 -- the walk is over the out-edges of v
 pub record Over (g : Graph) (v : ℕ) (s : OutEdges) : Type 0 where

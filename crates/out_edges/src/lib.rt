@@ -1,14 +1,15 @@
 // The edges that leave a vertex, by the slots of the table of vertices, in rising target.
+// Each function asks for the rows that it reads or writes: the tables are lent slices of numbers, so no type of this project holds that they are there.
 #![tactic(auto)]
 
 ghost use Rattle.std.specs.Prelude.{ℕ, ◌+◌, ◌-◌, ◌^◌, ◌<◌, ◌≤◌, ◌≡◌, IfSome};
 ghost use Rattle.std.specs.Iterator.{at_most};
 ghost use Rattle.assembly.specs.Fields.{HasEdge, edge_to};
-ghost use Rattle.out_edges.specs.Outs.{Lesser, Slots, Nexts};
+ghost use Rattle.out_edges.specs.Outs.{Slots, Nexts};
 ghost use Rattle.out_edges.specs.Walked.{Named, Begun, Steps};
 
-use assembly::{TO, edge_to, out_edge};
-use tables::EDGE;
+use assembly::TO;
+use tables::{EDGE, VERTEX};
 
 // The graph's tables of vertices and edges, and how many edges there are.
 #[derive(Clone, Copy)]
@@ -19,19 +20,6 @@ pub struct Graph<'v, 'e> {
 }
 
 impl<'v, 'e> Graph<'v, 'e> {
-    // The out-edge of v of least target from t on.
-    pub fn next_out(self, v: usize, t: usize) -> Option<usize>
-        requires { Named self.vertices.now self.edges.now v }
-        ensures least { (m : ℕ) → Slots self.entry.vertices.now self.entry.edges.now m v → Nexts self.entry.edges.now m v t result }
-        ensures there { IfSome result (λ i. HasEdge self.entry.edges.now i × (t ≤ edge_to self.entry.edges.now i)) }
-    {
-        let mut best = None;
-        for c in 0..8 {
-            best = lesser(self.edges, best, out_edge(self.vertices, v, c), t);
-        }
-        best
-    }
-
     // The out-edges of v.
     pub fn out_edges(self, v: usize) -> OutEdges<'v, 'e>
         requires { Named self.vertices.now self.edges.now v }
@@ -45,23 +33,24 @@ impl<'v, 'e> Graph<'v, 'e> {
     }
 }
 
-// Of the best out-edge so far and that of a slot, the one of lesser target, where the slot's is at least t.
-fn lesser(edges: &[u32], best: Option<usize>, slot: Option<usize>, t: usize) -> Option<usize>
-    requires { IfSome best (HasEdge edges.now) × IfSome slot (HasEdge edges.now) }
-    ensures { Lesser edges.now best slot t result }
+// The out-edge of v of least target from t on. The target of the best is kept beside it, so that no edge is read twice. (Of the slices, and of a slot as the
+// number that it holds: a method of `Graph` over the `Option` of `assembly::out_edge` was tried, and took twice the instructions.)
+pub fn next_out(vertices: &[u32], edges: &[u32], v: usize, t: usize) -> Option<usize>
+    requires { Named vertices.now edges.now v }
+    ensures least { (m : ℕ) → Slots vertices.now edges.now m v → Nexts edges.now m v t result }
+    ensures there { IfSome result (λ i. HasEdge edges.now i × (t ≤ edge_to edges.now i)) }
 {
-    let Some(i) = slot else {
-        return best;
-    };
-    let w = edge_to(edges, i);
-    if w < t {
-        return best;
-    }
-    let Some(j) = best else {
-        return slot;
-    };
-    if w < edge_to(edges, j) {
-        return slot;
+    let mut best = None;
+    let mut least = usize::MAX;
+    for c in 0..8 {
+        let slot = vertices[v * VERTEX + c] as usize;
+        if slot > 0 {
+            let to = edges[(slot - 1) * EDGE + TO] as usize;
+            if t <= to && to < least {
+                best = Some(slot - 1);
+                least = to;
+            }
+        }
     }
     best
 }
@@ -84,7 +73,12 @@ impl<'v, 'e> Iterator for OutEdges<'v, 'e> {
     ghost remaining = { λ s. at_most (2 ^ 32 - s.from) };
 
     fn next(&mut self) -> Option<usize> {
-        let i = self.graph.next_out(self.vertex, self.from)?;
+        let i = next_out(
+            self.graph.vertices,
+            self.graph.edges,
+            self.vertex,
+            self.from,
+        )?;
         self.from = self.graph.edges[i * EDGE + TO] as usize + 1;
         Some(i)
     }

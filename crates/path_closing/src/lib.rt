@@ -1,4 +1,5 @@
 // Two steps of a path that is taken, over the stores: the tree at its vertex joins it, and at the sink it may close. (Rust: junction_kbest.rs)
+// The slices that a step writes stay parameters one by one: held in a struct, each contract would have to say of each which slice was lent.
 #![tactic(auto)]
 
 ghost use Rattle.std.specs.Prelude.{◌≡◌, ◌+◌, ◌*◌, ◌<◌, length, set};
@@ -42,11 +43,11 @@ pub fn add_junction_tree(
     paths: &mut [u32],
     scores: &mut [f64],
     active: &mut [u16],
-    g: Setting,
+    g: &Setting,
     taken: Taken,
 ) -> Result<u32, Refusal>
-    requires { Joins (setting_of g) g.graph.vertices.now g.trees.nodes.now g.chains.index.now g.chains.targets.now paths.old scores.old active.old taken }
-    ensures { TreeAdded (setting_of g.entry) g.entry.graph.vertices.now g.entry.trees.nodes.now g.entry.chains.index.now g.entry.chains.targets.now paths.old scores.old active.old taken result paths.new scores.new active.new }
+    requires { Joins (setting_of g.now) g.now.graph.vertices.now g.now.trees.nodes.now g.now.chains.index.now g.now.chains.targets.now paths.old scores.old active.old taken }
+    ensures { TreeAdded (setting_of g.now) g.now.graph.vertices.now g.now.trees.nodes.now g.now.chains.index.now g.now.chains.targets.now paths.old scores.old active.old taken result paths.new scores.new active.new }
 {
     let Some(s) = joining_slot(g.graph.vertices, g.trees.nodes, taken.vertex as usize) else {
         return Ok(taken.path);
@@ -75,12 +76,12 @@ fn close_taken(
     scores: &mut [f64],
     active: &[u16],
     closed: &mut [u32],
-    g: Setting,
+    g: &Setting,
     taken: Taken,
     p: Progress,
 ) -> Result<Progress, Refusal>
-    requires { ClosesTaken (setting_of g) g.trees.nodes.now active.now paths.old scores.old closed.old taken p }
-    ensures { ClosingTaken (setting_of g.entry) g.entry.trees.nodes.now active.now paths.old scores.old closed.old taken p result paths.new scores.new closed.new }
+    requires { ClosesTaken (setting_of g.now) g.now.trees.nodes.now active.now paths.old scores.old closed.old taken p }
+    ensures { ClosingTaken (setting_of g.now) g.now.trees.nodes.now active.now paths.old scores.old closed.old taken p result paths.new scores.new closed.new }
 {
     let held = Paths {
         records: paths,
@@ -114,12 +115,12 @@ pub fn close_at_sink(
     active: &[u16],
     closed: &mut [u32],
     marks: &mut [u32],
-    g: Setting,
+    g: &Setting,
     taken: Taken,
     p: Progress,
 ) -> Result<Progress, Refusal>
-    requires { Closes (setting_of g) g.trees.nodes.now g.chains.index.now g.chains.targets.now paths.old scores.old active.now closed.old marks.old p taken }
-    ensures { ClosedAt (setting_of g.entry) g.entry.trees.nodes.now g.entry.chains.index.now g.entry.chains.targets.now paths.old scores.old active.now closed.old marks.old p taken result paths.new scores.new closed.new marks.new }
+    requires { Closes (setting_of g.now) g.now.trees.nodes.now g.now.chains.index.now g.now.chains.targets.now paths.old scores.old active.now closed.old marks.old p taken }
+    ensures { ClosedAt (setting_of g.now) g.now.trees.nodes.now g.now.chains.index.now g.now.chains.targets.now paths.old scores.old active.now closed.old marks.old p taken result paths.new scores.new closed.new marks.new }
 {
     if taken.vertex != g.sink {
         return Ok(p);

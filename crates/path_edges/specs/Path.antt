@@ -5,6 +5,8 @@ use Rattle.std.proofs.lemmas.List.Edits.{sets}
 use Rattle.std.proofs.Math.Seq.{length-sets}
 use Rattle.laws.specs.Records.{field}
 use Rattle.laws.specs.Stores.{sets-append, sets-back}
+use Rattle.path_store.specs.declared.upward.Link.{Link}
+use Rattle.path_store.specs.Climbs.{Climbs}
 use Rattle.path_store.specs.Cells.{numbered, parent_of, chain_of, edge_of, count_of, end_of, fork_of, Inside}
 use Rattle.path_store.specs.Walk.{end_from, times, hits, run, after, Runs, Graph, run_length, end-run, end-append, end-one, end-nil, times-append, times-step, times-le, hits-nil, hits-le, hits-append}
 
@@ -159,16 +161,23 @@ module _ (index targets : List ℕ) where
       up_next t r r p h
       ∙ ap (λ es. es ++ piece index targets (end_of t p) (chain_of t r) (edge_of t r)) (up_same t t k r (suc p) p rise (λ i j _ _. refl) (omega arith) q (omega arith))
 
--- what a walk of the piece of r asks
-pub record Piece (index targets t : List ℕ) (sc : List Float) (r : ℕ) : Type 0 where
+-- what a walk of the piece that the path of a link adds to its parent asks
+pub record Piece (index targets t : List ℕ) (sc : List Float) (k : Link) : Type 0 where
   pub graph : Graph index targets
-  pub own : Inside t sc r
-  pub has : 0 < parent_of t r
-  pub rises : parent_of t r ≤ r
-  pub runs : Runs index targets (end_of t (parent_of t r - 1)) (chain_of t r)
-  pub last : edge_of t r ≤ length targets
-  pub low : end_of t (parent_of t r - 1) < length index
-  pub forks : fork_of t r ≡ after index targets (end_of t (parent_of t r - 1)) (chain_of t r)
+  pub own : Inside t sc k.path
+  pub has : parent_of t k.path ≡ suc k.parent
+  pub rises : k.parent < k.path
+  pub runs : Runs index targets (end_of t k.parent) (chain_of t k.path)
+  pub last : edge_of t k.path ≤ length targets
+  pub low : end_of t k.parent < length index
+  pub forks : fork_of t k.path ≡ after index targets (end_of t k.parent) (chain_of t k.path)
+
+-- the piece by the parent that the link tells
+pub piece-up : {index targets t : List ℕ} {sc : List Float} {k : Link} → Piece index targets t sc k
+    → piece index targets (end_of t k.parent) (chain_of t k.path) (edge_of t k.path) ≡ piece_of index targets t k.path
+piece-up {index} {targets} {t} {k = k} P =
+    let e : k.parent ≡ parent_of t k.path - 1 = omega (arith, P.has) in
+    ap (λ x. piece index targets (end_of t x) (chain_of t k.path) (edge_of t k.path)) e
 
 module _ (index targets t : List ℕ) (sc : List Float) (n : ℕ) (T : Table index targets t sc n) where
   pub table-rising : (r : ℕ) → r < n → parent_of t r ≤ r
@@ -177,60 +186,80 @@ module _ (index targets t : List ℕ) (sc : List Float) (n : ℕ) (T : Table ind
   pub edges-up : (r : ℕ) → r < n → 0 < parent_of t r → edges index targets t r ≡ edges index targets t (parent_of t r - 1) ++ piece_of index targets t r
   edges-up r l h = edges-next index targets t n r (parent_of t r - 1) table-rising l (omega arith)
 
-  pub piece-at : (r : ℕ) → r < n → 0 < parent_of t r → Piece index targets t sc r
-  piece-at r l h =
-      let R = T.rows r l in
+  pub piece-at : (k : Link) → k.path < n → parent_of t k.path ≡ suc k.parent → Piece index targets t sc k
+  piece-at k l h =
+      let R = T.rows k.path l in
+      let e : parent_of t k.path - 1 ≡ k.parent = omega arith in
       record {
         graph = T.graph;
-        own = inside index targets t sc n T r l;
+        own = inside index targets t sc n T k.path l;
         has = h;
-        rises = R.rises;
-        runs = R.runs h;
+        rises = omega (arith, R.rises);
+        runs = rw e at (R.runs (omega arith));
         last = R.last;
-        low = (T.rows (parent_of t r - 1) (omega (arith, R.rises))).low;
-        forks = R.forks h;
+        low = (T.rows k.parent (omega (arith, R.rises))).low;
+        forks = rw e at (R.forks (omega arith));
       }
+
+  pub table-climbs : Climbs t sc n
+  table-climbs = record { room = T.room; scored = T.scored; rises = table-rising }
 
   pub count-up : (r : ℕ) → r < n → 0 < parent_of t r
       → length (edges index targets t r) ≡ length (edges index targets t (parent_of t r - 1)) + length (piece_of index targets t r)
   count-up r l h = ap (λ es. length es) (edges-up r l h) ∙ length-append (edges index targets t (parent_of t r - 1)) (piece_of index targets t r)
 
-pub parent-inside : (index targets t : List ℕ) (sc : List Float) (r : ℕ) → Piece index targets t sc r → (f : ℕ) → f ≡ parent_of t r → Inside t sc (f - 1)
-parent-inside index targets t sc r P f e =
-    record { cells = omega (arith, P.own.cells, P.rises, P.has); score = omega (arith, P.own.score, P.rises) }
+pub parent-inside : (index targets t : List ℕ) (sc : List Float) (k : Link) → Piece index targets t sc k → Inside t sc k.parent
+parent-inside index targets t sc k P = record { cells = omega (arith, P.own.cells, P.rises); score = omega (arith, P.own.score, P.rises) }
 
 -- ---- the values that the code has read of a record and of its parent
-module _ (index targets t : List ℕ) (sc : List Float) (r : ℕ) (P : Piece index targets t sc r) (f u c l : ℕ)
-    (F : f ≡ parent_of t r) (U : u ≡ end_of t (f - 1)) (C : c ≡ chain_of t r) (L : l ≡ edge_of t r) where
-  read : piece index targets u c l ≡ piece_of index targets t r
-  read = rw (U, C, L, F)
+module _ (index targets t : List ℕ) (sc : List Float) (k : Link) (P : Piece index targets t sc k) (u c : ℕ) (o : Option ℕ)
+    (U : u ≡ end_of t k.parent) (C : c ≡ chain_of t k.path) (O : o ≡ numbered (edge_of t k.path)) where
+  l : ℕ
+  l = edge_of t k.path
+
+  last : option_to_list o ≡ last_edge l
+  unfolding l
+  last = last-listed (edge_of t k.path) o O
+
+  read : piece index targets u c l ≡ piece_of index targets t k.path
+  unfolding l
+  read = rw (U, C) (piece-up P)
 
   pub read_low : u < length index
-  read_low = rw (U, F) P.low
+  read_low = rw U P.low
 
   pub read-runs : Runs index targets u c
-  read-runs = rw (U, C, F) P.runs
+  read-runs = rw (U, C) P.runs
 
-  pub read-hits : (v a b : ℕ) → a ≡ hits targets v (run index targets u c) → b ≡ hits targets v (last_edge l) → a + b ≡ hits targets v (piece_of index targets t r)
-  read-hits v a b h k = omega (arith, piece-hits index targets u c l v, ap (λ x. hits targets v x) read)
+  pub read-hits : (v a b : ℕ) → a ≡ hits targets v (run index targets u c) → b ≡ hits targets v (option_to_list o)
+      → a + b ≡ hits targets v (piece_of index targets t k.path)
+  read-hits v a b h q = omega (arith, piece-hits index targets u c l v, ap (λ x. hits targets v x) read, ap (λ x. hits targets v x) last)
 
-  pub read_fits : (v a b : ℕ) → a ≡ hits targets v (run index targets u c) → b ≡ hits targets v (last_edge l) → a + b ≤ c + 1
-  read_fits v a b h k = omega (arith, hits-le targets v (run index targets u c), run_length index targets u c, hits-le targets v (last_edge l), last-short l)
+  pub read_fits : (v a b : ℕ) → a ≡ hits targets v (run index targets u c) → b ≡ hits targets v (option_to_list o) → a + b ≤ c + 1
+  read_fits v a b h q =
+      omega
+      (arith, hits-le targets v (run index targets u c), run_length index targets u c, hits-le targets v (option_to_list o), ap (λ x. length x) last, last-short l)
 
-  pub read-room : length (piece_of index targets t r) ≡ c + length (last_edge l)
-  read-room = ap (λ x. length x) (sym read) ∙ piece-length index targets u c l
+  pub read-room : length (piece_of index targets t k.path) ≡ c + length (option_to_list o)
+  read-room = ap (λ x. length x) (sym read) ∙ piece-length index targets u c l ∙ ap (λ x. c + length x) (sym last)
 
-  pub read-place : (k : ℕ) → k ≡ count_of t (f - 1) → k ≡ count_of t (parent_of t r - 1)
-  read-place k h = h ∙ ap (λ x. count_of t (x - 1)) F
-
-  pub read-write : (out mid fin : List ℕ) (at k d : ℕ) → k ≡ count_of t (f - 1) → d ≡ c → mid ≡ sets out (at + k) (run index targets u c)
-      → fin ≡ sets mid (at + k + d) (last_edge l) → fin ≡ sets out (at + count_of t (parent_of t r - 1)) (piece_of index targets t r)
-  read-write out mid fin at k d a b h e =
-      write-both index targets out mid fin (at + k) u c l h (e ∙ ap (λ x. sets mid (at + k + x) (last_edge l)) b)
-      ∙ ap (λ x. sets out (at + k) x) read
-      ∙ ap (λ x. sets out (at + x) (piece_of index targets t r)) (read-place k a)
+  pub read-write : (out mid fin : List ℕ) (at b d : ℕ) → b ≡ count_of t k.parent → d ≡ c → mid ≡ sets out (at + b) (run index targets u c)
+      → fin ≡ sets mid (at + b + d) (option_to_list o) → fin ≡ sets out (at + count_of t k.parent) (piece_of index targets t k.path)
+  read-write out mid fin at b d B D h e =
+      write-both index targets out mid fin (at + b) u c l h (e ∙ ap (λ x. sets mid (at + b + d) x) last ∙ ap (λ x. sets mid (at + b + x) (last_edge l)) D)
+      ∙ ap (λ x. sets out (at + b) x) read
+      ∙ ap (λ x. sets out (at + x) (piece_of index targets t k.path)) B
 
 -- ---- count_in_path
+
+-- the walk has not begun, or the count of the path's edges was told
+abbrev pub Told : List ℕ → ℕ → ℕ → Type 0
+Told t path r = (r ≡ path) ⊎ (count_of t path < 4294967296)
+
+pub told_now : (t : List ℕ) (path r : ℕ) → Told t path r → count_of t r < 4294967296 → count_of t path < 4294967296
+told_now t path r (inl h) e = rw h at e
+told_now t path r (inr h) e = h
+
 pub record Upward (index targets : List ℕ) (source : ℕ) (t : List ℕ) (n path v r k : ℕ) : Type 0 where
   pub low : r < n
   pub is : k + times targets source v (edges index targets t r) ≡ times targets source v (edges index targets t path)
@@ -277,8 +306,8 @@ pub record Filling (index targets t : List ℕ) (n path : ℕ) (out₀ : List �
 module _ (index targets t : List ℕ) (sc : List Float) (n : ℕ) (T : Table index targets t sc n) where
   module _ (path : ℕ) (out₀ : List ℕ) (at : ℕ) (out : List ℕ) (r : ℕ) (U : Filling index targets t n path out₀ at out r) where
     module _ (p : ℕ) (h : parent_of t r ≡ suc p) where
-      pub filling-piece : Piece index targets t sc r
-      filling-piece = piece-at index targets t sc n T r U.low (omega arith)
+      pub filling-piece : Piece index targets t sc (record { path = r; parent = p })
+      filling-piece = piece-at index targets t sc n T (record { path = r; parent = p }) U.low h
 
       pub filling-low : (p < r) × (p < n)
       filling-low = omega (arith, U.low, (T.rows r U.low).rises)
@@ -292,17 +321,17 @@ module _ (index targets t : List ℕ) (sc : List Float) (n : ℕ) (T : Table ind
       sum : length (edges index targets t r) ≡ length (edges index targets t p) + length (piece_of index targets t r)
       sum = ap (λ es. length es) up ∙ length-append (edges index targets t p) (piece_of index targets t r)
 
-      place : count_of t (parent_of t r - 1) ≡ length (edges index targets t p)
-      place = ap (λ x. count_of t x) before ∙ (T.rows p filling-low.1).count
+      place : count_of t p ≡ length (edges index targets t p)
+      place = (T.rows p filling-low.1).count
 
-      pub filling-room : at + count_of t (parent_of t r - 1) + length (piece_of index targets t r) ≤ length out
+      pub filling-room : at + count_of t p + length (piece_of index targets t r) ≤ length out
       filling-room = omega (arith, place, U.room, U.size, sum)
 
-      pub filling-next : (out' : List ℕ) → out' ≡ sets out (at + count_of t (parent_of t r - 1)) (piece_of index targets t r)
+      pub filling-next : (out' : List ℕ) → out' ≡ sets out (at + count_of t p) (piece_of index targets t r)
           → Filling index targets t n path out₀ at out' p
       filling-next out' e =
           record {
-            size = ap (λ x. length x) e ∙ length-sets out (at + count_of t (parent_of t r - 1)) (piece_of index targets t r) ∙ U.size;
+            size = ap (λ x. length x) e ∙ length-sets out (at + count_of t p) (piece_of index targets t r) ∙ U.size;
             low = filling-low.1;
             room = omega (arith, U.room, sum);
             is =

@@ -1,9 +1,10 @@
 -- A vertex where chains stop stands in a chain nowhere but at its end, so that a path's visits to it are counted without walking its chains.
-use Rattle.std.specs.Prelude.{◌≡◌, Bool, true, false, cond, eqb, get_or, Float}
+use Rattle.std.specs.Prelude.{◌≡◌, Bool, true, false, cond, eqb, get_or, length, Option, Some, None, option_to_list, Float}
+use Rattle.path_store.specs.declared.upward.Link.{Link}
 use Rattle.std.proofs.Common.{◌∙◌, arith, ne_eqb, refl, sym, ap, List, [], ℕ, zero, suc, ◌+◌, ◌-◌, ◌<◌, ◌≤◌}
 use Rattle.path_store.specs.Walk.{hits, run, after, Runs, sole, next, hits-nil, hits-step, hits-le}
-use Rattle.path_store.specs.Cells.{parent_of, chain_of, edge_of, end_of, fork_of}
-use Rattle.path_edges.specs.Path.{last_edge, last-short, Piece, piece_of, piece-hits}
+use Rattle.path_store.specs.Cells.{numbered, chain_of, edge_of, end_of, fork_of}
+use Rattle.path_edges.specs.Path.{last_edge, last-listed, Piece, piece_of, piece-hits, piece-up}
 
 -- how often v stands in a chain of c edges that leads to w, where chains stop at v
 pub fork_hits : ℕ → ℕ → ℕ → ℕ
@@ -34,13 +35,17 @@ fork-most v (suc c) w = go (eqb v w)
     go true = omega arith
     go false = omega arith
 
-pub stop_is : (targets : List ℕ) (v : ℕ) (t : List ℕ) (r c w l a b : ℕ) → c ≡ chain_of t r → w ≡ fork_of t r → l ≡ edge_of t r → a ≡ fork_hits v c w
-    → b ≡ hits targets v (last_edge l) → a + b ≡ stop_hits targets v t r
+pub stop_is : (targets : List ℕ) (v : ℕ) (t : List ℕ) (r c w : ℕ) (o : Option ℕ) (a b : ℕ) → c ≡ chain_of t r → w ≡ fork_of t r → o ≡ numbered (edge_of t r)
+    → a ≡ fork_hits v c w → b ≡ hits targets v (option_to_list o) → a + b ≡ stop_hits targets v t r
 unfolding stop_hits
-stop_is targets v t r c w l a b C W L A B = rw (A, B, C, W, L)
+stop_is targets v t r c w o a b C W O A B = rw (A, B, C, W, last-listed (edge_of t r) o O)
 
-pub stop-fits : (targets : List ℕ) (v c w l a b : ℕ) → a ≡ fork_hits v c w → b ≡ hits targets v (last_edge l) → a + b ≤ 2
-stop-fits targets v c w l a b A B = omega (arith, fork-most v c w, hits-le targets v (last_edge l), last-short l)
+pub stop-fits : (targets : List ℕ) (v c w : ℕ) (o : Option ℕ) (a b : ℕ) → a ≡ fork_hits v c w → b ≡ hits targets v (option_to_list o) → a + b ≤ 2
+stop-fits targets v c w o a b A B = omega (arith, fork-most v c w, hits-le targets v (option_to_list o), one-most o)
+  where
+    one-most : (o : Option ℕ) → length (option_to_list o) ≤ 1
+    one-most None = omega arith
+    one-most (Some e) = omega arith
 
 module _ (index targets : List ℕ) (v : ℕ) (stop : get_or index v 0 ≡ 0) where
   -- a vertex that a chain goes on from is not v
@@ -57,10 +62,12 @@ module _ (index targets : List ℕ) (v : ℕ) (stop : get_or index v 0 ≡ 0) wh
       ∙ sym (fork-suc v c (after index targets (next index targets u) (suc c)))
       ∙ fork-suc v (suc c) (after index targets (next index targets u) (suc c))
 
-  pub stop-piece : (t : List ℕ) (sc : List Float) (r k : ℕ) → Piece index targets t sc r → k ≡ stop_hits targets v t r → k ≡ hits targets v (piece_of index targets t r)
+  pub stop-piece : (t : List ℕ) (sc : List Float) (p : Link) (k : ℕ) → Piece index targets t sc p → k ≡ stop_hits targets v t p.path
+      → k ≡ hits targets v (piece_of index targets t p.path)
   unfolding stop_hits
-  stop-piece t sc r k P h =
+  stop-piece t sc p k P h =
       h
-      ∙ ap (λ x. x + hits targets v (last_edge (edge_of t r)))
-      (ap (λ x. fork_hits v (chain_of t r) x) P.forks ∙ sym (run-hits (end_of t (parent_of t r - 1)) (chain_of t r) P.runs))
-      ∙ sym (piece-hits index targets (end_of t (parent_of t r - 1)) (chain_of t r) (edge_of t r) v)
+      ∙ ap (λ x. x + hits targets v (last_edge (edge_of t p.path)))
+      (ap (λ x. fork_hits v (chain_of t p.path) x) P.forks ∙ sym (run-hits (end_of t p.parent) (chain_of t p.path) P.runs))
+      ∙ sym (piece-hits index targets (end_of t p.parent) (chain_of t p.path) (edge_of t p.path) v)
+      ∙ ap (λ x. hits targets v x) (piece-up P)

@@ -1,10 +1,13 @@
 // Walks up the parents of a path: how often a vertex stands in it, and its edges in order.
+// `Table` stays in the contracts, since it speaks of the records, of the chains and of the path that is asked for, and of no one type alone.
+// `paths` and `chains` stand one by one: the records are written between two readings while the chains stay, so a struct of both would be made again each
+// time.
 #![tactic(auto)]
 
 ghost use Rattle.std.specs.Prelude.{◌≡◌, true, ◌+◌, ◌-◌, ◌<◌, ◌≤◌, length, get_or, eqb, option_to_list, IfSome};
 ghost use Rattle.std.proofs.lemmas.List.Edits.{sets};
 ghost use Rattle.path_store.specs.Walk.{hits, times};
-ghost use Rattle.path_store.specs.Cells.{Inside, parent_of, edge_of, count_of};
+ghost use Rattle.path_store.specs.Cells.{Inside, edge_of, count_of};
 ghost use Rattle.laws.specs.Lists.{any};
 ghost use Rattle.path_edges.specs.Visit.{seen, keeps};
 ghost use Rattle.path_edges.specs.Path.{Piece, piece_of, Table, edges};
@@ -12,6 +15,7 @@ ghost use Rattle.path_edges.specs.Stop.{fork_hits, stop_hits};
 
 use path_store::chains::Chains;
 use path_store::records::Paths;
+use path_store::upward::Link;
 
 // How often v is the target of a last edge, where there is one.
 fn count_last(targets: &[u32], edge: Option<u32>, v: u32) -> usize
@@ -24,7 +28,7 @@ fn count_last(targets: &[u32], edge: Option<u32>, v: u32) -> usize
     }
 }
 
-// Whether every chain that comes to v ends there.
+// Whether every chain that comes to v ends there. (Not by `Chains::sole`, which asks that v has a place in the table; here v may lie beyond it.)
 fn stops_at(index: &[u32], v: u32) -> bool
     ensures { result ≡ true → get_or index.now v 0 ≡ 0 }
 {
@@ -48,32 +52,30 @@ fn count_stop(paths: Paths, targets: &[u32], path: u32, v: u32) -> usize
     count_fork(row.chain, row.fork, v) + count_last(targets, row.last(), v)
 }
 
-// How often v is the target of an edge that the path adds to its parent; where chains stop at v the chain is not walked.
-fn count_piece(paths: Paths, chains: Chains, path: u32, v: u32, stops: bool) -> usize
-    requires { Piece chains.index.now chains.targets.now paths.records.now paths.scores.now path × (stops ≡ true → get_or chains.index.now v 0 ≡ 0) }
-    ensures { result ≡ hits chains.entry.targets.now v (piece_of chains.entry.index.now chains.entry.targets.now paths.entry.records.now path) }
+// How often v is the target of an edge that the link's path adds to its parent; where chains stop at v the chain is not walked, which is told
+// once for the whole path, so that it is not looked up again for each record.
+fn count_piece(paths: Paths, chains: Chains, link: Link, v: u32, stops: bool) -> usize
+    requires { Piece chains.index.now chains.targets.now paths.records.now paths.scores.now link × (stops ≡ true → get_or chains.index.now v 0 ≡ 0) }
+    ensures { result ≡ hits chains.entry.targets.now v (piece_of chains.entry.index.now chains.entry.targets.now paths.entry.records.now link.path) }
 {
     if stops {
-        return count_stop(paths, chains.targets, path, v);
+        return count_stop(paths, chains.targets, link.path, v);
     }
-    let row = paths.at(path);
-    let parent = paths.at(row.parent - 1);
+    let row = paths.at(link.path);
+    let parent = paths.at(link.parent);
     chains.count_chain(parent.end, row.chain, v) + count_last(chains.targets, row.last(), v)
 }
 
-// How often v stands among the vertices of a path.
+// How often v stands among the vertices of a path. (As a loop: `sum` asks that every sum along the iterator fits, and `map` that its closure may be called
+// at each turn; the loop's invariant says both.)
 pub fn count_in_path(paths: Paths, chains: Chains, source: u32, path: u32, v: u32) -> usize
     requires { Table chains.index.now chains.targets.now paths.records.now paths.scores.now (path + 1) }
     ensures { result ≡ times chains.entry.targets.now source v (edges chains.entry.index.now chains.entry.targets.now paths.entry.records.now path) }
 {
     let stops = stops_at(chains.index, v);
     let mut k: usize = 0;
-    let mut r = path;
-    let mut row = paths.at(r);
-    while let Some(p) = row.above() {
-        k += count_piece(paths, chains, r, v, stops);
-        r = p;
-        row = paths.at(r);
+    for link in paths.upward(path) {
+        k += count_piece(paths, chains, link, v, stops);
     }
     k + usize::from(v == source)
 }
@@ -88,13 +90,13 @@ fn write_last(out: &mut [u32], at: usize, edge: Option<u32>)
     }
 }
 
-// The edges that the path adds are written behind its parent's, which start at the place at.
-fn write_piece(paths: Paths, chains: Chains, out: &mut [u32], at: usize, path: u32)
-    requires { Piece chains.index.now chains.targets.now paths.records.now paths.scores.now path × (at + count_of paths.records.now (parent_of paths.records.now path - 1) + length (piece_of chains.index.now chains.targets.now paths.records.now path) ≤ length out.old) }
-    ensures { out.new ≡ sets out.old (at + count_of paths.entry.records.now (parent_of paths.entry.records.now path - 1)) (piece_of chains.entry.index.now chains.entry.targets.now paths.entry.records.now path) }
+// The edges that the link's path adds are written behind its parent's, which start at the place at.
+fn write_piece(paths: Paths, chains: Chains, out: &mut [u32], at: usize, link: Link)
+    requires { Piece chains.index.now chains.targets.now paths.records.now paths.scores.now link × (at + count_of paths.records.now link.parent + length (piece_of chains.index.now chains.targets.now paths.records.now link.path) ≤ length out.old) }
+    ensures { out.new ≡ sets out.old (at + count_of paths.entry.records.now link.parent) (piece_of chains.entry.index.now chains.entry.targets.now paths.entry.records.now link.path) }
 {
-    let row = paths.at(path);
-    let parent = paths.at(row.parent - 1);
+    let row = paths.at(link.path);
+    let parent = paths.at(link.parent);
     let from = at + parent.edges as usize;
     chains.write_chain(out, from, parent.end, row.chain);
     write_last(out, from + row.chain as usize, row.last());
@@ -105,14 +107,13 @@ pub fn write_path(paths: Paths, chains: Chains, out: &mut [u32], at: usize, path
     requires { Table chains.index.now chains.targets.now paths.records.now paths.scores.now (path + 1) × (at + count_of paths.records.now path ≤ length out.old) }
     ensures { out.new ≡ sets out.old at (edges chains.entry.index.now chains.entry.targets.now paths.entry.records.now path) }
 {
-    let mut r = path;
-    while let Some(p) = paths.at(r).above() {
-        write_piece(paths, chains, out, at, r);
-        r = p;
+    for link in paths.upward(path) {
+        write_piece(paths, chains, out, at, link);
     }
 }
 
-// Whether the tree at v counts as visited by a path: it joined the path or an ancestor, or it stands on the nearest recovered path above.
+// Whether the tree at v counts as visited by a path: it joined the path or an ancestor, or it stands on the nearest recovered path above. A loop of its own,
+// since a tree may have joined the start path, which has no link.
 pub fn has_visited(paths: Paths, chains: Chains, source: u32, path: u32, v: u32) -> bool
     requires { Table chains.index.now chains.targets.now paths.records.now paths.scores.now (path + 1) × (v + 1 < 4294967296) }
     ensures { result ≡ any (eqb v) (seen chains.entry.index.now chains.entry.targets.now source paths.entry.records.now path) }

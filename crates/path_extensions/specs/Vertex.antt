@@ -15,7 +15,7 @@ use Rattle.assembly.specs.Store.{edge_at, edges_of}
 use Rattle.out_edges.specs.Outs.{Slots, Nexts, out_from}
 use Rattle.out_edges.specs.Walked.{Named}
 use Rattle.threading_node.specs.Ends.{ends}
-use Rattle.pivotal_edges.specs.Walk.{leaving-from, next-asks, here-slots, next-none, next-some, next-in, next-again}
+use Rattle.pivotal_edges.specs.Walk.{leaving-none, leaving-some, next-asks, here-slots, next-none, next-some, next-in, next-again}
 use Rattle.pivotal_edges.specs.Walk as outs
 use Rattle.fork_offers.specs.Fields.{HasOffers}
 use Rattle.fork_offers.specs.Actives.{Actives}
@@ -191,7 +191,7 @@ module _ {g : Setting} {vs es x index targets : List ℕ} {column : List Float} 
     vertex-none z =
         record {
           is = λ f bs H.
-              let e : leaving f.edges taken.vertex ≡ [] = sym (leaving-is H) ∙ sym (leaving-from (edges_of es g.edges) taken.vertex) ∙ next-none outs-here z in
+              let e : leaving f.edges taken.vertex ≡ [] = sym (leaving-is H) ∙ leaving-none outs-here z in
               let p = path_of f es index targets bs t sc taken.path in
               record {
                 paths = [];
@@ -206,7 +206,7 @@ module _ {g : Setting} {vs es x index targets : List ℕ} {column : List Float} 
       first-low = let a = next-in outs-here z in let b = E.taking.on_ground.linked.few in omega arith
 
       begins : leaving (edges_of es g.edges) taken.vertex ≡ edge_at es i ∷ out_from (edges_of es g.edges) taken.vertex (edge_to es i + 1)
-      begins = sym (leaving-from (edges_of es g.edges) taken.vertex) ∙ next-some outs-here z
+      begins = leaving-some outs-here z
 
       pub alone-stands : AloneStands g es x index targets t sc ac n taken i
       alone-stands = record { stands = stands_of; place = place_of; edge_in = next-in outs-here z }

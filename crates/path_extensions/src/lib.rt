@@ -1,4 +1,6 @@
 // The paths that a taken path is extended to, all made before any is pushed. (Rust: process_vertex, junction_kbest.rs)
+// The slices that a step writes stay parameters one by one: held in a struct, each contract would have to say of each which slice was lent.
+// `g`, `taken` and `n` stand one by one too: n is another for each extension, and a struct of the other two would be made for this crate alone.
 #![tactic(auto)]
 
 ghost use Rattle.std.specs.Prelude.{◌≡◌, ◌+◌, ◌≤◌};
@@ -68,13 +70,13 @@ fn extend_with_edges(
     paths: &mut [u32],
     scores: &mut [f64],
     active: &mut [u16],
-    g: Setting,
+    g: &Setting,
     taken: Taken,
     n: u32,
     way: Way,
 ) -> Result<u32, Refusal>
-    requires { Lengthens (setting_of g) g.graph.edges.now g.trees.nodes.now g.chains.index.now g.chains.targets.now paths.old scores.old active.old n taken way }
-    ensures { Gives (setting_of g.entry) g.entry.graph.edges.now g.entry.trees.nodes.now g.entry.chains.index.now g.entry.chains.targets.now paths.old scores.old active.old n taken 1 (lengthened g.entry.graph.edges.now way) result paths.new scores.new active.new }
+    requires { Lengthens (setting_of g.now) g.now.graph.edges.now g.now.trees.nodes.now g.now.chains.index.now g.now.chains.targets.now paths.old scores.old active.old n taken way }
+    ensures { Gives (setting_of g.now) g.now.graph.edges.now g.now.trees.nodes.now g.now.chains.index.now g.now.chains.targets.now paths.old scores.old active.old n taken 1 (lengthened g.now.graph.edges.now way) result paths.new scores.new active.new }
 {
     let held = Paths {
         records: paths,
@@ -104,12 +106,12 @@ fn extend_by_offer(
     scores: &mut [f64],
     active: &mut [u16],
     offer: Offer,
-    g: Setting,
+    g: &Setting,
     taken: Taken,
     n: u32,
 ) -> Result<u32, Refusal>
-    requires { OfferStands (setting_of g) g.graph.edges.now g.trees.nodes.now g.chains.index.now g.chains.targets.now g.column.now paths.old scores.old active.old n taken offer }
-    ensures { Gives (setting_of g.entry) g.entry.graph.edges.now g.entry.trees.nodes.now g.entry.chains.index.now g.entry.chains.targets.now paths.old scores.old active.old n taken 1 (offered g.entry.column.now g.entry.graph.edges.now offer) result paths.new scores.new active.new }
+    requires { OfferStands (setting_of g.now) g.now.graph.edges.now g.now.trees.nodes.now g.now.chains.index.now g.now.chains.targets.now g.now.column.now paths.old scores.old active.old n taken offer }
+    ensures { Gives (setting_of g.now) g.now.graph.edges.now g.now.trees.nodes.now g.now.chains.index.now g.now.chains.targets.now paths.old scores.old active.old n taken 1 (offered g.now.column.now g.now.graph.edges.now offer) result paths.new scores.new active.new }
 {
     let penalty = log_penalty(g.column, offer.count, offer.total)?;
     let way = Way {
@@ -127,12 +129,12 @@ fn try_offer(
     scores: &mut [f64],
     active: &mut [u16],
     offer: Offer,
-    g: Setting,
+    g: &Setting,
     taken: Taken,
     n: u32,
 ) -> Result<u32, Refusal>
-    requires { OfferStands (setting_of g) g.graph.edges.now g.trees.nodes.now g.chains.index.now g.chains.targets.now g.column.now paths.old scores.old active.old n taken offer }
-    ensures { Gives (setting_of g.entry) g.entry.graph.edges.now g.entry.trees.nodes.now g.entry.chains.index.now g.entry.chains.targets.now paths.old scores.old active.old n taken 1 (tried g.entry.column.now g.entry.graph.edges.now offer) result paths.new scores.new active.new }
+    requires { OfferStands (setting_of g.now) g.now.graph.edges.now g.now.trees.nodes.now g.now.chains.index.now g.now.chains.targets.now g.now.column.now paths.old scores.old active.old n taken offer }
+    ensures { Gives (setting_of g.now) g.now.graph.edges.now g.now.trees.nodes.now g.now.chains.index.now g.now.chains.targets.now paths.old scores.old active.old n taken 1 (tried g.now.column.now g.now.graph.edges.now offer) result paths.new scores.new active.new }
 {
     let step = extend_by_offer(paths, scores, active, offer, g, taken, n);
     let Ok(m) = step else {
@@ -154,13 +156,13 @@ fn extend_by_offers(
     scores: &mut [f64],
     active: &mut [u16],
     offers: &[u32],
-    g: Setting,
+    g: &Setting,
     taken: Taken,
     n: u32,
     rows: usize,
 ) -> Result<u32, Refusal>
-    requires { OffersStand (setting_of g) g.graph.edges.now g.trees.nodes.now g.chains.index.now g.chains.targets.now g.column.now paths.old scores.old active.old offers.now n taken rows }
-    ensures { Gives (setting_of g.entry) g.entry.graph.edges.now g.entry.trees.nodes.now g.entry.chains.index.now g.entry.chains.targets.now paths.old scores.old active.old n taken 6 (all_tried g.entry.column.now g.entry.graph.edges.now offers.now rows) result paths.new scores.new active.new }
+    requires { OffersStand (setting_of g.now) g.now.graph.edges.now g.now.trees.nodes.now g.now.chains.index.now g.now.chains.targets.now g.now.column.now paths.old scores.old active.old offers.now n taken rows }
+    ensures { Gives (setting_of g.now) g.now.graph.edges.now g.now.trees.nodes.now g.now.chains.index.now g.now.chains.targets.now paths.old scores.old active.old n taken 6 (all_tried g.now.column.now g.now.graph.edges.now offers.now rows) result paths.new scores.new active.new }
 {
     let mut next = n;
     for row in 0..rows {
@@ -187,13 +189,13 @@ fn extend_by_only_edge(
     paths: &mut [u32],
     scores: &mut [f64],
     active: &mut [u16],
-    g: Setting,
+    g: &Setting,
     taken: Taken,
     n: u32,
     edge: u32,
 ) -> Result<u32, Refusal>
-    requires { AloneStands (setting_of g) g.graph.edges.now g.trees.nodes.now g.chains.index.now g.chains.targets.now paths.old scores.old active.old n taken edge }
-    ensures { Gives (setting_of g.entry) g.entry.graph.edges.now g.entry.trees.nodes.now g.entry.chains.index.now g.entry.chains.targets.now paths.old scores.old active.old n taken 6 (alone g.entry.graph.edges.now taken.vertex edge) result paths.new scores.new active.new }
+    requires { AloneStands (setting_of g.now) g.now.graph.edges.now g.now.trees.nodes.now g.now.chains.index.now g.now.chains.targets.now paths.old scores.old active.old n taken edge }
+    ensures { Gives (setting_of g.now) g.now.graph.edges.now g.now.trees.nodes.now g.now.chains.index.now g.now.chains.targets.now paths.old scores.old active.old n taken 6 (alone g.now.graph.edges.now taken.vertex edge) result paths.new scores.new active.new }
 {
     let held = Paths {
         records: paths,
@@ -212,9 +214,9 @@ fn extend_by_only_edge(
 }
 
 // What the fork offers the taken path, as rows; the answer is how many.
-fn list_offers(held: Paths, active: &[u16], offers: &mut [u32], g: Setting, taken: Taken) -> usize
-    requires { Lists (setting_of g) g.graph.vertices.now g.graph.edges.now g.trees.nodes.now held.records.now held.scores.now active.now offers.old taken }
-    ensures { Listed (setting_of g.entry) g.entry.graph.vertices.now g.entry.graph.edges.now g.entry.trees.nodes.now held.entry.records.now held.entry.scores.now active.now taken offers.new result }
+fn list_offers(held: Paths, active: &[u16], offers: &mut [u32], g: &Setting, taken: Taken) -> usize
+    requires { Lists (setting_of g.now) g.now.graph.vertices.now g.now.graph.edges.now g.now.trees.nodes.now held.records.now held.scores.now active.now offers.old taken }
+    ensures { Listed (setting_of g.now) g.now.graph.vertices.now g.now.graph.edges.now g.now.trees.nodes.now held.entry.records.now held.entry.scores.now active.now taken offers.new result }
 {
     let at = taken.path as usize * g.active;
     let count = held.at(taken.path).trees as usize;
@@ -237,12 +239,12 @@ pub fn process_vertex(
     scores: &mut [f64],
     active: &mut [u16],
     offers: &mut [u32],
-    g: Setting,
+    g: &Setting,
     taken: Taken,
     n: u32,
 ) -> Result<u32, Refusal>
-    requires { Extends (setting_of g) g.graph.vertices.now g.graph.edges.now g.trees.nodes.now g.chains.index.now g.chains.targets.now g.column.now paths.old scores.old active.old offers.old n taken }
-    ensures { Extensions (setting_of g.entry) g.entry.graph.vertices.now g.entry.graph.edges.now g.entry.trees.nodes.now g.entry.chains.index.now g.entry.chains.targets.now g.entry.column.now paths.old scores.old active.old n taken result paths.new scores.new active.new }
+    requires { Extends (setting_of g.now) g.now.graph.vertices.now g.now.graph.edges.now g.now.trees.nodes.now g.now.chains.index.now g.now.chains.targets.now g.now.column.now paths.old scores.old active.old offers.old n taken }
+    ensures { Extensions (setting_of g.now) g.now.graph.vertices.now g.now.graph.edges.now g.now.trees.nodes.now g.now.chains.index.now g.now.chains.targets.now g.now.column.now paths.old scores.old active.old n taken result paths.new scores.new active.new }
 {
     let mut outs = g.graph.out_edges(taken.vertex as usize);
     let Some(first) = outs.next() else {

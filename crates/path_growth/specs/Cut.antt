@@ -5,6 +5,8 @@ use Rattle.std.proofs.Common.{ap, ◌∙◌, inl, inr, arith, le-leb, leb-true, 
 use Rattle.std.proofs.lemmas.Bool.{lt-leb}
 use Rattle.laws.specs.BoolLaws.{Bool-cases}
 use Rattle.path_growth.specs.declared.Cut.{Cut}
+use Rattle.path_store.specs.declared.upward.Link.{Link}
+use Rattle.path_store.specs.Climbs.{Climbs}
 use Rattle.path_store.specs.Cells.{parent_of, chain_of, count_of, Inside}
 use Rattle.path_edges.specs.Path.{Table, edges_none, Nat-cases}
 
@@ -30,6 +32,10 @@ cut_at t k a =
 
 abbrev pub cut_of : List ℕ → ℕ → ℕ → Cut
 cut_of t k r = cut_at t k (owner_of t k r)
+
+-- the link of that ancestor
+abbrev pub Owns : List ℕ → ℕ → ℕ → Link → Type 0
+Owns t k r l = (l.path ≡ owner_of t k r) × (parent_of t l.path ≡ suc l.parent)
 
 -- what a walk up the parents asks of the first n records
 pub record Links (t : List ℕ) (sc : List Float) (n : ℕ) : Type 0 where
@@ -59,7 +65,7 @@ links-front t sc n m L l =
 pub links-inside : (t : List ℕ) (sc : List Float) (n : ℕ) → Links t sc n → (r : ℕ) → r < n → Inside t sc r
 links-inside t sc n L r l = record { cells = omega (arith, L.room); score = omega (arith, L.scored) }
 
--- ---- edges_before
+-- ---- the count before the own piece
 pub before-none : (t : List ℕ) (r : ℕ) → parent_of t r ≡ 0 → 0 ≡ before t r
 unfolding before
 before-none t r h = rw (h, before)
@@ -124,21 +130,8 @@ pub record Cutting (t : List ℕ) (sc : List Float) (path k r : ℕ) : Type 0 wh
   pub low : r < path + 1
   pub is : owner_of t k r ≡ owner_of t k path
 
-module _ (t : List ℕ) (sc : List Float) (path k : ℕ) (L : Links t sc (path + 1)) (pos : 0 < k) where
-  module _ (r : ℕ) (C : Cutting t sc path k r) where
-    pub cutting-low : (f : ℕ) → f ≡ parent_of t r → k ≤ before t r → (0 < f) × (f ≤ r)
-    cutting-low f e h = omega (arith, has-parent t k pos r h, L.rises r C.low)
-
-    pub cutting-next : (f : ℕ) → f ≡ parent_of t r → k ≤ before t r → Cutting t sc path k (f - 1)
-    cutting-next f e h =
-        record {
-          low = omega (arith, cutting-low f e h, C.low);
-          is = ap (λ x. owner_of t k (x - 1)) e ∙ sym (owner-step t k pos (path + 1) r L.rises C.low h) ∙ C.is;
-        }
-
-    pub cutting-end : before t r < k → r ≡ owner_of t k path
-    unfolding owner_of
-    cutting-end h = sym (owner_here t k r r h) ∙ C.is
+pub links-climbs : {t : List ℕ} {sc : List Float} {n : ℕ} → Links t sc n → Climbs t sc n
+links-climbs L = record { room = L.room; scored = L.scored; rises = L.rises }
 
 -- ---- cut_path
 pub record Owned (t : List ℕ) (n k a : ℕ) : Type 0 where
@@ -176,18 +169,45 @@ module _ (t : List ℕ) (sc : List Float) (n k : ℕ) (L : Links t sc n) (pos : 
   unfolding owner_of
   owned r l c = owned_by r r l (omega arith) c
 
-pub cut_inside : (t : List ℕ) (k a f b j : ℕ) → f ≡ parent_of t a → b ≡ count_of t (f - 1) → j ≡ chain_of t a → k - b ≤ j
-    → ◌≡◌ {A = Cut} (record { parent = f - 1; chain = k - b }) (cut_at t k a)
+-- ---- the walk up to the owner
+module _ (t : List ℕ) (sc : List Float) (path k : ℕ) (L : Links t sc (path + 1)) (pos : 0 < k) where
+  module _ (r : ℕ) (C : Cutting t sc path k r) where
+    pub cutting-next : (p : ℕ) → parent_of t r ≡ suc p → k ≤ count_of t p → Cutting t sc path k p
+    cutting-next p e h =
+        let b : k ≤ before t r = omega (arith, before-suc t r p e) in
+        let q : parent_of t r - 1 ≡ p = omega arith in
+        record {
+          low = omega (arith, L.rises r C.low, C.low);
+          is = ap (λ x. owner_of t k x) (sym q) ∙ sym (owner-step t k pos (path + 1) r L.rises C.low b) ∙ C.is;
+        }
+
+    pub cutting-here : before t r < k → r ≡ owner_of t k path
+    unfolding owner_of
+    cutting-here h = sym (owner_here t k r r h) ∙ C.is
+
+    pub cutting-found : (p : ℕ) → parent_of t r ≡ suc p → count_of t p < k → r ≡ owner_of t k path
+    cutting-found p e h = cutting-here (omega (arith, before-suc t r p e))
+
+    pub cutting-none : k ≤ count_of t path → parent_of t r ≡ 0 → ⊥
+    cutting-none c z =
+        let o = owned t sc (path + 1) k L pos path (omega arith) c in
+        let e = cutting-here (omega (arith, before-none t r z)) in
+        absurd (omega (arith, z, rw (← e) at o.has))
+
+pub cut_inside : (t : List ℕ) (k a f b j : ℕ) → parent_of t a ≡ suc f → b ≡ count_of t f → j ≡ chain_of t a → k - b ≤ j
+    → ◌≡◌ {A = Cut} (record { parent = f; chain = k - b }) (cut_at t k a)
 unfolding cut_at
 cut_inside t k a f b j F B J h =
-    let e : b ≡ count_of t (parent_of t a - 1) = B ∙ ap (λ x. count_of t (x - 1)) F in
-    rw (F, e, le-leb (k - count_of t (parent_of t a - 1)) (chain_of t a) (omega arith), cut_at)
+    let q : parent_of t a - 1 ≡ f = omega arith in
+    let e : b ≡ count_of t (parent_of t a - 1) = B ∙ ap (λ x. count_of t x) (sym q) in
+    rw (← q, e, le-leb (k - count_of t (parent_of t a - 1)) (chain_of t a) (omega arith), cut_at)
 
-pub cut-whole : (t : List ℕ) (k a f b j : ℕ) → f ≡ parent_of t a → b ≡ count_of t (f - 1) → j ≡ chain_of t a → j < k - b
+pub cut-whole : (t : List ℕ) (k a f b j : ℕ) → parent_of t a ≡ suc f → b ≡ count_of t f → j ≡ chain_of t a → j < k - b
     → ◌≡◌ {A = Cut} (record { parent = a; chain = 0 }) (cut_at t k a)
 unfolding cut_at
 cut-whole t k a f b j F B J h =
-    let e : b ≡ count_of t (parent_of t a - 1) = B ∙ ap (λ x. count_of t (x - 1)) F in
+    let q : parent_of t a - 1 ≡ f = omega arith in
+    let e : b ≡ count_of t (parent_of t a - 1) = B ∙ ap (λ x. count_of t x) (sym q) in
     rw (lt-leb (k - count_of t (parent_of t a - 1)) (chain_of t a) (omega arith), cut_at)
 
 -- the owner by the values that the code has read
@@ -198,12 +218,11 @@ module _ (t : List ℕ) (sc : List Float) (path k a : ℕ) (L : Links t sc (path
   pub owner-inside : Inside t sc a
   owner-inside = links-inside t sc (path + 1) L a owner-read.low
 
-  module _ (f : ℕ) (F : f ≡ parent_of t a) where
-    pub owner-parent : (0 < f) × (f - 1 < path + 1)
-    owner-parent = omega (arith, owner-read.has, owner-read.low, L.rises a owner-read.low)
+  module _ (f : ℕ) (F : parent_of t a ≡ suc f) where
+    pub owner-up-inside : Inside t sc f
+    owner-up-inside = links-inside t sc (path + 1) L f (omega (arith, owner-read.low, L.rises a owner-read.low))
 
-    pub owner-up-inside : Inside t sc (f - 1)
-    owner-up-inside = links-inside t sc (path + 1) L (f - 1) owner-parent.1
-
-    pub owner-below : (b : ℕ) → b ≡ count_of t (f - 1) → b < k
-    owner-below b h = omega (arith, owner-read.below, h ∙ ap (λ x. count_of t (x - 1)) F)
+    pub owner-below : (b : ℕ) → b ≡ count_of t f → b < k
+    owner-below b h =
+        let q : f ≡ parent_of t a - 1 = omega arith in
+        omega (arith, owner-read.below, h ∙ ap (λ x. count_of t x) q)

@@ -1,16 +1,18 @@
 // Paths are made: the start path, an extension, a closed path, a recovered path; and a tree joins a path that is taken.
+// The slices that a step writes stay parameters one by one: held in a struct, each contract would have to say of each which slice was lent.
 #![tactic(auto)]
 
-ghost use Rattle.std.specs.Prelude.{◌≡◌, ◌+◌, ◌<◌, ◌≤◌, length};
+ghost use Rattle.std.specs.Prelude.{◌≡◌, ◌+◌, ◌<◌, ◌≤◌, length, IsSomeAnd};
 ghost use Rattle.path_store.specs.Walk.{after};
 ghost use Rattle.path_store.specs.Cells.{Inside, Stored, count_of, end_of};
 ghost use Rattle.path_edges.specs.Path.{Table};
-ghost use Rattle.path_growth.specs.Cut.{before, owner_of, cut_of, Links};
+ghost use Rattle.path_growth.specs.Cut.{Owns, cut_of, Links};
 ghost use Rattle.path_growth.specs.Extend.{Ends};
 ghost use Rattle.path_growth.specs.Grow.{start_row, Following, Growable, Grown, extended_row, closed_row, recovered_row, Joined};
 
 use path_store::chains::Chains;
 use path_store::records::{PathRecord, Paths, path_put};
+use path_store::upward::Link;
 use refusals::Refusal;
 
 // A taken path, the length of the chain after it, and the vertex that the chain leads to.
@@ -146,27 +148,17 @@ pub fn close_path(
     Ok(n)
 }
 
-// The count of edges before the path's own piece.
-fn edges_before(paths: Paths, path: u32) -> u32
-    requires { Links paths.records.now paths.scores.now (path + 1) }
-    ensures { result ≡ before paths.entry.records.now path }
+// The path, or the ancestor of it, whose own piece holds the path's edge k - 1; and its parent.
+fn cut_owner(paths: Paths, path: u32, k: u32) -> Option<Link>
+    requires { Links paths.records.now paths.scores.now (path + 1) × (0 < k) × (k ≤ count_of paths.records.now path) }
+    ensures { IsSomeAnd result (Owns paths.entry.records.now k path) }
 {
-    match paths.at(path).above() {
-        Some(p) => paths.at(p).edges,
-        None => 0,
+    for link in paths.upward(path) {
+        if paths.at(link.parent).edges < k {
+            return Some(link);
+        }
     }
-}
-
-// The path, or the ancestor of it, whose own piece holds the path's edge k - 1.
-fn cut_owner(paths: Paths, path: u32, k: u32) -> u32
-    requires { Links paths.records.now paths.scores.now (path + 1) × (0 < k) }
-    ensures { result ≡ owner_of paths.entry.records.now k path }
-{
-    let mut r = path;
-    while k <= edges_before(paths, r) {
-        r = paths.at(r).parent - 1;
-    }
-    r
+    None
 }
 
 // The first k edges of a path, as one of its ancestors, or itself, and a front of the chain after that.
@@ -174,15 +166,15 @@ pub fn cut_path(paths: Paths, path: u32, k: u32) -> Cut
     requires { Links paths.records.now paths.scores.now (path + 1) × (0 < k) × (k ≤ count_of paths.records.now path) }
     ensures { result ≡ cut_of paths.entry.records.now k path }
 {
-    let owner = cut_owner(paths, path, k);
-    let own = paths.at(owner);
-    let parent = own.parent - 1;
+    let owner = cut_owner(paths, path, k).unwrap();
+    let own = paths.at(owner.path);
+    let parent = owner.parent;
     let chain = k - paths.at(parent).edges;
     if chain <= own.chain {
         return Cut { parent, chain };
     }
     Cut {
-        parent: owner,
+        parent: owner.path,
         chain: 0,
     }
 }

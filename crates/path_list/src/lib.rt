@@ -20,7 +20,8 @@ use path_store::records::Paths;
 use samples::Text;
 
 // The list of the closed paths, whose records stand in `closed` in the order of closing: the columns of its rows, for path_rows to copy, and beside
-// them the bases and the origins. `walks` and `rank` are workspace: the edges of the closed paths, and their numbers in the list's order.
+// them the bases and the origins. `walks` and `rank` are workspace: the edges of the closed paths, and their numbers in the list's order. The slices that
+// are written stay parameters one by one: held in a struct, each contract would have to say of each which slice was lent.
 pub fn write_list(
     text: Text,
     vertices: &[u32],

@@ -9,7 +9,8 @@ use path_store::records::{PathRecord, Paths};
 use samples::Text;
 
 // The first `count` of `closed` are the records of the closed paths, in the order of closing; the edges of the closed path i stand in `walks` from place
-// i * most on. `count` beside the slices is as plain as slices cut at it: `closed`, the ranks and the columns all go beyond it.
+// i * most on. `count` beside the slices is as plain as slices cut at it: `closed`, the ranks and the columns all go beyond it. What `Ready` says stays in
+// the contracts: as an invariant of the type it would be asked also where less is needed, as of `row` and `write_columns`; and `Placed` speaks of the ranks.
 #[derive(Clone, Copy)]
 pub struct Lists<'a, 'w> {
     pub text: Text<'a>,

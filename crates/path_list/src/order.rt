@@ -10,7 +10,8 @@ use crate::lists::Lists;
 use assembly::{edge_to, kmer_place};
 
 impl<'a, 'w> Lists<'a, 'w> {
-    // The base that an edge adds to a path: the last of its target's kmer.
+    // The base that an edge adds to a path: the last of its target's kmer. (`path_base` of graph_kmers reads the same byte, but is told the bounds of a
+    // whole path; one function for both would ask them of each edge anew.)
     fn end_base(self, e: u32) -> u8
         requires { Spelt self.k (text_of self.text) self.vertices.now self.edges.now e }
         ensures { result ≡ end_base self.entry.k (text_of self.entry.text) self.entry.vertices.now self.entry.edges.now e }
@@ -36,7 +37,8 @@ impl<'a, 'w> Lists<'a, 'w> {
         b.len() < a.len()
     }
 
-    // Whether the closed path i stands above the closed path j, whatever their closing.
+    // Whether the closed path i stands above the closed path j, whatever their closing. Two comparisons are as plain as `partial_cmp`, whose Option has
+    // four cases for the same three ways.
     fn stands_above(self, i: usize, j: usize) -> bool
         requires { Ready (lists_of self) self.count × (i < self.count) × (j < self.count) }
         ensures { result ≡ above_at (lists_of self.entry) i j }

@@ -26,7 +26,7 @@ use Rattle.search_state.specs.Settings.{Setting}
 use Rattle.search_state.specs.declared.Progress.{Progress}
 use Rattle.search_state.specs.Ground.{name_of, Ground}
 use Rattle.search_state.specs.State.{path_of, Records, Idle, Holds, up_from}
-use Rattle.path_queue.specs.Next.{Marked, NextAt, left_from, left-hit}
+use Rattle.path_queue.specs.Next.{Marked, NextAt, NextIs, left_from, left-hit, front-marked, front-next}
 use Rattle.path_queue.specs.Recover.{kept, one_more, Lost, Recovered}
 use Rattle.path_queue.specs.Try.{TriesEdge, EdgeTried, best_for, best-at}
 
@@ -363,8 +363,11 @@ unfolding up_from
 one_from h n = let z : n + 1 - n ≡ 1 = omega arith in rw z
 
 module _ {es index targets t : List ℕ} {sc : List Float} {closed order marks walks : List ℕ} {g : Setting} {p : Progress} (T : TriesNext es index targets t sc closed order marks walks g p) where
-  pub step-marked : Marked order marks p.pivotal × (p.next ≤ p.pivotal)
-  step-marked = (marked T.resting, T.resting.holds.next_low)
+  pub step-marked : Marked (take p.pivotal order) marks (length (take p.pivotal order)) × (p.next ≤ length (take p.pivotal order))
+  step-marked = (front-marked (marked T.resting), omega (arith, T.resting.holds.next_low, length-take-le p.pivotal order T.resting.holds.order-room))
+
+  pub step-next : (r : Option ℕ) → NextIs (take p.pivotal order) marks (length (take p.pivotal order)) p.next r → NextIs order marks p.pivotal p.next r
+  step-next r N = front-next (marked T.resting) p.next r N
 
   inside : Inside t sc p.records
   inside = record { cells = omega (arith, T.paths); score = omega (arith, T.scores) }

@@ -1,6 +1,6 @@
 -- The next pivotal edge: the first from a place on whose mark is not 0, if there is one.
 use Rattle.std.specs.Prelude.{◌≡◌, refl, Option, Some, None, List, [], ◌∷◌, ℕ, suc, ◌+◌, ◌<◌, ◌≤◌, length, get_or, take, drop}
-use Rattle.std.proofs.Common.{sym, ap, ◌∙◌, add-one, arith, lt-ltb, le-ltb, drop_of_length-le, drop-cons, get_or-take, length-take-le}
+use Rattle.std.proofs.Common.{sym, ap, ◌∙◌, add-one, arith, lt-ltb, le-ltb, drop_of_length-le, drop-cons, get_or-take, length-take-le, take_all}
 use Rattle.laws.specs.ListLaws.{All}
 use Rattle.closed_paths.specs.Cross.{unvisited}
 use Rattle.closed_paths.specs.Recover.{all-at}
@@ -58,6 +58,27 @@ module _ {order marks : List ℕ} {n : ℕ} (M : Marked order marks n) where
 
   left_end : (i : ℕ) → n ≤ i → left_from order marks n i ≡ []
   left_end i h = ap (λ l. unvisited l marks) (drop_of_length-le (take n order) {i = i} (omega (arith, full)))
+
+  -- the same over the places before n alone
+  front : take (length (take n order)) (take n order) ≡ take n order
+  front = take_all (length (take n order)) (take n order) (omega arith)
+
+  pub front-marked : Marked (take n order) marks (length (take n order))
+  front-marked = record { room = omega arith; known = rw front M.known }
+
+  front-left : (i : ℕ) → left_from (take n order) marks (length (take n order)) i ≡ left_from order marks n i
+  front-left i = ap (λ l. unvisited (drop i l) marks) front
+
+  pub front-next : (next : ℕ) (r : Option ℕ) → NextIs (take n order) marks (length (take n order)) next r → NextIs order marks n next r
+  front-next next None N = sym (front-left next) ∙ N
+  front-next next (Some i) N =
+      let h : i < n = omega (arith, N.high, full) in
+      record {
+        low = N.low;
+        high = h;
+        same = sym (front-left next) ∙ N.same ∙ front-left i;
+        live = rw (get_or-take n order i 0 h) at N.live;
+      }
 
   module _ {next i : ℕ} (S : Scanning order marks n next i) where
     pub scan-hit : i < n → (get_or marks (get_or order i 0) 0 ≡ 0 → ⊥) → NextAt order marks n next i

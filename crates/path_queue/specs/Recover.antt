@@ -1,6 +1,6 @@
 -- Where a path is split, and the record that is made of its front and an edge.
-use Rattle.std.specs.Prelude.{◌≡◌, refl, ◌⊎◌, Result, Ok, Err, List, ℕ, ◌+◌, ◌<◌, ◌≤◌, length, get_or, take, set, Float}
-use Rattle.std.proofs.Common.{ap, ◌∙◌, inr, arith}
+use Rattle.std.specs.Prelude.{◌≡◌, refl, ◌⊎◌, Option, Some, None, Result, Ok, Err, List, ℕ, ◌+◌, ◌<◌, ◌≤◌, length, get_or, take, set, Float}
+use Rattle.std.proofs.Common.{ap, ◌∙◌, inl, inr, arith}
 use Rattle.std.proofs.lemmas.List.Edits.{sets}
 use Rattle.laws.specs.Stores.{take-sets}
 use Rattle.refusals.specs.declared.Refusal.{Refusal}
@@ -9,7 +9,7 @@ use Rattle.path_store.specs.Cells.{count_of, score_of, Inside, put_cells}
 use Rattle.path_edges.specs.Path.{Table, edges, table-front}
 use Rattle.path_growth.specs.Grow.{Growable, Grown, recovered_row}
 use Rattle.path_growth.specs.Held.{grown-made, grown-refused}
-use Rattle.closed_paths.specs.Split.{split_at}
+use Rattle.closed_paths.specs.Split.{split_at, split_of, split-told, split-lost}
 use Rattle.closed_paths.specs.Recover.{edges-in, all-at, split-low}
 use Rattle.search_state.specs.Settings.{Setting}
 use Rattle.search_state.specs.declared.Progress.{Progress}
@@ -31,8 +31,8 @@ module _ {index targets t : List ℕ} {sc : List Float} {walks : List ℕ} {path
     pub split-asks : (i : ℕ) → i < length (take n walks') → get_or (take n walks') i 0 < length targets
     split-asks = rw written (λ i h. all-at (λ d. d < length targets) (edges index targets t path) (edges-in index targets t sc (path + 1) S.table path (omega arith)) i h)
 
-    pub split-is : (v k : ℕ) → k ≡ split_at targets v (take n walks') → k ≡ split_at targets v (edges index targets t path)
-    split-is v k h = h ∙ ap (λ l. split_at targets v l) written
+    pub split-is : (v : ℕ) (k : Option ℕ) → k ≡ split_of targets v (take n walks') → k ≡ split_of targets v (edges index targets t path)
+    split-is v k h = h ∙ ap (λ l. split_of targets v l) written
 
 -- ---- the path goes on by the edge e
 
@@ -79,10 +79,19 @@ Left index targets t sc g p path v e t' sc' (Ok p') =
 Left index targets t sc g p path v e t' sc' (Err r) = Long g (kept index targets t path v) (number r)
 
 module _ {index targets t : List ℕ} {sc : List Float} {walks : List ℕ} {g : Setting} {p : Progress} {path e : ℕ} (L : Leaves index targets t sc walks g p path e) where
-  module _ (v k : ℕ) (K : k ≡ kept index targets t path v) where
-    module _ (h : k ≡ 0 → ⊥) where
+  pub leave-lost : (v : ℕ) → None ≡ split_of targets v (edges index targets t path) → Left index targets t sc g p path v e t sc (Ok p)
+  leave-lost v h = inl (split-lost targets v (edges index targets t path) h, record { progress = refl; cells = refl; scores = refl })
+
+  module _ (v k : ℕ) (o : Some k ≡ split_of targets v (edges index targets t path)) where
+    K : k ≡ kept index targets t path v
+    K = (split-told targets v (edges index targets t path) k o).0
+
+    h : 0 < k
+    h = (split-told targets v (edges index targets t path) k o).1
+
+    module _ where
       low : k ≤ count_of t path
-      low = omega (arith, split-low targets v (edges index targets t path) k K (omega arith), (L.table.rows path L.known).count)
+      low = omega (arith, split-low targets v (edges index targets t path) k K h, (L.table.rows path L.known).count)
 
       pub leave_fits : k < 4294967296
       leave_fits = omega (arith, low, L.short, L.most-fits)
@@ -90,7 +99,7 @@ module _ {index targets t : List ℕ} {sc : List Float} {walks : List ℕ} {g : 
       pub leave-asks : (c : ℕ) → c ≡ k
           → Growable t sc p.records path × Table index targets t sc (path + 1) × (0 < c) × (c ≤ count_of t path) × (e < length targets) × (e + 1 < 4294967296)
       leave-asks c q =
-          (record { room = L.room; known = L.known }, table-front index targets t sc p.records (path + 1) L.table (omega (arith, L.known)), omega arith, omega (arith, low), L.edge, omega (arith, L.edge, L.table.graph.small))
+          (record { room = L.room; known = L.known }, table-front index targets t sc p.records (path + 1) L.table (omega (arith, L.known)), omega (arith, h), omega (arith, low), L.edge, omega (arith, L.edge, L.table.graph.small))
 
       module _ (c : ℕ) (q : c ≡ k) (t' : List ℕ) (sc' : List Float) (r : Result ℕ Refusal)
           (G : Grown t sc p.records (recovered_row index t sc targets path c e) g.most r t' sc') where
@@ -100,11 +109,11 @@ module _ {index targets t : List ℕ} {sc : List Float} {walks : List ℕ} {g : 
         pub leave-over : (a : Refusal) → r ≡ Err a → Left index targets t sc g p path v e t' sc' (Err a)
         leave-over a E =
             let R = grown-refused t sc p.records (recovered_row index t sc targets path c e) g.most t' sc' a (rw E at G) in
-            record { number = R.0.number; some = omega (arith, same); over = omega (arith, same, R.1) }
+            record { number = R.0.number; some = omega (arith, same, h); over = omega (arith, same, R.1) }
 
         pub leave-made : (n : ℕ) → r ≡ Ok n → Left index targets t sc g p path v e t' sc' (Ok (one_more p))
         leave-made n E =
             let R = grown-made t sc p.records (recovered_row index t sc targets path c e) g.most t' sc' n (rw E at G) in
             inr
             (rw (← same)
-            (record { some = omega arith; short = R.1; progress = refl; cells = R.0.cells; scores = R.0.scores }))
+            (record { some = omega (arith, h); short = R.1; progress = refl; cells = R.0.cells; scores = R.0.scores }))

@@ -1,10 +1,11 @@
 // The steps of the search over the queue of waiting paths: paths are pushed, the first is taken, and where none waits a pivotal edge is tried.
+// The slices that a step writes stay parameters one by one: held in a struct, each contract would have to say of each which slice was lent.
 #![tactic(auto)]
 
 ghost use Rattle.std.specs.Prelude.{◌≡◌, ◌≤◌, length};
 ghost use Rattle.assembly.specs.Fields.{HasEdge, edge_from};
 ghost use Rattle.path_edges.specs.Path.{edges};
-ghost use Rattle.closed_paths.specs.Split.{split_at};
+ghost use Rattle.closed_paths.specs.Split.{split_of};
 ghost use Rattle.search_state.specs.Settings.{setting_of};
 ghost use Rattle.path_queue.specs.Begin.{ListsPivotal, PivotalListed, Begins, Begun};
 ghost use Rattle.path_queue.specs.Next.{Marked, NextIs};
@@ -36,12 +37,12 @@ pub struct Taking {
 fn push_path(
     scores: &[f64],
     queue: &mut [u32],
-    g: Setting,
+    g: &Setting,
     p: Progress,
     path: u32,
 ) -> Result<Progress, Refusal>
-    requires { OnePushes scores.now queue.old (setting_of g) p path }
-    ensures { OnePushed scores.now queue.old (setting_of g.entry) p path queue.new result }
+    requires { OnePushes scores.now queue.old (setting_of g.now) p path }
+    ensures { OnePushed scores.now queue.old (setting_of g.now) p path queue.new result }
 {
     if p.pushes >= g.pushes {
         return Err(Refusal::Pushes);
@@ -60,12 +61,12 @@ fn push_path(
 pub fn push_paths(
     scores: &[f64],
     queue: &mut [u32],
-    g: Setting,
+    g: &Setting,
     p: Progress,
     from: u32,
 ) -> Result<Progress, Refusal>
-    requires { Pushes scores.now queue.old (setting_of g) p from }
-    ensures { AllPushed scores.now queue.old (setting_of g.entry) p from queue.new result }
+    requires { Pushes scores.now queue.old (setting_of g.now) p from }
+    ensures { AllPushed scores.now queue.old (setting_of g.now) p from queue.new result }
 {
     let mut at = p;
     for path in from..p.records {
@@ -91,16 +92,17 @@ pub fn take_first(scores: &[f64], queue: &mut [u32], p: Progress) -> Taking
     Taking { path, left }
 }
 
-// With recovery the pivotal edges, all of them marked as not yet visited; without it none: how many.
+// With recovery the pivotal edges, all of them marked as not yet visited; without it none: how many. A mark is a number, since the marks lie in a lent
+// slice of numbers. The flag is looked at here and nowhere else, so that `begin` has no branch.
 fn list_pivotal(
     walks: &mut [u32],
     order: &mut [u32],
     marks: &mut [u32],
-    g: Setting,
+    g: &Setting,
     recovery: bool,
 ) -> usize
-    requires { ListsPivotal (setting_of g) g.graph.vertices.now g.graph.edges.now walks.old order.old marks.old }
-    ensures { PivotalListed (setting_of g.entry) g.entry.graph.vertices.now g.entry.graph.edges.now order.new marks.new result recovery }
+    requires { ListsPivotal (setting_of g.now) g.now.graph.vertices.now g.now.graph.edges.now walks.old order.old marks.old }
+    ensures { PivotalListed (setting_of g.now) g.now.graph.vertices.now g.now.graph.edges.now order.new marks.new result recovery }
 {
     if !recovery {
         return 0;
@@ -119,11 +121,11 @@ pub fn begin(
     walks: &mut [u32],
     order: &mut [u32],
     marks: &mut [u32],
-    g: Setting,
+    g: &Setting,
     recovery: bool,
 ) -> Progress
-    requires { Begins (setting_of g) g.graph.vertices.now g.graph.edges.now paths.old scores.old queue.old walks.old order.old marks.old }
-    ensures { Begun (setting_of g.entry) g.entry.graph.vertices.now g.entry.graph.edges.now paths.new scores.new queue.new order.new marks.new recovery result }
+    requires { Begins (setting_of g.now) g.now.graph.vertices.now g.now.graph.edges.now paths.old scores.old queue.old walks.old order.old marks.old }
+    ensures { Begun (setting_of g.now) g.now.graph.vertices.now g.now.graph.edges.now paths.new scores.new queue.new order.new marks.new recovery result }
 {
     start_path(paths, scores, 0);
     heap_push(queue, 0, scores, 0);
@@ -139,12 +141,12 @@ pub fn begin(
     }
 }
 
-// The first place from `next` on, of n, whose edge is still marked.
-fn next_pivotal(order: &[u32], marks: &[u32], n: usize, next: usize) -> Option<usize>
-    requires { Marked order.now marks.now n × (next ≤ n) }
-    ensures { NextIs order.now marks.now n next result }
+// The first place from `next` on whose edge is still marked. A `for` that ends at the first is as plain as `position`, which would count from `next`.
+fn next_pivotal(order: &[u32], marks: &[u32], next: usize) -> Option<usize>
+    requires { Marked order.now marks.now (length order.now) × (next ≤ length order.now) }
+    ensures { NextIs order.now marks.now (length order.now) next result }
 {
-    for i in next..n {
+    for i in next..order.len() {
         let e = order[i] as usize;
         if marks[e] != 0 {
             return Some(i);
@@ -153,11 +155,10 @@ fn next_pivotal(order: &[u32], marks: &[u32], n: usize, next: usize) -> Option<u
     None
 }
 
-// How many edges of the path are kept by one that leaves it at v; 0 where no edge enters v.
-// (A count that may be 0, and no `Option`: a recovered path may keep no edge.)
-fn split_at(paths: Paths, chains: Chains, walks: &mut [u32], path: u32, v: u32) -> usize
+// How many edges of the path are kept by one that leaves it at v, where an edge enters v.
+fn split_at(paths: Paths, chains: Chains, walks: &mut [u32], path: u32, v: u32) -> Option<usize>
     requires { Splits chains.index.now chains.targets.now paths.records.now paths.scores.now walks.old path }
-    ensures { result ≡ split_at chains.entry.targets.now v (edges chains.entry.index.now chains.entry.targets.now paths.entry.records.now path) }
+    ensures { result ≡ split_of chains.entry.targets.now v (edges chains.entry.index.now chains.entry.targets.now paths.entry.records.now path) }
 {
     let n = paths.at(path).edges as usize;
     write_path(paths, chains, walks, 0, path);
@@ -169,23 +170,22 @@ fn leave_path(
     paths: &mut [u32],
     scores: &mut [f64],
     walks: &mut [u32],
-    g: Setting,
+    g: &Setting,
     p: Progress,
     path: u32,
     v: u32,
     e: u32,
 ) -> Result<Progress, Refusal>
-    requires { Leaves g.chains.index.now g.chains.targets.now paths.old scores.old walks.old (setting_of g) p path e }
-    ensures { Left g.entry.chains.index.now g.entry.chains.targets.now paths.old scores.old (setting_of g.entry) p path v e paths.new scores.new result }
+    requires { Leaves g.now.chains.index.now g.now.chains.targets.now paths.old scores.old walks.old (setting_of g.now) p path e }
+    ensures { Left g.now.chains.index.now g.now.chains.targets.now paths.old scores.old (setting_of g.now) p path v e paths.new scores.new result }
 {
     let held = Paths {
         records: paths,
         scores,
     };
-    let k = split_at(held, g.chains, walks, path, v);
-    if k == 0 {
+    let Some(k) = split_at(held, g.chains, walks, path, v) else {
         return Ok(p);
-    }
+    };
     let r = recover_path(
         paths, scores, g.chains, p.records, path, k as u32, e, g.most,
     );
@@ -212,12 +212,12 @@ fn try_edge(
     scores: &mut [f64],
     closed: &[u32],
     walks: &mut [u32],
-    g: Setting,
+    g: &Setting,
     p: Progress,
     e: u32,
 ) -> Result<Progress, Refusal>
-    requires { TriesEdge g.graph.edges.now g.chains.index.now g.chains.targets.now paths.old scores.old closed.now walks.old (setting_of g) p e }
-    ensures { EdgeTried g.entry.graph.edges.now g.entry.chains.index.now g.entry.chains.targets.now paths.old scores.old closed.now (setting_of g.entry) p e paths.new scores.new result }
+    requires { TriesEdge g.now.graph.edges.now g.now.chains.index.now g.now.chains.targets.now paths.old scores.old closed.now walks.old (setting_of g.now) p e }
+    ensures { EdgeTried g.now.graph.edges.now g.now.chains.index.now g.now.chains.targets.now paths.old scores.old closed.now (setting_of g.now) p e paths.new scores.new result }
 {
     let v = vertex_before(g.graph.edges, e);
     let held = Paths {
@@ -239,13 +239,13 @@ pub fn enqueue_next_pivotal_edge(
     order: &[u32],
     marks: &[u32],
     walks: &mut [u32],
-    g: Setting,
+    g: &Setting,
     p: Progress,
 ) -> Result<Option<Progress>, Refusal>
-    requires { TriesNext g.graph.edges.now g.chains.index.now g.chains.targets.now paths.old scores.old closed.now order.now marks.now walks.old (setting_of g) p }
-    ensures { Tried g.entry.graph.edges.now g.entry.chains.index.now g.entry.chains.targets.now paths.old scores.old closed.now order.now marks.now (setting_of g.entry) p paths.new scores.new result }
+    requires { TriesNext g.now.graph.edges.now g.now.chains.index.now g.now.chains.targets.now paths.old scores.old closed.now order.now marks.now walks.old (setting_of g.now) p }
+    ensures { Tried g.now.graph.edges.now g.now.chains.index.now g.now.chains.targets.now paths.old scores.old closed.now order.now marks.now (setting_of g.now) p paths.new scores.new result }
 {
-    let Some(place) = next_pivotal(order, marks, p.pivotal, p.next) else {
+    let Some(place) = next_pivotal(&order[..p.pivotal], marks, p.next) else {
         return Ok(None);
     };
     let after = Progress {

@@ -68,6 +68,9 @@ pub numbered-some : (n p : ℕ) → numbered n ≡ Some p → n ≡ suc p
 numbered-some zero p h = cc
 numbered-some (suc n) p h = cc
 
+pub numbered-less : (n p : ℕ) → numbered n ≡ Some p → p ≡ n - 1
+numbered-less n p h = omega (arith, numbered-some n p h)
+
 pub record Inside (t : List ℕ) (sc : List Float) (r : ℕ) : Type 0 where
   pub cells : r * 9 + 9 ≤ length t
   pub score : r < length sc

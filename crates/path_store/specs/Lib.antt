@@ -1,3 +1,4 @@
 pub mod Walk
 pub mod Steps
 pub mod Cells
+pub mod Climbs

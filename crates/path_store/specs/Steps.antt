@@ -1,8 +1,9 @@
 -- The loops over chains: what each keeps, and a law for each of its ways.
-use Rattle.std.specs.Prelude.{◌≡◌, refl, true, false, cond, List, eqb, get_or, set}
+use Rattle.std.specs.Prelude.{◌≡◌, refl, true, false, cond, Some, List, eqb, get_or, set}
 use Rattle.std.proofs.Common.{ap, ◌∙◌, add-one, length-set, sym, ℕ, zero, suc, ◌+◌, ◌-◌, ◌<◌, ◌≤◌, arith, length}
 use Rattle.std.proofs.lemmas.List.Edits.{sets}
 use Rattle.laws.specs.Lists.{any}
+use Rattle.path_store.specs.Cells.{numbered, numbered-some, numbered-less}
 use Rattle.path_store.specs.Walk.{hits, chain, chain_from, run, after, Runs, Graph, sole, next, run-zero, run_more, run_length, run-snoc, after-zero, after_more, runs-zero, runs-more, runs-now, runs-next, next_low, chain-end, chain-had, chain-on, chain-out, chain-plain, any-nil, hits-nil, hits-le, hits-step, any-hit, any-miss}
 
 module _ (index targets : List ℕ) where
@@ -22,6 +23,10 @@ module _ (index targets : List ℕ) where
   after-low g v zero h r = h
   after-low g v (suc n) h r = after-low g (next index targets v) n (next_low index targets g v r.0) r.1
 
+  -- where the sole edge at u leads
+  next-sole : (u e : ℕ) → numbered (get_or index u 0) ≡ Some e → next index targets u ≡ get_or targets e 0
+  next-sole u e h = ap (λ x. get_or targets x 0) (sym (numbered-less (get_or index u 0) e h))
+
   -- ---- chain_plain
   pub record Plainly (v limit u i : ℕ) : Type 0 where
     pub low : i ≤ limit
@@ -33,9 +38,10 @@ module _ (index targets : List ℕ) where
   plain-start v limit h = record { low = omega arith; runs = runs-zero index targets v; at = sym (after-zero index targets v); fits = h }
 
   module _ (v limit u i : ℕ) (p : Plainly v limit u i) where
-    pub plain-next : Graph index targets → i < limit → (get_or index u 0 ≡ 0 → ⊥) → Plainly v limit (next index targets u) (i + 1)
-    plain-next g l h =
-        let pos : 0 < get_or index u 0 = omega arith in
+    pub plain-next : (e : ℕ) → Graph index targets → i < limit → numbered (get_or index u 0) ≡ Some e → Plainly v limit (get_or targets e 0) (i + 1)
+    plain-next e g l h =
+        let pos : 0 < get_or index u 0 = omega (arith, numbered-some (get_or index u 0) e h) in
+        rw (← next-sole u e h)
         record {
           low = omega arith;
           runs = runs-more index targets v i p.runs (rw p.at at pos);
@@ -84,15 +90,19 @@ module _ (index targets : List ℕ) where
     pub slow-stop : get_or index u 0 ≡ 0 → Chained v i
     slow-stop h = record { is = sym p.left ∙ chain-end index targets (length targets - i) u (run index targets v i) h; runs = p.runs; low = p.low }
 
-    pub slow-had : (e : ℕ) → (get_or index u 0 ≡ 0 → ⊥) → e ≡ sole index u → any (eqb e) (run index targets v i) ≡ true → Chained v i
-    slow-had e h q k =
-        record { is = sym p.left ∙ chain-had index targets (length targets - i) u (run index targets v i) (omega arith) (rw q at k); runs = p.runs; low = p.low }
+    pub slow-had : (e : ℕ) → numbered (get_or index u 0) ≡ Some e → any (eqb e) (run index targets v i) ≡ true → Chained v i
+    slow-had e h k =
+        let q = numbered-less (get_or index u 0) e h in
+        let pos = numbered-some (get_or index u 0) e h in
+        record { is = sym p.left ∙ chain-had index targets (length targets - i) u (run index targets v i) (omega (arith, pos)) (rw q at k); runs = p.runs; low = p.low }
 
-    pub slow-next : (e : ℕ) → Graph index targets → i < length targets → (get_or index u 0 ≡ 0 → ⊥) → e ≡ sole index u → any (eqb e) (run index targets v i) ≡ false
-        → Slowly v (next index targets u) (i + 1)
-    slow-next e g l h x k =
-        let pos : 0 < get_or index u 0 = omega arith in
+    pub slow-next : (e : ℕ) → Graph index targets → i < length targets → numbered (get_or index u 0) ≡ Some e → any (eqb e) (run index targets v i) ≡ false
+        → Slowly v (get_or targets e 0) (i + 1)
+    slow-next e g l h k =
+        let x = numbered-less (get_or index u 0) e h in
+        let pos : 0 < get_or index u 0 = omega (arith, numbered-some (get_or index u 0) e h) in
         let q : length targets - (i + 1) ≡ length targets - i - 1 = omega arith in
+        rw (← next-sole u e h)
         record {
           low = omega arith;
           runs = runs-more index targets v i p.runs (rw p.at at pos);

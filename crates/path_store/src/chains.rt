@@ -1,8 +1,9 @@
-// Chains of single edges.
+// Chains of single edges. Each walk is a `for` over as many steps as are told and follows the links, so that it counts no index.
 ghost use Rattle.std.specs.Prelude.{◌≡◌, ◌+◌, ◌-◌, ◌<◌, ◌≤◌, eqb, length, get_or};
 ghost use Rattle.std.proofs.lemmas.List.Edits.{sets};
 ghost use Rattle.laws.specs.Lists.{any};
 ghost use Rattle.path_store.specs.Walk.{Graph, Runs, after, run, next, sole, hits};
+ghost use Rattle.path_store.specs.Cells.{numbered};
 ghost use Rattle.path_store.specs.Steps.{Plain, Chained};
 
 // The length of a chain, and the vertex that it leads to.
@@ -12,7 +13,8 @@ pub struct Chain {
     pub vertex: u32,
 }
 
-// `index` has for each vertex the number + 1 of its sole out-edge where a chain goes on there, else 0; `targets` has each edge's target.
+// `index` has for each vertex the number + 1 of its sole out-edge where a chain goes on there, else 0; `targets` has each edge's target. That the two fit
+// together, `Graph`, stays in the contracts: as an invariant of the type it would be asked of `sole`, and of those who make a `Chains` of any two slices.
 #[derive(Clone, Copy)]
 pub struct Chains<'i, 't> {
     pub index: &'i [u32],
@@ -20,8 +22,16 @@ pub struct Chains<'i, 't> {
 }
 
 impl<'i, 't> Chains<'i, 't> {
-    // The sole edge at a vertex where a chain goes on.
-    pub fn sole(self, v: u32) -> u32
+    // The sole edge at a vertex, where a chain goes on there.
+    pub fn sole(self, v: u32) -> Option<u32>
+        requires { v < length self.index.now }
+        ensures { result ≡ numbered (get_or self.entry.index.now v 0) }
+    {
+        self.index[v as usize].checked_sub(1)
+    }
+
+    // That edge, at a vertex where a chain is known to go on. (No Option, since its other arm would be tested at each step, which was tried, and slower.)
+    fn edge_on(self, v: u32) -> u32
         requires { (v < length self.index.now) × (0 < get_or self.index.now v 0) }
         ensures { result ≡ sole self.entry.index.now v }
     {
@@ -33,7 +43,7 @@ impl<'i, 't> Chains<'i, 't> {
         requires { Graph self.index.now self.targets.now × (v < length self.index.now) × (0 < get_or self.index.now v 0) }
         ensures { result ≡ next self.entry.index.now self.entry.targets.now v }
     {
-        self.targets[self.sole(v) as usize]
+        self.targets[self.edge_on(v) as usize]
     }
 
     // The steps from v until a stop, or as many as there are edges.
@@ -43,10 +53,10 @@ impl<'i, 't> Chains<'i, 't> {
     {
         let mut u = v;
         for steps in 0..self.targets.len() {
-            if self.index[u as usize] == 0 {
+            let Some(e) = self.sole(u) else {
                 return Chain { steps, vertex: u };
-            }
-            u = self.next(u);
+            };
+            u = self.targets[e as usize];
         }
         Chain {
             steps: self.targets.len(),
@@ -61,7 +71,7 @@ impl<'i, 't> Chains<'i, 't> {
     {
         let mut u = v;
         for _ in 0..n {
-            if e == self.sole(u) {
+            if e == self.edge_on(u) {
                 return true;
             }
             u = self.next(u);
@@ -76,10 +86,13 @@ impl<'i, 't> Chains<'i, 't> {
     {
         let mut u = v;
         for i in 0..self.targets.len() {
-            if self.index[u as usize] == 0 || self.among_chain(v, i, self.sole(u)) {
+            let Some(e) = self.sole(u) else {
+                return i;
+            };
+            if self.among_chain(v, i, e) {
                 return i;
             }
-            u = self.next(u);
+            u = self.targets[e as usize];
         }
         self.targets.len()
     }
@@ -133,7 +146,7 @@ impl<'i, 't> Chains<'i, 't> {
     {
         let mut u = start;
         for place in &mut out[at..at + c as usize] {
-            *place = self.sole(u);
+            *place = self.edge_on(u);
             u = self.next(u);
         }
     }

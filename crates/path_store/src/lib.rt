@@ -4,3 +4,4 @@
 
 pub mod chains; // chains.rt: the chain of single edges after a vertex
 pub mod records; // records.rt: the record of a path, read from the slices and written to them
+pub mod upward; // upward.rt: the records of a path from its own up to the start path

@@ -26,7 +26,8 @@ const MARKS: usize = 8;
 // A path: its score, its parent's number + 1 (0: the start path, which has no edges), the piece that it adds to its parent's edges (the length of the
 // chain followed from the parent's last vertex, then the last edge + 1, or 0 where it ends with the chain), how many edges it has in all, its last
 // vertex, the vertex that the chain leads to, the decisions since guidance, the vertex + 1 whose tree joined when the path was taken (0: none), how
-// many active trees it has, and whether it was recovered, so that all its vertices with a tree count as visited.
+// many active trees it has, and whether it was recovered, so that all its vertices with a tree count as visited. Fields of Option<u32> were tried, and
+// slower: each reading of a record then tells of three numbers whether they are there, also where they are not asked for.
 #[derive(Clone, Copy)]
 pub struct PathRecord {
     pub score: f64,
@@ -58,7 +59,8 @@ impl PathRecord {
     }
 }
 
-// The records of the paths, and beside them their scores.
+// The records of the paths, and beside them their scores, since a table of u32 has no place for an f64. Who writes them takes two `&mut`: held in a struct,
+// each contract would have to say of each which slice was lent.
 #[derive(Clone, Copy)]
 pub struct Paths<'r, 's> {
     pub records: &'r [u32],

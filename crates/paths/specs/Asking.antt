@@ -19,11 +19,10 @@ use Rattle.list_work.specs.Outcome.{Outputs, Tables}
 use Rattle.list_call.specs.Within.{lengths_of}
 use Rattle.text_form.specs.Numbers.{k-within}
 use Rattle.text_form.specs.Parts.{part}
-use Rattle.paths_text.specs.Sources.{Ready}
+use Rattle.paths_text.specs.Sources.{Parted, parted-of, Ready}
 use Rattle.paths_text.specs.Program.{asked-most}
 use Rattle.text_form.specs.declared.header.Settings as text
 use Rattle.paths_text.specs.declared.source.Source.{Source}
-use Rattle.paths_input.specs.Checking.{Parted, parted-of}
 use Rattle.paths_input.specs.Asked.{settings_of}
 
 -- what was read and not refused: its parts, and k and the paths asked

@@ -1,4 +1,6 @@
 // From what was read to what is printed: 14 before all others, then 1 to 5, then the call for the list, then the lines.
+// Each function that writes lines asks that the text has room for 2,491 bytes, the most that is printed: it is lent, so no type of this project holds
+// that.
 ghost use Rattle.std.specs.Prelude.{◌≡◌, ◌≤◌, [], length};
 ghost use Rattle.std.proofs.Math.Option.{some};
 ghost use Rattle.definition.specs.Listing as definition;
@@ -19,7 +21,6 @@ use paths_output::listing::write_list;
 use paths_output::writing::write_refused;
 use paths_text::source::Source;
 use refusals::Refusal;
-use samples::Text;
 
 // The line of a refusal.
 fn refuse(text: &mut [u8], refusal: Refusal) -> usize
@@ -29,7 +30,7 @@ fn refuse(text: &mut [u8], refusal: Refusal) -> usize
     write_refused(text, 0, u32::from(refusal))
 }
 
-// The lines of the answer.
+// The lines of the answer. (A refusal stands in the exported answer as its number, and 0 where there is none.)
 fn write_answer(
     text: &mut [u8],
     a: ListAnswer,
@@ -62,15 +63,12 @@ fn input_at<'a>(s: Source, text: &'a [u8], ends: &'a [u32], column: &'a [f64]) -
     requires { Accepted text.now ends.now s }
     ensures { handed result ≡ input_here s text.now ends.now column.now }
 {
-    let parts = Text {
-        reference: &text[s.reference..s.past],
-        bases: &text[s.bases..s.qualities],
-    };
+    let parts = s.sample(text, ends);
     Input {
         settings: settings_of(s.settings),
-        text: parts,
-        ends: &ends[..s.ends],
-        qualities: &text[s.qualities..s.end],
+        text: parts.text,
+        ends: parts.ends,
+        qualities: parts.qualities,
         column,
     }
 }

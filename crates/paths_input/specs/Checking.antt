@@ -1,5 +1,5 @@
 -- The text as it was read, and checked.
-use Rattle.std.specs.Prelude.{◌≡◌, refl, ◌⊎◌, List, ℕ, ◌≤◌, length, Result, Ok, Err}
+use Rattle.std.specs.Prelude.{◌≡◌, refl, ◌⊎◌, List, ℕ, Result, Ok, Err}
 use Rattle.std.proofs.Common.{ap, inl, inr, arith}
 use Rattle.std.proofs.Math.Option.{Option, none, some}
 use Rattle.definition.specs.Refusal.{first_broken}
@@ -9,26 +9,6 @@ use Rattle.paths_text.specs.declared.source.Source.{Source}
 use Rattle.refusals.specs.Numbers.{number}
 use Rattle.refusals.specs.declared.Refusal.{Refusal}
 use Rattle.refusals.specs.declared.Refusal.TheVariants.{Malformed}
-
--- the parts lie within the text and the ends
-pub record Parted (T E : List ℕ) (s : Source) : Type 0 where
-  pub reference-rises : s.reference ≤ s.past
-  pub bases-behind : s.past ≤ s.bases
-  pub bases-rise : s.bases ≤ s.qualities
-  pub qualities-rise : s.qualities ≤ s.end
-  pub inside : s.end ≤ length T
-  pub ends-inside : s.ends ≤ length E
-
-pub parted-of : {T E : List ℕ} {s : Source} {t : Text} → Ready T E s t → Parted T E s
-parted-of d =
-    record {
-      reference-rises = d.reference-rises;
-      bases-behind = d.bases-behind;
-      bases-rise = d.bases-rise;
-      qualities-rise = d.qualities-rise;
-      inside = d.inside;
-      ends-inside = d.ends-inside;
-    }
 
 -- what `check_input` answers
 abbrev pub CheckSays : Option Text → List ℕ → List ℕ → Result Source Refusal → Type 0

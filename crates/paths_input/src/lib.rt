@@ -6,8 +6,8 @@ ghost use Rattle.definition.specs.Refusal.{first_broken};
 ghost use Rattle.definition.specs.Text as definition;
 ghost use Rattle.refusals.specs.Numbers.{refusal_of};
 ghost use Rattle.whole_input.specs.Readings.{Within, input_of};
-ghost use Rattle.paths_text.specs.Sources.{Ready};
-ghost use Rattle.paths_input.specs.Checking.{Parted, CheckSays};
+ghost use Rattle.paths_text.specs.Sources.{Parted, Ready};
+ghost use Rattle.paths_input.specs.Checking.{CheckSays};
 ghost use Rattle.paths_input.specs.Columns.{ColumnTaken};
 ghost use Rattle.paths_input.specs.Asked.{settings_of};
 
@@ -17,7 +17,6 @@ use paths_text::check::check_text;
 use paths_text::column::read_column;
 use paths_text::source::{Source, read_text};
 use refusals::Refusal;
-use samples::Text;
 use text_form::header;
 
 // The column of a file of which `read` bytes were read into `bytes`, and how many entries it has; a file not read whole is answered like one that is
@@ -36,18 +35,8 @@ fn check_source(s: Source, text: &[u8], ends: &[u32]) -> Result<(), Refusal>
     ensures { (t : definition.Text) → Ready text.now ends.now s t
         → refusal_of result ≡ first_broken (definition.text_rules t) }
 {
-    let parts = Text {
-        reference: &text[s.reference..s.past],
-        bases: &text[s.bases..s.qualities],
-    };
-    check_text(
-        s.settings,
-        parts,
-        &ends[..s.ends],
-        &text[s.qualities..s.end],
-        s.count,
-        s.even,
-    )
+    let parts = s.sample(text, ends);
+    check_text(s.settings, parts.text, parts.ends, parts.qualities, s.tally)
 }
 
 // The text read and checked: 14, or 1 to 5.

@@ -1,4 +1,5 @@
 // What is printed, written into a lent slice one piece behind the other. Each writer tells the place behind what it wrote.
+// (`out` and `at` are a lent slice and the place behind what is written in it: a `String` needs a heap.)
 // Not by `write!`: it may fail, and std promises its text only where it did not, while these writers cannot fail.
 ghost use Rattle.std.specs.Prelude.{◌≡◌, not, [], ◌∷◌, ◌++◌, ◌+◌, ◌<◌, ◌≤◌, T, length};
 ghost use Rattle.std.specs.Float.Ieee.{is_nan};

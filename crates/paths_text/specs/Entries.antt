@@ -1,6 +1,6 @@
 -- The column file decoded: numbers of eight bytes, and the floats that they are the patterns of.
-use Rattle.std.specs.Prelude.{◌≡◌, refl, Bool, true, false, not, ◌&&◌, List, [], ◌∷◌, ◌++◌, ℕ, zero, suc, ◌+◌, ◌*◌, ◌/◌, ◌%◌, ◌<◌, ◌≤◌, T, eqb, Option as Maybe, Some, None, length, take, drop, get_or, set, Float}
-use Rattle.std.proofs.Common.{sym, ap, ◌∙◌, arith, add-one, zero-add, length-set, drop-cons, drop-drop, take_all, le-leb, eq-eqb, ne_eqb}
+use Rattle.std.specs.Prelude.{◌≡◌, refl, Bool, true, false, not, ◌&&◌, List, [], ◌∷◌, ◌++◌, ℕ, zero, suc, ◌+◌, ◌*◌, ◌/◌, ◌%◌, ◌<◌, ◌≤◌, T, eqb, Option as Maybe, Some, None, length, take, drop, get_or, set, Float, IfSome}
+use Rattle.std.proofs.Common.{sym, ap, ◌∙◌, arith, add-one, zero-add, length-set, length-append, drop-cons, drop-drop, take_all, le-leb, eq-eqb, ne_eqb}
 use Rattle.std.proofs.Math.Option.{Option, none, some}
 use Rattle.std.proofs.lemmas.List.Edits.{sets}
 use Rattle.std.specs.Int.{w64, from_le_bytes}
@@ -130,3 +130,13 @@ column-read bs old now i e h r d k =
       ap (λ (m : ℕ). Some m) (sym l),
       d.is ∙ ap (λ (m : ℕ). sets old 0 (entries m bs)) n ∙ sym (written-sets 0 (entries (length bs / 8) bs) old (omega arith)),
     )
+
+-- as many entries as the column has places for
+pub entries-fit : (o : Option (List Float)) (old now : List Float) (r : Maybe ℕ) → Decoded o old now r → length now ≡ length old → IfSome r (λ n. n ≤ length old)
+unfolding written_at
+entries-fit none old now r q k = let e = q.0 in rw e tt
+entries-fit (some es) old now r q k =
+    let a = length-append es (drop (0 + length es) old) in
+    let f : length now ≡ length (es ++ drop (0 + length es) old) = ap length q.1 in
+    let e = q.0 in
+    rw e (omega arith)

@@ -11,6 +11,7 @@ use Rattle.text_form.specs.Reads.{reads_from, Laid, FormSays}
 use Rattle.paths_text.specs.Moves.{drop_here, slice-before}
 use Rattle.paths_text.specs.Gather.{Gathers, Gathered, length-ends}
 use Rattle.paths_text.specs.Checks.{Handed}
+use Rattle.samples.specs.declared.Sample.{Sample}
 use Rattle.text_form.specs.declared.reads.Layout.{Layout}
 use Rattle.paths_text.specs.declared.source.Source.{Source}
 
@@ -24,8 +25,7 @@ ungathered l =
       qualities = l.reads;
       end = l.reads;
       ends = 0;
-      count = l.count;
-      even = l.even;
+      tally = l.tally;
     }
 
 abbrev gathered : Layout → ℕ → Source
@@ -37,22 +37,50 @@ gathered l n =
       bases = l.reads;
       qualities = l.reads + n;
       end = (l.reads + n) + n;
-      ends = l.count;
-      count = l.count;
-      even = l.even;
+      ends = l.tally.count;
+      tally = l.tally;
     }
 
 -- the parts of the text T and the ends E are those of t, and lie within them
 pub record Ready (T E : List ℕ) (s : Source) (t : Text) : Type 0 where
   pub handed :
       Handed s.settings (part s.reference s.past T) (take s.ends E) (part s.bases s.qualities T) (part s.qualities s.end T)
-      s.count s.even t
+      s.tally.count s.tally.even t
   pub reference-rises : s.reference ≤ s.past
   pub bases-behind : s.past ≤ s.bases
   pub bases-rise : s.bases ≤ s.qualities
   pub qualities-rise : s.qualities ≤ s.end
   pub inside : s.end ≤ length T
   pub ends-inside : s.ends ≤ length E
+
+-- the parts lie within the text and the ends
+pub record Parted (T E : List ℕ) (s : Source) : Type 0 where
+  pub reference-rises : s.reference ≤ s.past
+  pub bases-behind : s.past ≤ s.bases
+  pub bases-rise : s.bases ≤ s.qualities
+  pub qualities-rise : s.qualities ≤ s.end
+  pub inside : s.end ≤ length T
+  pub ends-inside : s.ends ≤ length E
+
+pub parted-of : {T E : List ℕ} {s : Source} {t : Text} → Ready T E s t → Parted T E s
+parted-of d =
+    record {
+      reference-rises = d.reference-rises;
+      bases-behind = d.bases-behind;
+      bases-rise = d.bases-rise;
+      qualities-rise = d.qualities-rise;
+      inside = d.inside;
+      ends-inside = d.ends-inside;
+    }
+
+-- the parts, as the calls take them
+pub record Sampled (T E : List ℕ) (s : Source) (r : Sample) : Type 0 where
+  pub k : r.k ≡ s.settings.k
+  pub quality : r.quality ≡ s.settings.quality
+  pub reference : r.text.reference.now ≡ part s.reference s.past T
+  pub bases : r.text.bases.now ≡ part s.bases s.qualities T
+  pub ends : r.ends.now ≡ take s.ends E
+  pub qualities : r.qualities.now ≡ part s.qualities s.end T
 
 abbrev pub TextSays : Option Text → List ℕ → List ℕ → List ℕ → List ℕ → Maybe Source → Type 0
 TextSays none T T' E E' r = (r ≡ None) × (T' ≡ T) × (E' ≡ E)
@@ -78,7 +106,7 @@ module _ (T E : List ℕ) where
     said = form-some T (text_of T) l q
 
     -- reads that are refused are left where they are
-    left : (s : Source) → s ≡ ungathered l → (l.even ≡ true → l.count ≤ 512 → ⊥) → TextSays (text_of T) T T E E (Some s)
+    left : (s : Source) → s ≡ ungathered l → (l.tally.even ≡ true → l.tally.count ≤ 512 → ⊥) → TextSays (text_of T) T T E E (Some s)
     left s x k =
         let d = said.2 in
         let e = said.1 in
@@ -106,14 +134,14 @@ module _ (T E : List ℕ) where
               }),
         )
 
-    pub text-uneven : (s : Source) → s ≡ ungathered l → l.even ≡ false → TextSays (text_of T) T T E E (Some s)
+    pub text-uneven : (s : Source) → s ≡ ungathered l → l.tally.even ≡ false → TextSays (text_of T) T T E E (Some s)
     text-uneven s x k = left s x (λ a c. clash (sym a ∙ k))
 
-    pub text-many : (s : Source) → s ≡ ungathered l → 512 < l.count → TextSays (text_of T) T T E E (Some s)
+    pub text-many : (s : Source) → s ≡ ungathered l → 512 < l.tally.count → TextSays (text_of T) T T E E (Some s)
     text-many s x k = left s x (λ a c. (omega arith))
 
-    module _ (even : l.even ≡ true) (few : l.count ≤ 512) (room : 512 ≤ length E) where
-      pub gather-asks : Gathers T E l.reads l.count
+    module _ (even : l.tally.even ≡ true) (few : l.tally.count ≤ 512) (room : 512 ≤ length E) where
+      pub gather-asks : Gathers T E l.reads l.tally.count
       gather-asks =
           let d = said.2 in
           record {
@@ -174,12 +202,12 @@ module _ (T E : List ℕ) where
             ∙ ap (λ (i : ℕ). take i (Q ++ Z)) long.2
             ∙ take-append_seam Q Z
 
-        ends-part : take l.count E' ≡ ends_from 0 said.0.reads
+        ends-part : take l.tally.count E' ≡ ends_from 0 said.0.reads
         unfolding written_at
         ends-part =
             let xs : List ℕ = ends_from 0 said.0.reads in
-            let c : l.count ≡ length xs = said.2.count ∙ sym (length-ends 0 said.0.reads) in
-            ap (take l.count) G.ends ∙ ap (λ (i : ℕ). take i (xs ++ drop (0 + length xs) E)) c ∙ take-append_seam xs (drop (0 + length xs) E)
+            let c : l.tally.count ≡ length xs = said.2.count ∙ sym (length-ends 0 said.0.reads) in
+            ap (take l.tally.count) G.ends ∙ ap (λ (i : ℕ). take i (xs ++ drop (0 + length xs) E)) c ∙ take-append_seam xs (drop (0 + length xs) E)
 
         reference-part : slice l.reference l.past T' ≡ said.0.reference
         reference-part =

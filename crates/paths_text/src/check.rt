@@ -9,6 +9,7 @@ ghost use Rattle.paths_text.specs.Checks.{Handed};
 use refusals::Refusal;
 use samples::{Sample, Text};
 use text_form::header::Settings;
+use text_form::reads::Tally;
 
 // 4, unless one of 1 to 3 comes before it.
 fn refuse_reads(k: u32, reference: &[u8]) -> Result<(), Refusal>
@@ -18,19 +19,19 @@ fn refuse_reads(k: u32, reference: &[u8]) -> Result<(), Refusal>
     Err(Refusal::Reads)
 }
 
-// 1 to 5. The ends, bases and qualities are looked at only where the reads are even and no more than 512.
+// 1 to 5. The ends, bases and qualities are looked at only where the reads are even and no more than 512. (The parts come one by one: a `Sample` has a k
+// and a quality too, and would have to be asked to agree with the settings beside it, while this call asks nothing.)
 pub fn check_text(
     settings: Settings,
     text: Text,
     ends: &[u32],
     qualities: &[u8],
-    count: usize,
-    even: bool,
+    tally: Tally,
 ) -> Result<(), Refusal>
-    ensures { (t : definition.Text) → Handed settings text.entry.reference.now ends.now text.entry.bases.now qualities.now count even t
+    ensures { (t : definition.Text) → Handed settings text.entry.reference.now ends.now text.entry.bases.now qualities.now tally.count tally.even t
         → refusal_of result ≡ first_broken (definition.text_rules t) }
 {
-    if !even || count > 512 {
+    if !tally.even || tally.count > 512 {
         return refuse_reads(settings.k, text.reference);
     }
     limits::check_sample(Sample {

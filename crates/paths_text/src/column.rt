@@ -37,6 +37,7 @@ pub fn read_column(bytes: &[u8], column: &mut [f64]) -> Option<usize>
         return None;
     }
     let count = size / 8;
+    // By place: with `chunks_exact` each turn would have to show that its chunk has eight bytes, and the entries would need an iterator beside it.
     for i in 0..count {
         column[i] = float_of(word_at(bytes, i * 8));
     }

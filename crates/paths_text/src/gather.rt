@@ -19,7 +19,8 @@ pub struct Gathering {
     pub reads: usize,
 }
 
-// The bytes between two places, moved to a place before them, each smaller by `less`.
+// The bytes between two places, moved to a place before them, each smaller by `less`. (By place: both parts lie in the one buffer, which no iterator lends
+// twice.)
 fn move_bytes(text: &mut [u8], from: usize, to: usize, dest: usize, less: u8)
     requires { Moves text.old from to dest less }
     ensures { text.new ≡ written_at dest (lessened less (slice from to text.old)) text.old }
@@ -70,7 +71,8 @@ fn next_read(text: &mut [u8], ends: &mut [u32], from: usize, g: Gathering) -> Ga
     }
 }
 
-// All reads are gathered; the number of bases is told, and that of the qualities is the same.
+// All reads are gathered; the number of bases is told, and that of the qualities is the same. (The ends are lent for the most reads that are gathered, so
+// how many reads there are is told beside them.)
 pub fn gather(text: &mut [u8], ends: &mut [u32], from: usize, count: usize) -> usize
     requires { Gathers text.old ends.old from count }
     ensures { (reads : List ReadLines) → reads_from text.old from ≡ some reads

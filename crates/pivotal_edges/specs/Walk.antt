@@ -6,11 +6,11 @@ use Rattle.laws.specs.Lists.{keep}
 use Rattle.laws.specs.ListLaws.{all_from, keep_all}
 use Rattle.definition.specs.Threading.{Ends, Edge, leaving}
 use Rattle.definition.specs.Search.{among}
-use Rattle.assembly.specs.Fields.{HasVertex, out_edge, HasEdges, HasEdge, edge_to}
+use Rattle.assembly.specs.Fields.{HasVertex, HasEdges, HasEdge, edge_to}
 use Rattle.assembly.specs.Table.{Distinct}
 use Rattle.assembly.specs.Store.{edge_at, edges_of}
-use Rattle.out_edges.specs.Outs.{Slots, Names, Nexts, out_from, nexts-none, nexts-some, slots-names}
-use Rattle.out_edges.specs.Walked.{Begun, Steps, turned}
+use Rattle.out_edges.specs.Outs.{Slots, Nexts, out_from, nexts-none, nexts-some}
+use Rattle.out_edges.specs.Walked.{Named, named, Begun, Steps, turned}
 use Rattle.out_edges.specs.declared.Graph.{Graph}
 use Rattle.out_edges.specs.declared.OutEdges.{OutEdges}
 use Rattle.pivotal_edges.specs.Queue.{ends_at}
@@ -42,8 +42,8 @@ unfolding out_from
 leaving-from es v = keep_all (λ (e : Edge). leb 0 e.ends.to) (all_from (leaving es v) (λ e h. le-leb 0 e.ends.to (omega arith)))
 
 module _ {vs es : List ℕ} {m v : ℕ} (k : Here vs es m v) where
-  pub next-asks : (HasVertex vs v) × ((c : ℕ) → c < 8 → Names es (out_edge vs v c))
-  next-asks = (k.v-in, slots-names (k.linked.slots v k.v-in) k.linked.room)
+  pub next-asks : Named vs es v
+  next-asks = named k.v-in (k.linked.slots v k.v-in) k.linked.room
 
   pub here-slots : Slots vs es m v
   here-slots = k.linked.slots v k.v-in
@@ -65,18 +65,24 @@ module _ {vs es : List ℕ} {m v : ℕ} (k : Here vs es m v) where
     pub next-again : {w : ℕ} {s : Option ℕ} → w ≡ edge_to es i + 1 → Nexts es m v w s → Nexts es m v (edge_to es i + 1) s
     next-again {s = s} e y = subst (λ (z : ℕ). Nexts es m v z s) e y
 
+-- ---- the out-edges, by the first of them
+module _ {vs es : List ℕ} {m v : ℕ} (k : Here vs es m v) where
+  pub leaving-none : Nexts es m v 0 None → leaving (edges_of es m) v ≡ []
+  leaving-none x = sym (leaving-from (edges_of es m) v) ∙ next-none k x
+
+  pub leaving-some : {i : ℕ} → Nexts es m v 0 (Some i) → leaving (edges_of es m) v ≡ edge_at es i ∷ out_from (edges_of es m) v (edge_to es i + 1)
+  leaving-some x = sym (leaving-from (edges_of es m) v) ∙ next-some k x
+
 -- ---- forks: a second out-edge
 module _ {vs es : List ℕ} {m v : ℕ} (k : Here vs es m v) where
   pub fork-none : Nexts es m v 0 None → false ≡ ltb 1 (length (leaving (edges_of es m) v))
-  fork-none x =
-      let e : leaving (edges_of es m) v ≡ [] = sym (leaving-from (edges_of es m) v) ∙ next-none k x in
-      rw e
+  fork-none x = rw (leaving-none k x)
 
   pub fork-is : {i w : ℕ} {s : Option ℕ} → Nexts es m v 0 (Some i) → w ≡ edge_to es i + 1 → Nexts es m v w s → is_some s ≡ ltb 1 (length (leaving (edges_of es m) v))
   fork-is {i} {w} {s} x e again = go s (next-again k x e again)
     where
       f : leaving (edges_of es m) v ≡ edge_at es i ∷ out_from (edges_of es m) v (edge_to es i + 1)
-      f = sym (leaving-from (edges_of es m) v) ∙ next-some k x
+      f = leaving-some k x
 
       go : (s : Option ℕ) → Nexts es m v (edge_to es i + 1) s → is_some s ≡ ltb 1 (length (leaving (edges_of es m) v))
       go None y = sym (le-ltb 1 (length (leaving (edges_of es m) v)) (let u = ap length f in let q = ap length (next-none k y) in omega arith))

@@ -1,4 +1,5 @@
 // The pivotal edges: those of forks, by their distance from the source and then by their ends.
+// Each function asks for the rows that it reads or writes: the tables are lent slices of numbers, so no type of this project holds that they are there.
 #![tactic(auto)]
 
 ghost use Rattle.std.specs.Prelude.{◌≡◌, true, List, ◌∷◌, ◌+◌, ◌*◌, ◌/◌, ◌%◌, ◌<◌, ◌≤◌, ltb, length};
@@ -17,7 +18,7 @@ ghost use Rattle.pivotal_edges.specs.Turns.{Pivots, Pivoted};
 use assembly::{edge_from, edge_is_ref, edge_support, edge_to};
 use out_edges::Graph;
 
-// A queued edge is one number: its distance from the source 8192 times, and its number.
+// A queued edge is one number, its distance from the source 8192 times and its number, so that an entry of the lent queue is one number.
 const LEVEL: usize = 8192;
 
 fn level_of(x: u32) -> usize
@@ -44,7 +45,8 @@ fn earlier(edges: &[u32], a: u32, b: u32) -> bool
     x < y
 }
 
-// Where x goes among the entries from front to tail: before the first that does not come earlier.
+// Where x goes among the entries from front to tail: before the first that does not come earlier. A loop, since the closure of `position` would have to
+// show at each turn what `earlier` asks, and `partition_point` that the entries are in order.
 fn place(edges: &[u32], queue: &[u32], front: usize, tail: usize, x: u32) -> usize
     requires { Known edges.now queue.now front tail x }
     ensures { Placed edges.now queue.now front tail x result }
@@ -91,7 +93,8 @@ fn counted(edges: &[u32], i: usize) -> bool
     edge_support(edges, i) != 1 || !edge_is_ref(edges, i)
 }
 
-// Edge i of a fork is listed, unless it is visited or a reference edge of support 1.
+// Edge i of a fork is listed, unless it is visited or a reference edge of support 1. A mark is a number, 0 where the edge is not visited, since the marks
+// stand in a lent slice of numbers.
 fn list_edge(edges: &[u32], i: usize, visited: &[u32], out: &mut [u32], n: usize) -> usize
     requires { (HasEdge edges.now i) × (i < length visited.now) × (i < 8192) × (takes edges.now visited.now i ≡ true → n < length out.old) }
     ensures { OneListed edges.now visited.now out.old out.new i n result }

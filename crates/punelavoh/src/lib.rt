@@ -11,9 +11,9 @@ ghost use Rattle.list_work.specs.Outcome.{outputs_of, tables_of};
 ghost use Rattle.row_counts.specs.Told.{columns_told};
 ghost use Rattle.punelavoh.specs.Records.{ColumnsFit, Cleared, ListCalled};
 
+use assembly::Origin;
 use graph_call::GraphAnswer;
-use graph_rows::clear;
-use limits::{GraphMaxima, SearchMaxima};
+use limits::{GraphMaxima, Maxima, SearchMaxima, Sequences};
 use list_call::list_columns;
 use list_interface::{Input, ListAnswer, Settings};
 use origins::OriginAnswer;
@@ -36,12 +36,12 @@ fn clear_columns(
     ensures { Cleared (columns_told r.refusal settings.asked) row_scores.old row_scores.new row_closings.old row_closings.new row_edges.old row_edges.new }
 {
     let n = columns_told(settings, r);
-    clear(row_scores, n, 0.0);
-    clear(row_closings, n, 0);
-    clear(row_edges, n, 0);
+    row_scores[..n].fill(0.0);
+    row_closings[..n].fill(0);
+    row_edges[..n].fill(0);
 }
 
-// ---- the calls
+// ---- the calls; their parameters are loose, since C lends them so: a slice is a place and a length, and no struct of slices has a form in C
 
 // Writes the rows of edges and of tree nodes.
 pub fn punelavoh_graph(
@@ -84,7 +84,12 @@ pub fn punelavoh_lengths(
 ) -> LengthsTold
     ensures { Told k paths (graph_maxima_of graph) (search_maxima_of search) result }
 {
-    slice_lengths::lengths(k, paths, graph, search)
+    let maxima = Maxima {
+        asked: paths,
+        graph,
+        search,
+    };
+    slice_lengths::lengths(k, maxima)
 }
 
 // Tells which part of the reference (in_reads 0) or of the read bases (in_reads 1) an origin names.
@@ -99,7 +104,12 @@ pub fn punelavoh_origin(
     ensures { Names k reference.now ends.now bases.now (origin sequence place)
         (origin_call k reference.now ends.now bases.now (origin sequence place)) result }
 {
-    origins::origin_part(k, Text { reference, bases }, ends, sequence, place)
+    let sequences = Sequences {
+        k,
+        text: Text { reference, bases },
+        ends,
+    };
+    origins::origin_part(sequences, Origin { sequence, place })
 }
 
 // Writes the list. Its rows are first made in three columns, which are cleared like the rest of the workspace.

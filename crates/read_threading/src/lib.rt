@@ -1,4 +1,6 @@
 // Threading of the reads in order: of each its usable runs, one after the other, where they are long enough.
+// The tables are lent one by one: a struct of `&mut` slices would need in each contract a clause on which slice it lends.
+// Each function asks for the rows that it reads or writes: the tables are lent slices of numbers, so no type of this project holds that they are there.
 #![tactic(auto)]
 
 ghost use Rattle.std.specs.Prelude.{◌+◌, ◌*◌, length};
@@ -11,111 +13,80 @@ ghost use Rattle.read_threading.specs.ThreadRuns.{thread_run};
 ghost use Rattle.read_threading.specs.Reads.{RunThreads, ReadOf, ReadsOf, read_in, reads_in};
 
 use assembly::Origin;
-use kmer_threading::{At, Most};
+use kmer_threading::{At, Ground};
 use refusals::Refusal;
-use samples::Sample;
 use sequence_threading::thread_sequence;
-use usable_stretches::run_end;
+use usable_stretches::usable_runs;
 
 // A usable run of `len` bytes at place a of the text: only runs of at least k bytes are threaded.
 fn thread_run(
-    sample: Sample,
+    d: &Ground,
     vertices: &mut [u32],
     edges: &mut [u32],
     index: &mut [u32],
-    most: Most,
     s: At,
     a: usize,
     len: usize,
     origin: Origin,
 ) -> Result<At, Refusal>
-    requires { RunThreads sample.k (text_of sample.text) vertices.old edges.old most s a len origin.place × Indexes sample.k (text_of sample.text) vertices.old index.old most s.vertices }
-    ensures { Threaded sample.entry.k (text_of sample.entry.text) vertices.new edges.new most (s.steps + 2 * len) result (thread_run sample.entry.k (stretch_at (text_of sample.entry.text) a len origin.sequence origin.place) (graph_of sample.entry.k (text_of sample.entry.text) vertices.old s.vertices edges.old s.edges)) × Keeps sample.entry.k (text_of sample.entry.text) vertices.new index.new most result }
+    requires { RunThreads d.now.sample.k (text_of d.now.sample.text) vertices.old edges.old d.now.most s a len origin.place × Indexes d.now.sample.k (text_of d.now.sample.text) vertices.old index.old d.now.most s.vertices }
+    ensures { Threaded d.now.sample.k (text_of d.now.sample.text) vertices.new edges.new d.now.most (s.steps + 2 * len) result (thread_run d.now.sample.k (stretch_at (text_of d.now.sample.text) a len origin.sequence origin.place) (graph_of d.now.sample.k (text_of d.now.sample.text) vertices.old s.vertices edges.old s.edges)) × Keeps d.now.sample.k (text_of d.now.sample.text) vertices.new index.new d.now.most result }
 {
-    let k = sample.k as usize;
+    let k = d.sample.k as usize;
     if len < k {
         return Ok(s);
     }
-    thread_sequence(
-        sample.text,
-        vertices,
-        edges,
-        index,
-        k,
-        most,
-        s,
-        a,
-        len,
-        false,
-        origin,
-    )
+    thread_sequence(d, vertices, edges, index, s, a, len, false, origin)
 }
 
 // The read that lies from `start` to `end` of the bases: one usable run after the other.
 fn thread_read(
-    sample: Sample,
+    d: &Ground,
     vertices: &mut [u32],
     edges: &mut [u32],
     index: &mut [u32],
-    most: Most,
     s0: At,
     start: usize,
     end: usize,
     sequence: u32,
 ) -> Result<At, Refusal>
-    requires { ReadOf (sample_of sample) vertices.old edges.old most s0 start end × Indexes sample.k (text_of sample.text) vertices.old index.old most s0.vertices }
-    ensures { Threaded sample.entry.k (text_of sample.entry.text) vertices.new edges.new most (2 * (length sample.entry.text.reference.now + end)) result (thread_all sample.entry.k (read_in (sample_of sample.entry) sequence start end) (graph_of sample.entry.k (text_of sample.entry.text) vertices.old s0.vertices edges.old s0.edges)) × Keeps sample.entry.k (text_of sample.entry.text) vertices.new index.new most result }
+    requires { ReadOf (sample_of d.now.sample) vertices.old edges.old d.now.most s0 start end × Indexes d.now.sample.k (text_of d.now.sample.text) vertices.old index.old d.now.most s0.vertices }
+    ensures { Threaded d.now.sample.k (text_of d.now.sample.text) vertices.new edges.new d.now.most (2 * (length d.now.sample.text.reference.now + end)) result (thread_all d.now.sample.k (read_in (sample_of d.now.sample) sequence start end) (graph_of d.now.sample.k (text_of d.now.sample.text) vertices.old s0.vertices edges.old s0.edges)) × Keeps d.now.sample.k (text_of d.now.sample.text) vertices.new index.new d.now.most result }
 {
-    let n = sample.text.reference.len();
+    let n = d.sample.text.reference.len();
     let mut s = s0;
-    let mut p = start;
-    // Each turn is a run of usable bytes or of others, not a byte.
-    while p < end {
-        let q = run_end(sample, p, end);
+    for run in usable_runs(d.sample, start, end) {
         let origin = Origin {
             sequence,
-            place: (p - start) as u32,
+            place: (run.from - start) as u32,
         };
-        let r = thread_run(
-            sample,
-            vertices,
-            edges,
-            index,
-            most,
-            s,
-            n + p,
-            q - p,
-            origin,
-        );
+        let len = run.to - run.from;
+        let r = thread_run(d, vertices, edges, index, s, n + run.from, len, origin);
         let Ok(t) = r else {
             return r;
         };
         s = t;
-        p = q + 1;
     }
     Ok(s)
 }
 
 // All reads in order, numbered from 1.
 pub fn thread_reads(
-    sample: Sample,
+    d: &Ground,
     vertices: &mut [u32],
     edges: &mut [u32],
     index: &mut [u32],
-    most: Most,
     s0: At,
 ) -> Result<At, Refusal>
-    requires { ReadsOf (sample_of sample) vertices.old edges.old most s0 × Indexes sample.k (text_of sample.text) vertices.old index.old most s0.vertices }
-    ensures { Threaded sample.entry.k (text_of sample.entry.text) vertices.new edges.new most (2 * length (text_of sample.entry.text)) result (thread_all sample.entry.k (reads_in (sample_of sample.entry)) (graph_of sample.entry.k (text_of sample.entry.text) vertices.old s0.vertices edges.old s0.edges)) × Keeps sample.entry.k (text_of sample.entry.text) vertices.new index.new most result }
+    requires { ReadsOf (sample_of d.now.sample) vertices.old edges.old d.now.most s0 × Indexes d.now.sample.k (text_of d.now.sample.text) vertices.old index.old d.now.most s0.vertices }
+    ensures { Threaded d.now.sample.k (text_of d.now.sample.text) vertices.new edges.new d.now.most (2 * length (text_of d.now.sample.text)) result (thread_all d.now.sample.k (reads_in (sample_of d.now.sample)) (graph_of d.now.sample.k (text_of d.now.sample.text) vertices.old s0.vertices edges.old s0.edges)) × Keeps d.now.sample.k (text_of d.now.sample.text) vertices.new index.new d.now.most result }
 {
     let mut s = s0;
     let mut start: usize = 0;
-    for (j, e) in sample.ends.iter().enumerate() {
+    for (j, e) in d.sample.ends.iter().enumerate() {
         let end = *e as usize;
         let sequence = (j + 1) as u32;
-        let r = thread_read(
-            sample, vertices, edges, index, most, s, start, end, sequence,
-        );
+        let r = thread_read(d, vertices, edges, index, s, start, end, sequence);
         let Ok(t) = r else {
             return r;
         };

@@ -1,5 +1,6 @@
-// What the calls return instead, by document 01's table. Each refusal is told first by the crate that finds the fault, and is passed up from there;
-// `Refusal.returned` of the definition is the same table, with what the workspace is afterwards.
+// What the calls return instead, by document 01's table. Each refusal is told first by the crate that finds the fault, and is passed up from there. The
+// answer of a step of building or of the search is opened by `let .. else`, as document 01 asks; elsewhere it is passed up by `?`, or turned into the
+// answer of an exported call or of the program. `Refusal.returned` of the definition is the same table, with what the workspace is afterwards.
 #![tactic(auto)]
 
 ghost use Rattle.std.specs.Prelude.{◌≡◌};
@@ -61,7 +62,7 @@ impl From<Refusal> for u32 {
     }
 }
 
-// The number of an answer: 0 where nothing is refused.
+// The number of an answer: 0 where nothing is refused. (A number, for the call beside `origin_bytes` that document 01 asks to tell it.)
 pub fn refusal_of<T>(answer: &Result<T, Refusal>) -> u32
     ensures { result ≡ refusal_of answer.now }
 {

@@ -1,17 +1,18 @@
 // The calls for the list, each made as told and compared with the answer told.
-ghost use Rattle.std.specs.Prelude.{◌≤◌};
 ghost use Rattle.replay.specs.Lengths.{Fits};
 
 use agreement::agree::{LENT, LENT_BYTE, LENT_SLOT, left};
-use known_answers::calls::{graph_maxima, lent, value_left};
+use known_answers::calls::{graph_maxima, graph_tables_left, lent, value_left};
 use known_answers::column::read_entries;
-use known_answers::numbers::{behind, field, list_at};
+use known_answers::numbers::{behind, field, split_list};
 use known_answers::rows::{bases_agree, columns_agree, origins_agree};
 use limits::SearchMaxima;
 use list_call::list_columns;
 use list_interface::{Input, ListAnswer, Settings};
 use list_lent::Lent;
 use samples::Sample;
+use slice_lengths::{LengthsTold, Workspace};
+use std::ops::Range;
 
 // ---- what is handed in: paths, threshold, recovery, maxima, which slice is short, the column
 
@@ -44,9 +45,8 @@ fn list_settings(call: &[u32], k: u32, quality: u8) -> Settings {
     }
 }
 
-// The lengths told for a call.
-fn lengths_told(a: Settings) -> Lent {
-    let told = slice_lengths::lengths(a.k, a.asked, a.graph, a.search);
+// The lengths told for a call, slice by slice.
+fn slices_told(told: LengthsTold) -> Lent {
     let w = told.workspace;
     Lent {
         rows: told.paths,
@@ -133,28 +133,10 @@ fn outputs_agree(
         && origins_agree(rows, edges, sequences, places)
 }
 
-// The workspace of the graph and its trees.
-fn graph_tables_left(
-    refusal: u32,
-    told: Lent,
-    w_vertices: &[u32],
-    w_edges: &[u32],
-    w_index: &[u32],
-    w_nodes: &[u32],
-    w_targets: &[u32],
-) -> bool {
-    let value = value_left::<u32>(refusal);
-    left(w_vertices, told.vertices, value)
-        && left(w_edges, told.edges, value)
-        && left(w_index, told.index, value)
-        && left(w_nodes, told.nodes, value)
-        && left(w_targets, told.targets, value)
-}
-
 // The workspace of the paths.
 fn path_tables_left(
     refusal: u32,
-    told: Lent,
+    told: Workspace,
     w_paths: &[u32],
     w_scores: &[f64],
     w_active: &[u16],
@@ -170,7 +152,7 @@ fn path_tables_left(
 // The rest of the search's workspace.
 fn search_tables_left(
     refusal: u32,
-    told: Lent,
+    told: Workspace,
     w_closed: &[u32],
     w_order: &[u32],
     w_marks: &[u32],
@@ -183,10 +165,11 @@ fn search_tables_left(
         && left(w_walks, told.walks, value)
 }
 
-// Each call is made in slices of its own, so that nothing of an earlier one can help it.
+// Each call is made in slices of its own, so that nothing of an earlier one can help it. (Each has a name of its own, as the call takes them one by one.)
 fn list_agrees(call: &[u32], told: &[u32], short: u32, sample: Sample, column: &[f64]) -> bool {
     let a = list_settings(call, sample.k, sample.quality);
-    let lengths = lengths_told(a);
+    let lengths = slice_lengths::lengths(a.k, a.maxima());
+    let w = lengths.workspace;
     let mut row_scores = [1.5f64; 128];
     let mut row_closings = [LENT; 128];
     let mut row_edges = [LENT; 128];
@@ -206,26 +189,7 @@ fn list_agrees(call: &[u32], told: &[u32], short: u32, sample: Sample, column: &
     let mut w_order = [LENT; 8192];
     let mut w_marks = [LENT; 8192];
     let mut w_walks = [LENT; 131072];
-    let l = lengths_lent(lengths, short);
-    let n_row_scores = l.row_scores;
-    let n_row_closings = l.row_closings;
-    let n_row_edges = l.row_edges;
-    let n_bases = l.bases;
-    let n_sequences = l.sequences;
-    let n_places = l.places;
-    let n_vertices = l.vertices;
-    let n_edges = l.edges;
-    let n_index = l.index;
-    let n_nodes = l.nodes;
-    let n_targets = l.targets;
-    let n_paths = l.paths;
-    let n_scores = l.scores;
-    let n_active = l.active;
-    let n_queue = l.queue;
-    let n_closed = l.closed;
-    let n_order = l.order;
-    let n_marks = l.marks;
-    let n_walks = l.walks;
+    let l = lengths_lent(slices_told(lengths), short);
     let input = Input {
         settings: a,
         text: sample.text,
@@ -236,25 +200,25 @@ fn list_agrees(call: &[u32], told: &[u32], short: u32, sample: Sample, column: &
     let answer = list_columns(
         input,
         l.rows,
-        &mut row_scores[..n_row_scores],
-        &mut row_closings[..n_row_closings],
-        &mut row_edges[..n_row_edges],
-        &mut out_bases[..n_bases],
-        &mut sequences[..n_sequences],
-        &mut places[..n_places],
-        &mut w_vertices[..n_vertices],
-        &mut w_edges[..n_edges],
-        &mut w_index[..n_index],
-        &mut w_nodes[..n_nodes],
-        &mut w_targets[..n_targets],
-        &mut w_paths[..n_paths],
-        &mut w_scores[..n_scores],
-        &mut w_active[..n_active],
-        &mut w_queue[..n_queue],
-        &mut w_closed[..n_closed],
-        &mut w_order[..n_order],
-        &mut w_marks[..n_marks],
-        &mut w_walks[..n_walks],
+        &mut row_scores[..l.row_scores],
+        &mut row_closings[..l.row_closings],
+        &mut row_edges[..l.row_edges],
+        &mut out_bases[..l.bases],
+        &mut sequences[..l.sequences],
+        &mut places[..l.places],
+        &mut w_vertices[..l.vertices],
+        &mut w_edges[..l.edges],
+        &mut w_index[..l.index],
+        &mut w_nodes[..l.nodes],
+        &mut w_targets[..l.targets],
+        &mut w_paths[..l.paths],
+        &mut w_scores[..l.scores],
+        &mut w_active[..l.active],
+        &mut w_queue[..l.queue],
+        &mut w_closed[..l.closed],
+        &mut w_order[..l.order],
+        &mut w_marks[..l.marks],
+        &mut w_walks[..l.walks],
     );
     let refusal = answer.refusal;
     list_answered(told, answer)
@@ -268,55 +232,39 @@ fn list_agrees(call: &[u32], told: &[u32], short: u32, sample: Sample, column: &
             &sequences,
             &places,
         )
-        && graph_tables_left(
-            refusal,
-            lengths,
-            &w_vertices,
-            &w_edges,
-            &w_index,
-            &w_nodes,
-            &w_targets,
-        )
-        && path_tables_left(refusal, lengths, &w_paths, &w_scores, &w_active, &w_queue)
-        && search_tables_left(refusal, lengths, &w_closed, &w_order, &w_marks, &w_walks)
+        && graph_tables_left(refusal, w, &w_vertices, &w_edges, &w_index, &w_nodes)
+        && left(&w_targets, w.targets, value_left::<u32>(refusal))
+        && path_tables_left(refusal, w, &w_paths, &w_scores, &w_active, &w_queue)
+        && search_tables_left(refusal, w, &w_closed, &w_order, &w_marks, &w_walks)
 }
 
 // ---- which slices are short
 
-// The first and the last slice that is to be short, by its number in `Lent` from 1; 0 where none is.
-// (0, 0 is the run with none short, so that it is a turn like the others.)
-fn short_slices(told: u32) -> (u32, u32)
-    ensures { result.1 ≤ 20 }
-{
+// The slices that are to be short, one a call, by their numbers in `Lent` from 1. (No slice has the number 0, so the call with none short is a turn like the
+// others.)
+fn short_slices(told: u32) -> Range<u32> {
     match told {
-        3 => (1, 1),
-        4 => (2, 2),
-        5 => (3, 4),
-        6 => (5, 20),
-        _ => (0, 0),
+        3 => 1..2,
+        4 => 2..3,
+        5 => 3..5,
+        6 => 5..21,
+        _ => 0..1,
     }
 }
 
 // The call over a column, once for each slice that is to be short.
 fn lists_agree(call: &[u32], told: &[u32], sample: Sample, column: &[f64]) -> bool {
-    let (first, last) = short_slices(field(call, 10));
-    for short in first..last + 1 {
-        if !list_agrees(call, told, short, sample, column) {
-            return false;
-        }
-    }
-    true
+    short_slices(field(call, 10)).all(|short| list_agrees(call, told, short, sample, column))
 }
 
 // The column is the first places of log10, or given.
 pub fn list_agrees_over(call: &[u32], sample: Sample, log10: &[f64]) -> bool {
-    let part = list_at(call, 12);
-    let told = behind(call, part.end);
+    let (column, told) = split_list(behind(call, 12));
     if field(call, 11) == 0 {
-        let n = (field(call, 13) as usize).min(log10.len());
+        let n = (field(column, 0) as usize).min(log10.len());
         return lists_agree(call, told, sample, &log10[..n]);
     }
     let mut given = [0.0f64; 512];
-    let n = read_entries(&call[part.start..part.end], &mut given);
+    let n = read_entries(column, &mut given).unwrap_or(0);
     lists_agree(call, told, sample, &given[..n])
 }

@@ -14,7 +14,7 @@ pub fn rows_told(r: ListAnswer) -> usize
     r.paths as usize
 }
 
-// How much of each column is to be zero: like the rest of the workspace, nothing or the length told.
+// How much of each column is to be zero: like the rest of the workspace, nothing or the length told, by the number that the answer holds.
 pub fn columns_told(a: Settings, r: ListAnswer) -> usize
     ensures { result ≡ columns_told r.refusal a.asked }
 {

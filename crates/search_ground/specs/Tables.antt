@@ -1,15 +1,15 @@
 -- The tables of the chains: `index`, at a vertex the number plus 1 of the edge by which a path goes on from it without a decision, else 0; `targets`, at an
 -- edge its target. Assumes nothing.
-use Rattle.std.specs.Prelude.{◌≡◌, refl, ◌≢◌, List, [], ◌∷◌, true, false, Option, Some, None, is_some, ℕ, zero, suc, ◌+◌, ◌-◌, ◌<◌, ◌≤◌, length, get_or}
-use Rattle.std.proofs.Common.{sym, ap, ◌∙◌, arith}
+use Rattle.std.specs.Prelude.{◌≡◌, refl, ◌≢◌, List, ◌∷◌, true, false, Option, Some, None, is_some, ℕ, zero, suc, ◌+◌, ◌-◌, ◌<◌, ◌≤◌, length, get_or}
+use Rattle.std.proofs.Common.{ap, ◌∙◌, arith}
 use Rattle.std.proofs.Math.Option.{none, some}
 use Rattle.laws.specs.Lists.{sole}
 use Rattle.definition.specs.Threading.{Edge, leaving}
 use Rattle.assembly.specs.Fields.{HasVertices, tree_root, edge_to}
 use Rattle.assembly.specs.Store.{edge_at, edges_of}
-use Rattle.out_edges.specs.Outs.{Nexts, out_from}
+use Rattle.out_edges.specs.Outs.{Nexts}
 use Rattle.threading_node.specs.Links.{slot_at}
-use Rattle.pivotal_edges.specs.Walk.{Linked, Here, leaving-from, next-none, next-some, next-in, next-again}
+use Rattle.pivotal_edges.specs.Walk.{Linked, Here, leaving-none, leaving-some, next-none, next-some, next-in, next-again}
 
 -- ---- one vertex
 
@@ -35,14 +35,9 @@ module _ (vs es : List ℕ) (m sink v : ℕ) where
 
   module _ (k : Here vs es m v) where
     pub sole-empty : Nexts es m v 0 None → Sole vs es m sink v 0
-    sole-empty x =
-        let e : leaving (edges_of es m) v ≡ [] = sym (leaving-from (edges_of es m) v) ∙ next-none k x in
-        nothing (λ a b. ap sole e)
+    sole-empty x = nothing (λ a b. ap sole (leaving-none k x))
 
     module _ {i : ℕ} (x : Nexts es m v 0 (Some i)) {w : ℕ} (e : w ≡ edge_to es i + 1) where
-      out : leaving (edges_of es m) v ≡ edge_at es i ∷ out_from (edges_of es m) v (edge_to es i + 1)
-      out = sym (leaving-from (edges_of es m) v) ∙ next-some k x
-
       pub sole-one : v ≢ sink → {root : Option ℕ} → root ≡ slot_at (tree_root vs v) → is_some root ≡ false → {s : Option ℕ} → Nexts es m v w s → is_some s ≡ false → Sole vs es m sink v (i + 1)
       sole-one n {root = root} h z {s = s} y q = go s y q
         where
@@ -55,7 +50,7 @@ module _ (vs es : List ℕ) (m sink v : ℕ) where
                 bare = λ u. no-tree h z;
                 inner = λ u. n;
                 known = omega arith;
-                is = λ u. rw p (ap sole (out ∙ ap (λ (l : List Edge). edge_at es i ∷ l) o));
+                is = λ u. rw p (ap sole (leaving-some k x ∙ ap (λ (l : List Edge). edge_at es i ∷ l) o));
                 none = λ u. absurd (omega arith);
               }
 
@@ -70,7 +65,7 @@ module _ (vs es : List ℕ) (m sink v : ℕ) where
           go None y h = absurd (let y : ◌≡◌ {A = ℕ} 0 1 = cc in omega arith)
           go (Some j) y h =
               let o = next-some k (next-again k x e y) in
-              nothing (λ a b. ap sole (out ∙ ap (λ (l : List Edge). edge_at es i ∷ l) o))
+              nothing (λ a b. ap sole (leaving-some k x ∙ ap (λ (l : List Edge). edge_at es i ∷ l) o))
 
 -- ---- the loops
 

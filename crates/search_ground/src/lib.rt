@@ -1,5 +1,6 @@
 // What the search stands on. Where a vertex has no tree, is not the sink and one edge leaves it, a path goes on without a decision: the two tables here
 // tell that edge, and where an edge leads.
+// Each function asks for the rows that it reads or writes: the tables are lent slices of numbers, so no type of this project holds that they are there.
 #![tactic(auto)]
 
 ghost use Rattle.std.specs.Prelude.{length};
@@ -31,7 +32,7 @@ fn sole_out(graph: Graph, sink: usize, v: usize) -> Option<usize>
     Some(first)
 }
 
-// `targets` tells the target of each edge that it has a place for.
+// `targets` tells the target of each edge that it has a place for. One number counts the places of both tables, so that no iterator over either is plainer.
 fn fill_targets(edges: &[u32], targets: &mut [u32])
     requires { HasEdges edges.now (length targets.old) }
     ensures { Targets edges.now targets.old targets.new }

@@ -10,15 +10,15 @@ use Rattle.graph_work.specs.declared.Raise.{Raise}
 use Rattle.list_interface.specs.declared.Settings.{Settings}
 
 pub record Chains (vs es index targets : List ℕ) (b : Raise) : Type 0 where
-  pub sink-in : HasVertex vs b.sink
-  pub few : b.edges < 8192
-  pub tables : Tables (linked vs b.sink b.edges) es (b.edges + 1) index targets
+  pub sink-in : HasVertex vs b.built.sink
+  pub few : b.built.edges < 8192
+  pub tables : Tables (linked vs b.built.sink b.built.edges) es (b.built.edges + 1) index targets
 
 pub record Chained (vs es : List ℕ) (b : Raise) (vs' index' targets' : List ℕ) : Type 0 where
-  pub vertices : vs' ≡ linked vs b.sink b.edges
-  pub tabled : Tabled vs' es (b.edges + 1) b.sink index' targets'
+  pub vertices : vs' ≡ linked vs b.built.sink b.built.edges
+  pub tabled : Tabled vs' es (b.built.edges + 1) b.built.sink index' targets'
 
-pub chain-tables : {vs es index targets : List ℕ} {b : Raise} → Chains vs es index targets b → {vs' : List ℕ} → vs' ≡ linked vs b.sink b.edges → Tables vs' es (b.edges + 1) index targets
+pub chain-tables : {vs es index targets : List ℕ} {b : Raise} → Chains vs es index targets b → {vs' : List ℕ} → vs' ≡ linked vs b.built.sink b.built.edges → Tables vs' es (b.built.edges + 1) index targets
 chain-tables c e = rw e c.tables
 
 -- ---- the settings
@@ -26,11 +26,11 @@ chain-tables c e = rw e c.tables
 abbrev pub setting_of : Settings → Raise → ℕ → Setting
 setting_of a b least =
     record {
-      edges = b.edges + 1;
+      edges = b.built.edges + 1;
       nodes = b.nodes;
       cap = a.graph.nodes;
-      sink = b.sink;
-      symbolic = b.vertices;
+      sink = b.built.sink;
+      symbolic = b.built.vertices;
       least = least;
       most = a.search.path_edges;
       active = a.search.active;
@@ -40,9 +40,9 @@ setting_of a b least =
 
 -- the sizes of the graph fit the fields of the settings
 pub record Small (b : Raise) : Type 0 where
-  pub edges : b.edges < 2 ^ 32
-  pub vertices : b.vertices < 2 ^ 32
-  pub sink : b.sink < 2 ^ 32
+  pub edges : b.built.edges < 2 ^ 32
+  pub vertices : b.built.vertices < 2 ^ 32
+  pub sink : b.built.sink < 2 ^ 32
 
 pub record SettingFor (a : Settings) (b : Raise) (g : Setting) : Type 0 where
   pub is : g ≡ setting_of a b g.least

@@ -1,4 +1,5 @@
 // What the search of the call for the list is set up with: the numbers that it goes by, and the tables of the chains.
+// The slices that are written stay parameters one by one: held in a struct, each contract would have to say of each which slice was lent.
 #![tactic(auto)]
 
 ghost use Rattle.search_state.specs.Settings.{setting_of};
@@ -33,7 +34,7 @@ pub fn search_setting<'a>(
         graph: Graph {
             vertices,
             edges,
-            count: b.edges + 1,
+            count: b.built.edges + 1,
         },
         trees: Trees {
             nodes,
@@ -42,8 +43,8 @@ pub fn search_setting<'a>(
         },
         chains: chains::Chains { index, targets },
         column,
-        sink: b.sink as u32,
-        symbolic: b.vertices as u32,
+        sink: b.built.sink as u32,
+        symbolic: b.built.vertices as u32,
         least: least_total(a.threshold),
         most: a.search.path_edges,
         active: a.search.active as usize,
@@ -63,11 +64,11 @@ pub fn lay_chains(
     requires { Chains vertices.old edges.now index.old targets.old b }
     ensures { Chained vertices.old edges.now b vertices.new index.new targets.new }
 {
-    link_symbolic_edge(vertices, b.sink, b.edges);
+    link_symbolic_edge(vertices, b.built.sink, b.built.edges);
     let graph = Graph {
         vertices,
         edges,
-        count: b.edges + 1,
+        count: b.built.edges + 1,
     };
-    chain_tables(graph, b.sink, index, targets);
+    chain_tables(graph, b.built.sink, index, targets);
 }

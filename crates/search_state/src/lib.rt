@@ -8,6 +8,7 @@ use threading_tree::Trees;
 
 // What the search reads and never writes: the graph with the symbolic edge linked, its trees, the chains and the logarithm column; the sink, the far end
 // of the symbolic edge, the least total that reaches the threshold, and the caller's numbers.
+// The steps are lent it: by value, which was tried, its twenty words were copied at each call, and long searches took longer.
 // The slices that a step writes stay parameters one by one: held in a struct, each contract would have to say of each which slice was lent.
 #[derive(Clone, Copy)]
 pub struct Setting<'a> {

@@ -1,4 +1,6 @@
 // Threading of one stretch: its start, with the counting backwards, then kmer after kmer.
+// The tables are lent one by one: a struct of `&mut` slices would need in each contract a clause on which slice it lends.
+// Each function asks for the rows that it reads or writes: the tables are lent slices of numbers, so no type of this project holds that they are there.
 #![tactic(auto)]
 
 ghost use Rattle.std.specs.Prelude.{◌+◌};
@@ -13,9 +15,8 @@ ghost use Rattle.sequence_threading.specs.Starts.{Starts};
 ghost use Rattle.sequence_threading.specs.Stretches.{Threads, Threaded, stretch_at};
 
 use assembly::{Origin, edge_from, inc_edge, incoming_count, incoming_edge};
-use kmer_threading::{At, Most, extend_chain_by_one, get_or_create_kmer_vertex};
+use kmer_threading::{At, Ground, extend_chain_by_one, get_or_create_kmer_vertex};
 use refusals::Refusal;
-use samples::Text;
 
 // Counting backwards: while v has just one predecessor that edge gains 1, for at most `left` edges.
 fn increase_counts_backwards(vertices: &[u32], edges: &mut [u32], s: At, v: usize, left: usize)
@@ -40,19 +41,18 @@ fn increase_counts_backwards(vertices: &[u32], edges: &mut [u32], s: At, v: usiz
 
 // The start of a stretch whose first kmer stands at place q of the text.
 fn start_sequence(
-    text: Text,
+    d: &Ground,
     vertices: &mut [u32],
     edges: &mut [u32],
     index: &mut [u32],
-    k: usize,
-    most: Most,
     s: At,
     q: usize,
 ) -> Result<At, Refusal>
-    requires { Starts k (text_of text) vertices.old edges.old most s q × Indexes k (text_of text) vertices.old index.old most s.vertices }
-    ensures { Stepped k (text_of text.entry) vertices.new edges.new most (s.steps + k) result (start_at k (part k (text_of text.entry) q) (graph_of k (text_of text.entry) vertices.old s.vertices edges.old s.edges)) × Keeps k (text_of text.entry) vertices.new index.new most result }
+    requires { Starts d.now.sample.k (text_of d.now.sample.text) vertices.old edges.old d.now.most s q × Indexes d.now.sample.k (text_of d.now.sample.text) vertices.old index.old d.now.most s.vertices }
+    ensures { Stepped d.now.sample.k (text_of d.now.sample.text) vertices.new edges.new d.now.most (s.steps + d.now.sample.k) result (start_at d.now.sample.k (part d.now.sample.k (text_of d.now.sample.text) q) (graph_of d.now.sample.k (text_of d.now.sample.text) vertices.old s.vertices edges.old s.edges)) × Keeps d.now.sample.k (text_of d.now.sample.text) vertices.new index.new d.now.most result }
 {
-    let r = get_or_create_kmer_vertex(text, vertices, index, k, most, s, q);
+    let k = d.sample.k as usize;
+    let r = get_or_create_kmer_vertex(d, vertices, index, s, q);
     let Ok(t) = r else {
         return r;
     };
@@ -65,33 +65,31 @@ fn start_sequence(
 
 // The stretch of `len` bytes at place a of the text, whose first kmer has the origin.
 pub fn thread_sequence(
-    text: Text,
+    d: &Ground,
     vertices: &mut [u32],
     edges: &mut [u32],
     index: &mut [u32],
-    k: usize,
-    most: Most,
     s0: At,
     a: usize,
     len: usize,
     is_ref: bool,
     origin: Origin,
 ) -> Result<At, Refusal>
-    requires { Threads k (text_of text) vertices.old edges.old most s0 a len origin.place × Indexes k (text_of text) vertices.old index.old most s0.vertices }
-    ensures { Threaded k (text_of text.entry) vertices.new edges.new most (s0.steps + k + len) result (thread is_ref k (stretch_at (text_of text.entry) a len origin.sequence origin.place) (graph_of k (text_of text.entry) vertices.old s0.vertices edges.old s0.edges)) × Keeps k (text_of text.entry) vertices.new index.new most result }
+    requires { Threads d.now.sample.k (text_of d.now.sample.text) vertices.old edges.old d.now.most s0 a len origin.place × Indexes d.now.sample.k (text_of d.now.sample.text) vertices.old index.old d.now.most s0.vertices }
+    ensures { Threaded d.now.sample.k (text_of d.now.sample.text) vertices.new edges.new d.now.most (s0.steps + d.now.sample.k + len) result (thread is_ref d.now.sample.k (stretch_at (text_of d.now.sample.text) a len origin.sequence origin.place) (graph_of d.now.sample.k (text_of d.now.sample.text) vertices.old s0.vertices edges.old s0.edges)) × Keeps d.now.sample.k (text_of d.now.sample.text) vertices.new index.new d.now.most result }
 {
-    let r0 = start_sequence(text, vertices, edges, index, k, most, s0, a);
+    let r0 = start_sequence(d, vertices, edges, index, s0, a);
     let Ok(s1) = r0 else {
         return r0;
     };
     let mut s = s1;
-    for j in 0..len - k {
+    for j in 0..len - d.sample.k as usize {
         let left = Origin {
             place: origin.place + j as u32,
             ..origin
         };
         let q = a + j + 1;
-        let r = extend_chain_by_one(text, vertices, edges, index, k, most, s, q, is_ref, left);
+        let r = extend_chain_by_one(d, vertices, edges, index, s, q, is_ref, left);
         let Ok(t) = r else {
             return r;
         };

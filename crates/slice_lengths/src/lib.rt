@@ -10,8 +10,8 @@ ghost use Rattle.slice_lengths.specs.Workspaces.{path_walks};
 ghost use Rattle.slice_lengths.specs.Lengths.{workspace_told, refused_lengths, accepted_lengths, Told};
 ghost use Rattle.slice_lengths.specs.Bounds.{InLimits};
 
-use bio_ids::kmer_size;
-use limits::{GraphMaxima, SearchMaxima, settings_fit};
+use bio_ids::KmerSize;
+use limits::{Maxima, settings_fit};
 use refusals::Refusal;
 use tables::{EDGE, EDGE_ROW, FORK, KMER, NODE, NODE_ROW, OPEN, PATH, QUEUED, VERTEX};
 
@@ -52,7 +52,7 @@ pub struct Workspace {
     pub columns: usize,
 }
 
-// The answer of `lengths`: a refusal, or how many elements each slice needs; there are two slices of `origins` numbers.
+// The answer of `lengths`, for C: the number of a refusal, or 0 and how many elements each slice needs; there are two slices of `origins` numbers.
 #[repr(C)]
 #[derive(Clone, Copy, Default)]
 pub struct LengthsTold {
@@ -66,44 +66,51 @@ pub struct LengthsTold {
 }
 
 // 1 and 5, of the call for lengths.
-fn check_lengths(k: u32, asked: u32, g: GraphMaxima, s: SearchMaxima) -> Result<(), Refusal>
-    ensures { refusal_of result ≡ first_broken (lengths_rules k asked (graph_maxima_of g) (search_maxima_of s)) }
+fn check_lengths(k: u32, m: Maxima) -> Result<(), Refusal>
+    ensures { refusal_of result ≡ first_broken (lengths_rules k m.asked (graph_maxima_of m.graph) (search_maxima_of m.search)) }
 {
-    kmer_size(k)?;
-    if !settings_fit(asked, g, s) {
+    KmerSize::try_from(k)?;
+    if !settings_fit(m) {
         return Err(Refusal::Maximum);
     }
     Ok(())
 }
 
 // A refused answer holds 0 in every other field.
-fn lengths_refused(refusal: Refusal) -> LengthsTold
-    ensures { result ≡ refused_lengths (number refusal) }
-{
-    LengthsTold {
-        refusal: u32::from(refusal),
-        ..LengthsTold::default()
+impl From<Refusal> for LengthsTold {
+    ghost from_gives = { λ refusal answer. answer ≡ refused_lengths (number refusal) };
+
+    fn from(refusal: Refusal) -> LengthsTold {
+        LengthsTold {
+            refusal: u32::from(refusal),
+            ..LengthsTold::default()
+        }
     }
 }
 
+// ---- `InLimits` is asked by each function and no invariant of `Maxima`, since a caller may hand in maxima that are refused
+
 // As much as the largest of the tables that share a slice needs.
-fn walks_told(asked: u32, g: GraphMaxima, s: SearchMaxima) -> usize
-    requires { InLimits asked (graph_maxima_of g) (search_maxima_of s) }
-    ensures { result ≡ path_walks asked (graph_maxima_of g) (search_maxima_of s) }
+fn walks_told(m: Maxima) -> usize
+    requires { InLimits m.asked (graph_maxima_of m.graph) (search_maxima_of m.search) }
+    ensures { result ≡ path_walks m.asked (graph_maxima_of m.graph) (search_maxima_of m.search) }
 {
-    let open = g.nodes as usize * OPEN;
-    let queued = g.edges as usize * QUEUED;
-    let walks = asked as usize * s.path_edges as usize;
+    let open = m.graph.nodes as usize * OPEN;
+    let queued = m.graph.edges as usize * QUEUED;
+    let walks = m.asked as usize * m.search.path_edges as usize;
     open.max(queued).max(FORK).max(walks)
 }
 
 // The workspace of settings within limits; a path is made by a push, by closing, or as the extension of a fork.
-pub fn workspace_told(asked: u32, g: GraphMaxima, s: SearchMaxima) -> Workspace
-    requires { InLimits asked (graph_maxima_of g) (search_maxima_of s) }
-    ensures { result ≡ workspace_told asked (graph_maxima_of g) (search_maxima_of s) }
+pub fn workspace_told(m: Maxima) -> Workspace
+    requires { InLimits m.asked (graph_maxima_of m.graph) (search_maxima_of m.search) }
+    ensures { result ≡ workspace_told m.asked (graph_maxima_of m.graph) (search_maxima_of m.search) }
 {
-    let paths = s.pushes as usize + asked as usize + 8;
-    let walks = walks_told(asked, g, s);
+    let asked = m.asked as usize;
+    let g = m.graph;
+    let s = m.search;
+    let paths = s.pushes as usize + asked + 8;
+    let walks = walks_told(m);
     Workspace {
         vertices: g.vertices as usize * VERTEX,
         edges: g.edges as usize * EDGE,
@@ -115,38 +122,40 @@ pub fn workspace_told(asked: u32, g: GraphMaxima, s: SearchMaxima) -> Workspace
         scores: paths,
         active: paths * s.active as usize,
         queue: s.pushes as usize,
-        closed: asked as usize,
+        closed: asked,
         order: g.edges as usize,
         marks: g.edges as usize,
         walks,
-        columns: asked as usize,
+        columns: asked,
     }
 }
 
 // The lengths for settings within limits: what rule 7 compares with.
-pub fn lengths_within(k: u32, asked: u32, g: GraphMaxima, s: SearchMaxima) -> LengthsTold
-    requires { (k ≤ 128) × InLimits asked (graph_maxima_of g) (search_maxima_of s) }
-    ensures { result ≡ accepted_lengths k asked (graph_maxima_of g) (search_maxima_of s) }
+pub fn lengths_within(k: u32, m: Maxima) -> LengthsTold
+    requires { (k ≤ 128) × InLimits m.asked (graph_maxima_of m.graph) (search_maxima_of m.search) }
+    ensures { result ≡ accepted_lengths k m.asked (graph_maxima_of m.graph) (search_maxima_of m.search) }
 {
-    let workspace = workspace_told(asked, g, s);
-    let stride = k as usize + s.path_edges as usize;
+    let workspace = workspace_told(m);
+    let asked = m.asked as usize;
+    let path_edges = m.search.path_edges as usize;
+    let stride = k as usize + path_edges;
     LengthsTold {
         refusal: 0,
-        edges: g.edges as usize * EDGE_ROW,
-        nodes: g.nodes as usize * NODE_ROW,
-        paths: asked as usize,
-        bases: asked as usize * stride,
-        origins: asked as usize * s.path_edges as usize,
+        edges: m.graph.edges as usize * EDGE_ROW,
+        nodes: m.graph.nodes as usize * NODE_ROW,
+        paths: asked,
+        bases: asked * stride,
+        origins: asked * path_edges,
         workspace,
     }
 }
 
 // The call for lengths: what each slice must hold for these settings, so that a caller can lend it.
-pub fn lengths(k: u32, asked: u32, g: GraphMaxima, s: SearchMaxima) -> LengthsTold
-    ensures { Told k asked (graph_maxima_of g) (search_maxima_of s) result }
+pub fn lengths(k: u32, m: Maxima) -> LengthsTold
+    ensures { Told k m.asked (graph_maxima_of m.graph) (search_maxima_of m.search) result }
 {
-    match check_lengths(k, asked, g, s) {
-        Ok(()) => lengths_within(k, asked, g, s),
-        Err(refusal) => lengths_refused(refusal),
+    match check_lengths(k, m) {
+        Ok(()) => lengths_within(k, m),
+        Err(refusal) => LengthsTold::from(refusal),
     }
 }

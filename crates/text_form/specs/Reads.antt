@@ -47,8 +47,8 @@ pub record Laid (text : List ℕ) (l : Layout) (t : Text) : Type 0 where
   pub settings : l.settings ≡ shown t.header
   pub reference : slice l.reference l.past text ≡ t.reference
   pub reads : reads_from text l.reads ≡ some t.reads
-  pub count : l.count ≡ length t.reads
-  pub even : l.even ≡ all even_read t.reads
+  pub count : l.tally.count ≡ length t.reads
+  pub even : l.tally.even ≡ all even_read t.reads
   pub small : length text ≤ 8192
   pub rising : l.reference ≤ l.past
   pub behind : l.reads ≡ l.past + 1
@@ -335,7 +335,7 @@ module _ (text : List ℕ) (small : length text ≤ 8192) where
           ∙ sym (no_reads (slice (a + 1) past text) (header (take a text))))
 
       pub form-read : (s : Settings) → HeaderSays (Some s) (header (take a text)) → (t : Tally) → ScanSays (Some t) (reads_from text (past + 1))
-          → FormSays text (Some (record { settings = s; reference = a + 1; past = past; reads = past + 1; count = t.count; even = t.even })) (text_of text)
+          → FormSays text (Some (record { settings = s; reference = a + 1; past = past; reads = past + 1; tally = t })) (text_of text)
       form-read s q t y =
           let u = header-good (header (take a text)) s q in
           let v = scan_good (reads_from text (past + 1)) t y in
@@ -346,7 +346,7 @@ module _ (text : List ℕ) (small : length text ≤ 8192) where
           ∙ ap (text_with (slice (a + 1) past text) (some u.0)) v.1
           in
           rw i (
-            record { settings = s; reference = a + 1; past = past; reads = past + 1; count = t.count; even = t.even },
+            record { settings = s; reference = a + 1; past = past; reads = past + 1; tally = t },
             refl,
             record {
               settings = u.2;

@@ -5,7 +5,8 @@ ghost use Rattle.text_form.specs.Headers.{FieldSays, HeaderSays};
 
 use crate::numbers::{asked_of, byte_of, find_byte, flag_of, read_number, size_of};
 
-// The settings as the calls take them: k is 0 where it was below, and the paths asked are 9 where they were below 0.
+// The settings as the calls take them. k and the paths asked have no sign there, so k is 0 where it was below 0, and the paths asked are 9 where they were
+// below 0: both are refused, as the number below 0 would be.
 #[derive(Clone, Copy)]
 pub struct Settings {
     pub k: u32,

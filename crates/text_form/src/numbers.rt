@@ -86,7 +86,7 @@ pub fn flag_of(number: i32) -> Option<bool>
     }
 }
 
-// The number, or 0 where it is below.
+// The number, or 0 where it is below. (`asked_of` differs in one constant; a parameter for it would be no plainer than two functions of one line.)
 pub fn size_of(number: i32) -> u32
     ensures { result ≡ size_of number }
 {

@@ -22,14 +22,14 @@ pub struct Tally {
 }
 
 // A text of the form: its settings, where the reference begins and the place past it, where the reads begin, and their tally.
+// (Places, not slices: the text is changed after it was read.)
 #[derive(Clone, Copy)]
 pub struct Layout {
     pub settings: Settings,
     pub reference: usize,
     pub past: usize,
     pub reads: usize,
-    pub count: usize,
-    pub even: bool,
+    pub tally: Tally,
 }
 
 // Every byte is a quality: bytes 33 to 126 are the graphic ones.
@@ -60,7 +60,8 @@ fn scan_reads(text: &[u8], from: usize) -> Option<Tally>
     let mut at = from;
     let mut count: usize = 0;
     let mut even = true;
-    // Each turn is a read, two lines.
+    // No iterator: a pair of lines may be malformed and then ends the scan, so each item would be an Option, and no other loop could use it, since the one
+    // that gathers the reads changes the text.
     while at < text.len() {
         let lines = read_pair(text, at)?;
         let same = lines.bases - at == lines.qualities - lines.bases - 1;
@@ -87,7 +88,6 @@ pub fn read_form(text: &[u8]) -> Option<Layout>
         reference: first + 1,
         past: second,
         reads: second + 1,
-        count: tally.count,
-        even: tally.even,
+        tally,
     })
 }

@@ -1,13 +1,10 @@
 -- The names of edges and their order (as in the definition), with the laws of the order.
-use Rattle.std.specs.Prelude.{◌≡◌, refl, ◌⊎◌, Bool, true, false, eqb, Option, Some, ℕ, ◌<◌}
-use Rattle.std.proofs.Common.{sym, ap, subst, ◌∙◌, inl, inr, arith, leb-true, leb-false, eqb-true, eq-eqb}
+use Rattle.std.specs.Prelude.{◌≡◌, refl, ◌⊎◌, Bool, true, false, ◌&&◌, ◌||◌, eqb, ltb, ℕ, ◌<◌}
+use Rattle.std.proofs.Common.{sym, ap, subst, ◌∙◌, inl, inr, arith, leb-true, leb-false, eqb-true, eq-eqb, ne_eqb, lt-ltb, le-ltb}
 use Prim.Native.Nat.{compare, Ordering}
 use Rattle.definition.specs.Threading.{Ends, compare_ends, eq_ends}
 use Rattle.laws.specs.Numbers.{then}
-use Rattle.std.specs.declared.cmp.Ordering as Cmp
-use Rattle.std.specs.declared.cmp.Ordering.TheVariants.{Less as Smaller, Equal, Greater}
-use Rattle.std.specs.Ordering.{MatchOrdering, nat_cmp, partial_ordering_then, is_some_and, is_gt}
-use Rattle.std.proofs.lemmas.Cmp.{ranked}
+use Rattle.std.proofs.Math.Decide.{dec_lt}
 use Rattle.threading_node.specs.declared.Edge.{Edge}
 use Rattle.laws.specs.ListLaws.{and_left, and_right}
 use Rattle.std.proofs.Math.Dec.{is_le, compare_is_eq}
@@ -99,30 +96,30 @@ eq-same e f h = go (compare e.from f.from) refl
     go Ordering.gt c = absurd (let g : Ordering.gt ≡ Ordering.eq = rw c at h in let z : ◌≡◌ {A = ℕ} 0 1 = cc in omega arith)
 
 -- as the code compares two edges: by their first ends, then by their second
-abbrev compared : Ends → Ends → Option Cmp.Ordering
-compared e f = partial_ordering_then (Some (nat_cmp e.from f.from)) (Some (nat_cmp e.to f.to))
+abbrev pub is_before : Ends → Ends → Bool
+is_before e f = ltb e.from f.from || eqb e.from f.from && ltb e.to f.to
 
-pub told-greater : (e f : Ends) → true ≡ is_some_and is_gt (compared e f) → Less f e
-told-greater e f h = go (nat_cmp e.from f.from) (nat_cmp e.to f.to) (ranked e.from f.from _ refl) (ranked e.to f.to _ refl) h
-  where
-    go : (p q : Cmp.Ordering) → MatchOrdering p (e.from < f.from) (e.from ≡ f.from) (f.from < e.from) → MatchOrdering q (e.to < f.to) (e.to ≡ f.to) (f.to < e.to)
-        → true ≡ is_some_and is_gt (partial_ordering_then (Some p) (Some q)) → Less f e
-    go Smaller q m n z = cc
-    go Greater q m n z = inl m
-    go Equal Smaller m n z = cc
-    go Equal Greater m n z = inr (sym m, n)
-    go Equal Equal m n z = cc
+true-false : {b : Bool} → b ≡ true → b ≡ false → ⊥
+true-false p q = let z : true ≡ false = sym p ∙ q in cc
 
-pub told-less : (e f : Ends) → false ≡ is_some_and is_gt (compared e f) → false ≡ eq_ends e f → Less e f
-told-less e f h k = go (nat_cmp e.from f.from) (nat_cmp e.to f.to) (ranked e.from f.from _ refl) (ranked e.to f.to _ refl) h
+pub before-less : (e f : Ends) → is_before e f ≡ true → Less e f
+before-less e f h = go (dec_lt e.from f.from) (dec_lt f.from e.from) (dec_lt e.to f.to)
   where
-    go : (p q : Cmp.Ordering) → MatchOrdering p (e.from < f.from) (e.from ≡ f.from) (f.from < e.from) → MatchOrdering q (e.to < f.to) (e.to ≡ f.to) (f.to < e.to)
-        → false ≡ is_some_and is_gt (partial_ordering_then (Some p) (Some q)) → Less e f
-    go Smaller q m n z = inl m
-    go Greater q m n z = cc
-    go Equal Smaller m n z = inr (m, n)
-    go Equal Greater m n z = cc
-    go Equal Equal m n z = let y : false ≡ true = k ∙ rw (eq-eqb e.from f.from m, eq-eqb e.to f.to n) in cc
+    go : Dec (e.from < f.from) → Dec (f.from < e.from) → Dec (e.to < f.to) → Less e f
+    go (yes a) b c = inl a
+    go (no a) (yes b) c = absurd (true-false h (rw (le-ltb e.from f.from (omega arith), ne_eqb e.from f.from (λ z. omega arith))))
+    go (no a) (no b) (yes c) = inr (omega arith, c)
+    go (no a) (no b) (no c) = absurd (true-false h (rw (le-ltb e.from f.from (omega arith), eq-eqb e.from f.from (omega arith), le-ltb e.to f.to (omega arith))))
+
+pub behind-less : (e f : Ends) → is_before e f ≡ false → eq_ends e f ≡ false → Less f e
+behind-less e f h k = go (dec_lt e.from f.from) (dec_lt f.from e.from) (dec_lt e.to f.to) (dec_lt f.to e.to)
+  where
+    go : Dec (e.from < f.from) → Dec (f.from < e.from) → Dec (e.to < f.to) → Dec (f.to < e.to) → Less f e
+    go (yes a) b c d = absurd (true-false (rw (lt-ltb e.from f.from a)) h)
+    go (no a) (yes b) c d = inl b
+    go (no a) (no b) (yes c) d = absurd (true-false (rw (le-ltb e.from f.from (omega arith), eq-eqb e.from f.from (omega arith), lt-ltb e.to f.to c)) h)
+    go (no a) (no b) (no c) (yes d) = inr (omega arith, d)
+    go (no a) (no b) (no c) (no d) = absurd (true-false (rw (eq-eqb e.from f.from (omega arith), eq-eqb e.to f.to (omega arith))) k)
 
 less-trans : (e f g : Ends) → Less e f → Less f g → Less e g
 less-trans e f g (inl p) (inl q) = inl (omega arith)

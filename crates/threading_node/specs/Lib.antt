@@ -9,3 +9,4 @@ pub mod Cells
 pub mod Take
 pub mod Open
 pub mod Front
+pub mod Turns

@@ -5,13 +5,16 @@
 // with its vertex as both ends, so that they stand in vertex order. Siblings rise by their edges. The slot of a vertex's root is kept by the caller, with
 // the vertex.
 // The number n stands beside the table, which is lent as long as its maximum allows, since nodes are added to it.
+// Each function asks for the rows that it reads or writes: the tables are lent slices of numbers, so no type of this project holds that they are there.
 #![tactic(auto)]
 
 ghost use Rattle.std.specs.Prelude.{◌≡◌, ◌+◌, ◌^◌, ◌<◌};
-ghost use Rattle.threading_node.specs.Ends.{ends, ends_of};
+ghost use Rattle.std.specs.Iterator.{at_most};
+ghost use Rattle.threading_node.specs.Ends.{ends, ends_of, is_before};
 ghost use Rattle.threading_node.specs.Links.{slot_at, link_to, Linked};
 ghost use Rattle.threading_node.specs.Slots.{cols, Slot, raised, placed, linked};
-ghost use Rattle.threading_node.specs.Cells.{Rowed, Sought};
+ghost use Rattle.threading_node.specs.Cells.{Rowed, Sought, above-all, left};
+ghost use Rattle.threading_node.specs.Turns.{Begun, Steps};
 ghost use Rattle.threading_node.specs.Take.{Ready, Taken};
 ghost use Rattle.threading_node.specs.Open.{Openable, OpenedAt};
 
@@ -30,7 +33,7 @@ const CHILD: usize = 3;
 const SIBLING: usize = 4;
 
 // An edge by its two ends. Edges are ordered by the vertex that they leave, then by their target, as siblings stand.
-#[derive(Clone, Copy, PartialEq, Eq, PartialOrd, Ord)]
+#[derive(Clone, Copy, PartialEq, Eq)]
 pub struct Edge {
     pub from: u32,
     pub to: u32,
@@ -132,23 +135,61 @@ fn link_node(nodes: &mut [u32], s: usize, after: Option<usize>, k: usize)
 
 // ---- the children of a node
 
+// The siblings of a row that are left, by slot: those from `at` on.
+#[derive(Clone, Drop)]
+pub struct Siblings<'a> {
+    pub nodes: &'a [u32],
+    pub at: Option<usize>,
+}
+
+// The row of siblings that begins at `start`.
+pub fn siblings_from<'a>(nodes: &'a [u32], start: Option<usize>) -> Siblings<'a>
+    ensures { Begun nodes.entry.now start result }
+{
+    Siblings { nodes, at: start }
+}
+
+impl<'a> Iterator for Siblings<'a> {
+    type Item = usize;
+
+    ghost can_next = { λ s. Rowed s.nodes.now s.at };
+
+    ghost next_gives = { Steps };
+
+    ghost remaining = { λ s. at_most (left (above-all s.nodes.now) s.nodes.now (link_to s.at)) };
+
+    fn next(&mut self) -> Option<usize> {
+        let s = self.at?;
+        self.at = next_sibling(self.nodes, s);
+        Some(s)
+    }
+}
+
+// The edge a comes before b among siblings. (By hand: a derived order was tried, and slower, since it compares both ends and takes no jump.)
+fn precedes(a: Edge, b: Edge) -> bool
+    ensures { result ≡ is_before (ends_of a) (ends_of b) }
+{
+    a.from < b.from || a.from == b.from && a.to < b.to
+}
+
 // The slot of the edge in the row of siblings that begins at `start`, or the gap where it is to stand.
 pub fn find_child(nodes: &[u32], start: Option<usize>, edge: Edge) -> Result<usize, Gap>
     requires { Rowed nodes.now start }
     ensures { Sought nodes.now start (ends_of edge) result }
 {
     let mut after = None;
-    let mut at = start;
-    while let Some(s) = at {
+    for s in siblings_from(nodes, start) {
         let sibling = edge_of(nodes, s);
-        if sibling == edge {
+        if precedes(sibling, edge) {
+            after = Some(s);
+        } else if sibling == edge {
             return Ok(s);
+        } else {
+            return Err(Gap {
+                after,
+                before: Some(s),
+            });
         }
-        if sibling > edge {
-            return Err(Gap { after, before: at });
-        }
-        after = at;
-        at = next_sibling(nodes, s);
     }
     Err(Gap {
         after,
@@ -165,6 +206,7 @@ pub struct Reached {
 
 // The node in slot `s` takes the edge with the multiplicity m: it gains m, and so does its child for that edge, which is made where it is not there. The
 // answer is the child's slot; where the table has no room for it nothing has changed.
+// (`n` and `cap` stand one by one: the answer tells n anew and cap stays, so a struct of both would be made again at each call.)
 pub fn add_edge(
     nodes: &mut [u32],
     n: usize,

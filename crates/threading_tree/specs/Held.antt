@@ -267,6 +267,11 @@ module _ (w : Walk) (cap n g b : ℕ) (root : ℕ → ℕ) (x op : List ℕ) (h 
         let q : Joins cap n v y op' h.tree h.groups s = k.is h.tree h.groups h.good told-root h.standing h.many h.apart in
         rw q.at q.some
 
+    pub held-cap : (s : TS.ThreadingState) → JoinedTo cap n v r g x y op op' (Ok s) → s.cap ≡ cap
+    held-cap s k =
+        let q : Joins cap n v y op' h.tree h.groups s = k.is h.tree h.groups h.good told-root h.standing h.many h.apart in
+        q.kept
+
     -- the walk has opened the tree; the caller keeps the root's slot for v
     pub held-opens : (s : TS.ThreadingState) (root' : ℕ → ℕ) → JoinedTo cap n v r g x y op op' (Ok s) → length y ≡ length x → length op' ≡ length op
         → root' v ≡ link_to s.root → ((u : ℕ) → (u ≡ v → ⊥) → root' u ≡ root u) → HeldWalk (open_tree v w) cap s.nodes s.groups (b + 1) root' y op'

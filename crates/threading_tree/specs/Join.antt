@@ -43,6 +43,7 @@ pub record Joins (cap n v : ℕ) (y op : List ℕ) (t : Nodes) (gs : List Group)
   pub root : At (opened v n t) 0 (ends v v ∷ []) slot
   pub some : 0 < slot
   pub room : h.nodes ≤ cap
+  pub kept : h.cap ≡ cap
   pub groups : List Group
   pub standing : Standing (opened v n t) op 0 groups
   pub many : length groups ≡ h.groups
@@ -228,7 +229,7 @@ module _ (cap n v : ℕ) (root : Option ℕ) (w : ℕ) (x op : List ℕ) (p : Jo
             let c : field op 2 (0 + i) 1 ≡ field op 2 i 1 = rw (zero-add i) in
             omega arith
 
-        pub join-raised : (op' : List ℕ) → op' ≡ put_field op 2 i 1 (field op 2 i 1 + 1) → JoinedTo cap n v root w x y op op' (Ok (record { nodes = st.nodes; groups = w; root = Some st.at }))
+        pub join-raised : (op' : List ℕ) → op' ≡ put_field op 2 i 1 (field op 2 i 1 + 1) → JoinedTo cap n v root w x y op op' (Ok (record { nodes = st.nodes; cap = cap; groups = w; root = Some st.at }))
         join-raised op' is =
             rw is
             (record {
@@ -239,7 +240,7 @@ module _ (cap n v : ℕ) (root : Option ℕ) (w : ℕ) (x op : List ℕ) (p : Jo
             })
           where
             one : (t : Nodes) (gs : List Group) → Good (cols x) n t → RootAt root v t → Standing t op 0 gs → length gs ≡ w → Apart gs
-                → Joins cap n v y (put_field op 2 i 1 (field op 2 i 1 + 1)) t gs (record { nodes = st.nodes; groups = w; root = Some st.at })
+                → Joins cap n v y (put_field op 2 i 1 (field op 2 i 1 + 1)) t gs (record { nodes = st.nodes; cap = cap; groups = w; root = Some st.at })
             one t gs g ro s l a =
                 let q = went t g ro in
                 let so = stand-opened v n t g.rising op 0 gs s in
@@ -253,6 +254,7 @@ module _ (cap n v : ℕ) (root : Option ℕ) (w : ℕ) (x op : List ℕ) (p : Jo
                   root = root-at t g ro;
                   some = root-some t g ro;
                   room = q.room;
+                  kept = refl;
                   groups = raise gs i;
                   standing = rw (zero-add i) at (stand-raise (opened v n t) op (ends v v ∷ []) 0 i gs has (omega arith) so);
                   many = raise-many gs i ∙ l;
@@ -281,7 +283,7 @@ module _ (cap n v : ℕ) (root : Option ℕ) (w : ℕ) (x op : List ℕ) (p : Jo
         pub join-room : w * 2 + 2 ≤ length op
         join-room = let a = new_in in let b = p.in-open in omega arith
 
-        pub join-new : (op' : List ℕ) → op' ≡ joined op w st.at → JoinedTo cap n v root w x y op op' (Ok (record { nodes = st.nodes; groups = w + 1; root = Some st.at }))
+        pub join-new : (op' : List ℕ) → op' ≡ joined op w st.at → JoinedTo cap n v root w x y op op' (Ok (record { nodes = st.nodes; cap = cap; groups = w + 1; root = Some st.at }))
         join-new op' is =
             rw is
             (record {
@@ -294,7 +296,7 @@ module _ (cap n v : ℕ) (root : Option ℕ) (w : ℕ) (x op : List ℕ) (p : Jo
             })
           where
             one : (t : Nodes) (gs : List Group) → Good (cols x) n t → RootAt root v t → Standing t op 0 gs → length gs ≡ w → Apart gs
-                → Joins cap n v y (joined op w st.at) t gs (record { nodes = st.nodes; groups = w + 1; root = Some st.at })
+                → Joins cap n v y (joined op w st.at) t gs (record { nodes = st.nodes; cap = cap; groups = w + 1; root = Some st.at })
             one t gs g ro s l a =
                 let q = went t g ro in
                 let so = stand-opened v n t g.rising op 0 gs s in
@@ -305,6 +307,7 @@ module _ (cap n v : ℕ) (root : Option ℕ) (w : ℕ) (x op : List ℕ) (p : Jo
                   root = root-at t g ro;
                   some = root-some t g ro;
                   room = q.room;
+                  kept = refl;
                   groups = gs ++ record { path = ends v v ∷ []; mult = 1 } ∷ [];
                   standing = stand-new (opened v n t) op (ends v v ∷ []) st.at 0 w gs (omega arith) join-room (root-at t g ro) so;
                   many = length-append gs (record { path = ends v v ∷ []; mult = 1 } ∷ []) ∙ ap (λ (k : ℕ). k + 1) l;

@@ -1,7 +1,7 @@
 -- One edge of a walk, as the definition passes it: the first vertex's tree is opened where that vertex warrants one, and every open tree takes the
 -- edge unless it is the only one that leaves. The contracts here are HeldWalk before and after.
 use Rattle.std.specs.Prelude.{◌≡◌, refl, Bool, cond, List, eqb, length, Result, Ok, Err, ℕ, ◌+◌, ◌*◌, ◌^◌, ◌<◌, ◌≤◌, true, false}
-use Rattle.std.proofs.Common.{sym, ◌∙◌, arith, eq-eqb, ne_eqb}
+use Rattle.std.proofs.Common.{subst, sym, ◌∙◌, arith, eq-eqb, ne_eqb}
 use Rattle.std.proofs.Math.Decide.{ℕ_discrete}
 use Rattle.definition.specs.Threading.{Ends, Edge, leaving}
 use Rattle.definition.specs.Evidence.{Walk, opens, take_edge, open_tree, pass}
@@ -11,7 +11,7 @@ use Rattle.threading_node.specs.Slots.{told, Beyond}
 use Rattle.threading_node.specs.Take.{Packable}
 use Rattle.threading_tree.specs.All.{Walking, TookAll}
 use Rattle.threading_tree.specs.Join.{Joinable, JoinedTo}
-use Rattle.threading_tree.specs.Held.{HeldWalk, held-roots, held-under, held-few, held-walking, held-takes, held-full, held-joinable, held-opened, held-opens, held-turned}
+use Rattle.threading_tree.specs.Held.{HeldWalk, held-roots, held-under, held-few, held-walking, held-takes, held-full, held-joinable, held-opened, held-cap, held-opens, held-turned}
 use Rattle.threading_tree.specs.Grows.{many, take-edge-grows, open-many}
 use Rattle.threading_tree.specs.declared.ThreadingState as TS
 use Rattle.refusals.specs.declared.Refusal.{Refusal}
@@ -44,7 +44,7 @@ pass-is es e w = go (opens es e.from) (eqb (length (leaving es e.from)) 1) refl 
 -- by the answer: the tables hold the walk that F makes, the caller keeping the root of v; or its trees have more nodes than the maximum
 abbrev pub SteppedTo : (Walk → Walk) → ℕ → ℕ → ℕ → (ℕ → ℕ) → Walk → List ℕ → List ℕ → Result TS.ThreadingState Refusal → Type 0
 SteppedTo F cap v b root w y op (Ok k) =
-    Linked k.root × ((root' : ℕ → ℕ) → root' v ≡ link_to k.root → ((u : ℕ) → (u ≡ v → ⊥) → root' u ≡ root u) → HeldWalk (F w) cap k.nodes k.groups b root' y op)
+    Linked k.root × ((root' : ℕ → ℕ) → root' v ≡ link_to k.root → ((u : ℕ) → (u ≡ v → ⊥) → root' u ≡ root u) → HeldWalk (F w) cap k.nodes k.groups b root' y op) × (k.cap ≡ cap)
 SteppedTo F cap v b root w y op (Err k) = (number k ≡ 9) × (cap < many (F w))
 
 -- `more w` is how much the bound of the counts grows
@@ -98,10 +98,10 @@ agrees v r root root' a b off u = go (ℕ_discrete u v)
     go (no z) = off u z
 
 -- nothing is done: the bound may grow all the same
-stays : (F : Walk → Walk) (more : Walk → ℕ) (cap v : ℕ) (h : TS.ThreadingState) (x op : List ℕ) → ((w : Walk) → F w ≡ w) → Linked h.root → Steps F more cap v h x x op op (Ok h)
-stays F more cap v h x op f l =
+stays : (F : Walk → Walk) (more : Walk → ℕ) (cap v : ℕ) (h : TS.ThreadingState) (x op : List ℕ) → ((w : Walk) → F w ≡ w) → Linked h.root → h.cap ≡ cap → Steps F more cap v h x x op op (Ok h)
+stays F more cap v h x op f l hc =
     record {
-      is = λ w b root k a. (l, λ root' e off. rw (f w) (held-under (b + more w) (omega arith) (held-roots root' (agrees v (link_to h.root) root root' a e off) k)));
+      is = λ w b root k a. (l, λ root' e off. rw (f w) (held-under (b + more w) (omega arith) (held-roots root' (agrees v (link_to h.root) root root' a e off) k)), hc);
       beyond = λ i q. refl;
       beyond-open = λ i q. refl;
     }
@@ -112,9 +112,9 @@ module _ (cap : ℕ) (e : Ends) (h : TS.ThreadingState) (x op : List ℕ) (o : B
       let a = p.spare in
       held-joinable p.walk cap h.nodes h.groups p.bound p.roots x op p.holds e.from h.root p.root p.linked p.ends.0 (omega arith) (omega arith)
 
-  pub open-not : Stepping cap e 1 h x op → o ≡ false → Steps (open_where o e.from) opening cap e.from h x x op op (Ok h)
+  pub open-not : Stepping cap e 1 h x op → h.cap ≡ cap → o ≡ false → Steps (open_where o e.from) opening cap e.from h x x op op (Ok h)
   unfolding open_where
-  open-not p z = rw z (stays (open_where false e.from) opening cap e.from h x op (λ w. refl) p.linked)
+  open-not p hc z = rw z (stays (open_where false e.from) opening cap e.from h x op (λ w. refl) p.linked hc)
 
   pub open-does : Stepping cap e 1 h x op → o ≡ true → (y op' : List ℕ) (r : Result TS.ThreadingState Refusal) → JoinedTo cap h.nodes e.from h.root h.groups x y op op' r → length y ≡ length x → length op' ≡ length op
       → Steps (open_where o e.from) opening cap e.from h x y op op' r
@@ -126,6 +126,7 @@ module _ (cap : ℕ) (e : Ends) (h : TS.ThreadingState) (x op : List ℕ) (o : B
       go (Ok s) q w b root k a = (
         held-opened w cap h.nodes h.groups b root x op k e.from h.root a p.linked y op' s q,
         λ root' c off. held-opens w cap h.nodes h.groups b root x op k e.from h.root a p.linked y op' s root' q ly lo c off,
+        held-cap w cap h.nodes h.groups b root x op k e.from h.root a p.linked y op' s q,
       )
       go (Err m) q w b root k a = held-turned w cap h.nodes h.groups b root x op k e.from h.root a p.linked y op' m q
 
@@ -135,24 +136,25 @@ module _ (cap : ℕ) (e : Ends) (h : TS.ThreadingState) (x op : List ℕ) (q : B
   pub take-walking : Stepping cap e 0 h x op → Walking cap h.nodes h.groups e x op
   take-walking p = let a = p.spare in held-walking p.walk cap h.nodes h.groups p.bound p.roots x op p.holds e p.ends (omega arith)
 
-  pub take-not : Stepping cap e 0 h x op → q ≡ true → Steps (take_unless q e) taking cap e.from h x x op op (Ok h)
+  pub take-not : Stepping cap e 0 h x op → h.cap ≡ cap → q ≡ true → Steps (take_unless q e) taking cap e.from h x x op op (Ok h)
   unfolding take_unless
-  take-not p z = rw z (stays (take_unless true e) taking cap e.from h x op (λ w. refl) p.linked)
+  take-not p hc z = rw z (stays (take_unless true e) taking cap e.from h x op (λ w. refl) p.linked hc)
 
   module _ (p : Stepping cap e 0 h x op) (z : q ≡ false) (y op' : List ℕ) (r : Result ℕ Refusal) (t : TookAll cap h.nodes h.groups e x y op op' r) where
     far : Beyond (cap * 2) op op'
     far i j = let a = held-few p.walk cap h.nodes h.groups p.bound p.roots x op p.holds e in t.beyond-open i (omega arith)
 
-    pub take-does : (k : ℕ) → r ≡ Ok k → length y ≡ length x → length op' ≡ length op
-        → Steps (take_unless q e) taking cap e.from h x y op op' (Ok (record { nodes = k; groups = h.groups; root = h.root }))
+    pub take-does : (k : ℕ) → h.cap ≡ cap → r ≡ Ok k → length y ≡ length x → length op' ≡ length op
+        → Steps (take_unless q e) taking cap e.from h x y op op' (Ok (record { nodes = k; cap = h.cap; groups = h.groups; root = h.root }))
     unfolding take_unless
-    take-does k f ly lo =
+    take-does k hc f ly lo =
         rw z
         (record {
           is = λ w b root c a. (
             p.linked,
             λ root' d off.
                 held-roots root' (agrees e.from (link_to h.root) root root' a d off) (held-takes w cap h.nodes h.groups b root x op c e y op' k (rw f at t) ly lo),
+            hc,
           );
           beyond = t.beyond;
           beyond-open = far;
@@ -214,11 +216,15 @@ module _ (cap : ℕ) (e : Ends) (h : TS.ThreadingState) (x op : List ℕ) (o q :
     after w b root c a =
         (s.is w b root c a).1 (keep_root root e.from (link_to k.root)) (keep_at root e.from (link_to k.root)) (λ u n. keep-off root e.from (link_to k.root) u n)
 
-    pub pass_on : Stepping cap e 2 h x op → Stepping cap e 0 k y op1
+    pass-cap : Stepping cap e 2 h x op → k.cap ≡ cap
+    pass-cap p = (s.is p.walk p.bound p.roots p.holds p.root).2
+
+    pub pass_on : Stepping cap e 2 h x op → Stepping k.cap e 0 k y op1
     pass_on p =
         let a = where-many o e.from p.walk in
         let b = p.spare in
-        record {
+        rw (pass-cap p)
+        (record {
           walk = open_where o e.from p.walk;
           bound = p.bound + 1;
           roots = keep_root p.roots e.from (link_to k.root);
@@ -227,11 +233,12 @@ module _ (cap : ℕ) (e : Ends) (h : TS.ThreadingState) (x op : List ℕ) (o q :
           linked = (s.is p.walk p.bound p.roots p.holds p.root).0;
           ends = p.ends;
           spare = omega arith;
-        }
+        })
 
-    pub pass-both : (y2 op2 : List ℕ) (r : Result TS.ThreadingState Refusal) → Steps (take_unless q e) taking cap e.from k y y2 op1 op2 r
+    pub pass-both : (y2 op2 : List ℕ) (r : Result TS.ThreadingState Refusal) → Stepping cap e 2 h x op → Steps (take_unless q e) taking k.cap e.from k y y2 op1 op2 r
         → Steps (λ w. take_unless q e (open_where o e.from w)) passing cap e.from h x y2 op op2 r
-    pass-both y2 op2 r s2 =
+    pass-both y2 op2 r p s0 =
+        let s2 : Steps (take_unless q e) taking cap e.from k y y2 op1 op2 r = subst (λ (m : ℕ). Steps (take_unless q e) taking m e.from k y y2 op1 op2 r) (pass-cap p) s0 in
         record {
           is = λ w b root c a. go r w b root (s2.is (open_where o e.from w) (b + 1) (keep_root root e.from (link_to k.root)) (after w b root c a) (keep_at root e.from (link_to k.root)));
           beyond = λ i j. s2.beyond i j ∙ s1.beyond i j;
@@ -243,5 +250,5 @@ module _ (cap : ℕ) (e : Ends) (h : TS.ThreadingState) (x op : List ℕ) (o q :
             → SteppedTo (λ w. take_unless q e (open_where o e.from w)) cap e.from (b + (2 + length w.opened)) root w y2 op2 r
         go (Ok j) w b root t =
             let m = where-many o e.from w in
-            (t.0, λ root' c off. held-under (b + (2 + length w.opened)) (omega arith) (t.1 root' c (λ u n. off u n ∙ sym (keep-off root e.from (link_to k.root) u n))))
+            (t.0, λ root' c off. held-under (b + (2 + length w.opened)) (omega arith) (t.1 root' c (λ u n. off u n ∙ sym (keep-off root e.from (link_to k.root) u n))), t.2)
         go (Err m) w b root t = t

@@ -1,18 +1,18 @@
 -- Reading the table in the search: what a link leads to, the tree of a vertex, the child for an edge, the sum of the branches.
 use Rattle.std.specs.Prelude.{◌≡◌, false, not, List, [], ◌∷◌, eqb, Option, Some, None, Result, Ok, Err, refl, ℕ, zero, suc, ◌+◌, ◌*◌, ◌^◌, ◌<◌, ◌≤◌, true}
-use Rattle.std.proofs.Common.{sym, ap, subst, ◌∙◌, zero-add, add-zero, eq-eqb, ne_eqb, arith}
+use Rattle.std.proofs.Common.{sym, ap, ◌∙◌, zero-add, add-zero, eq-eqb, ne_eqb, arith}
 use Prim.Native.Nat.{Ordering}
 use Rattle.std.proofs.Math.Option.{none, some}
 use Rattle.definition.specs.Threading.{Ends, compare_ends, eq_ends}
 use Rattle.definition.specs.Evidence.{Branches, bare, branch, Tree, Walk, has_branch, tree_at}
 use Rattle.definition.specs.Search.{child, offers_edge, sum_of}
-use Rattle.threading_node.specs.Ends.{ends, ends-path, gt-lt, lt-ne, eq-same, eq_ends-self, eq_ends-ne, eq_ends-false, Less, lt-less}
+use Rattle.threading_node.specs.Ends.{ends, ends-path, gt-lt, lt-ne, eq-same, eq_ends-self, eq_ends-ne, eq_ends-false}
 use Rattle.threading_node.specs.Nodes.{Nodes, nil, node, erase, size, seek_n, At, here, down, along, kids_at, Above, Rising, Fields, Links, above-less, Here, Between}
 use Rattle.threading_node.specs.Rows.{seek_n-lt, seek_n-eq, seek_n-gt, gap_here, here-same}
 use Rattle.threading_node.specs.Good.{row-of, row-rising, slot-live}
 use Rattle.threading_node.specs.Slots.{cols, Slot}
 use Rattle.threading_node.specs.Links.{slot_at, link_to, Linked, link_is, linked_at, some-link, none-link}
-use Rattle.threading_node.specs.Cells.{place_of, Rowed, Sought, above-all, left, left-falls}
+use Rattle.threading_node.specs.Cells.{place_of, Rowed, Sought}
 use Rattle.threading_node.specs.Take.{Wide, wide-slot, links-row}
 use Rattle.threading_tree.specs.Forest.{forest}
 use Rattle.threading_tree.specs.Held.{HeldWalk}
@@ -336,29 +336,6 @@ links-one x n l (node i f c b y) (node i' f' c' b' y') p q =
 pub leads_one : (n : ℕ) (x : List ℕ) (l : ℕ) (b d : Branches) → Leads n x l b → Leads n x l d → b ≡ d
 leads_one n x l b d h k = sym h.is ∙ ap erase (links-one x n l h.row k.row h.links k.links) ∙ k.is
 
--- the edges of siblings rise
-leads-later : (n : ℕ) (x : List ℕ) (l : ℕ) (b : Branches) → Leads n x l b → (l ≡ 0 → ⊥) → 0 < (cols x).next l
-    → Less (ends ((cols x).from l) ((cols x).to l)) (ends ((cols x).from ((cols x).next l)) ((cols x).to ((cols x).next l)))
-unfolding Links Rising Above
-leads-later n x l b h ne pos = go h.row h.links h.rising
-  where
-    edge : (j : ℕ) (f : Ends) → (cols x).from j ≡ f.from → (cols x).to j ≡ f.to → f ≡ ends ((cols x).from j) ((cols x).to j)
-    edge j f p q = sym (ends-path ((cols x).from j) ((cols x).to j) f.from f.to p q)
-
-    next : (i : ℕ) (f : Ends) (t : Nodes) → l ≡ i → f ≡ ends ((cols x).from l) ((cols x).to l) → Links (cols x) n ((cols x).next i) t → Above f t
-        → Less (ends ((cols x).from l) ((cols x).to l)) (ends ((cols x).from ((cols x).next l)) ((cols x).to ((cols x).next l)))
-    next i f nil z e k a = let q : (cols x).next l ≡ 0 = rw z k in absurd (omega arith)
-    next i f (node j g c b y) z e k a =
-        let is : (cols x).next l ≡ j = rw z k.0.is in
-        let d : g ≡ ends ((cols x).from ((cols x).next l)) ((cols x).to ((cols x).next l)) = edge ((cols x).next l) g (rw is k.0.from) (rw is k.0.to) in
-        subst (λ (u : Ends). Less u (ends ((cols x).from ((cols x).next l)) ((cols x).to ((cols x).next l)))) e (subst (λ (u : Ends). Less f u) d (lt-less f g a.0))
-
-    go : (t : Nodes) → Links (cols x) n l t → Rising t → Less (ends ((cols x).from l) ((cols x).to l)) (ends ((cols x).from ((cols x).next l)) ((cols x).to ((cols x).next l)))
-    go nil k r = absurd (ne k)
-    go (node i f c b y) k r =
-        let z : l ≡ i = k.0.is in
-        next i f y z (edge l f (rw z k.0.from) (rw z k.0.to)) k.2 r.0
-
 -- some have been added, and the rest is the row at the link
 pub record Summing (n : ℕ) (x : List ℕ) (l at total : ℕ) : Type 0 where
   pub rest : Branches
@@ -438,6 +415,3 @@ module _ (cap n : ℕ) (x : List ℕ) (l : ℕ) (p : Readable cap n x l) where
                     }),
                 rw hn (linked_at ((cols x).next at)),
               )
-
-          pub summing-falls : left (above-all x) x (link_to nx) < left (above-all x) x (link_to o)
-          summing-falls = rw (link, is) (left-falls x at ((cols x).next at) ne (leads-later n x at here-sum.rest here-sum.leads ne))

@@ -5,6 +5,9 @@
 // never more than nodes. It is lent memory of fixed size (a rule of the project), so a number beside it says how many of its pairs a walk uses.
 //
 // Callers use the relation HeldWalk of specs/Held: the tables hold a walk of the definition.
+//
+// The tables are lent one by one: a struct of `&mut` slices would need in each contract a clause on which slice it lends.
+// Each function asks for the rows that it reads or writes: the tables are lent slices of numbers, so no type of this project holds that they are there.
 #![tactic(auto)]
 
 ghost use Rattle.std.specs.Prelude.{◌≡◌, ◌+◌, ◌*◌, ◌^◌, ◌<◌, ◌≤◌, length, [], ◌∷◌};
@@ -21,7 +24,7 @@ use refusals::Refusal;
 use tables::{NODE_ROW, OPEN};
 use threading_node::{
     Edge, add_edge, edge_of, evidence_count, find_child, first_child, get_and_increment_root,
-    link_to, next_sibling, slot_at,
+    link_to, next_sibling, siblings_from, slot_at,
 };
 
 // Where the fields of an output row stand.
@@ -38,7 +41,7 @@ const SLOT: usize = 0;
 
 const STANDING: usize = 1;
 
-// ---- the active trees of a walk: where they stand, and how many stand there
+// ---- the active trees of a walk: where they stand, and how many stand there; a function for each field, so that no caller tells it by number
 
 fn active_slot(active: &[u32], i: usize) -> usize
     requires { i * 2 + 2 ≤ length active.now }
@@ -71,7 +74,8 @@ fn raise_pair(active: &mut [u32], i: usize)
     active[i * OPEN + STANDING] += 1;
 }
 
-// Every active tree of a walk takes the edge: the first `w` pairs of `active` are the slots where active trees stand, and how many stand there.
+// Every active tree of a walk takes the edge: the first `w` pairs of `active` are the slots where active trees stand, and how many stand there. (`w`, `n`
+// and `cap` stand one by one: the symbolic edge is taken by a walk that has no `ThreadingState`, which would hold a root too.)
 pub fn add_edge_to_junction_tree_nodes(
     nodes: &mut [u32],
     active: &mut [u32],
@@ -97,15 +101,18 @@ pub fn add_edge_to_junction_tree_nodes(
     Ok(k)
 }
 
-// How many nodes there are, how many pairs of `active` are used, and the slot of the root of the vertex where the walk stands, if it has a tree.
+// How many nodes there are and how many there may be, how many pairs of `active` are used, and the slot of the root of the vertex where the walk
+// stands, if it has a tree.
 #[derive(Clone, Copy)]
 pub struct ThreadingState {
     pub nodes: usize,
+    pub cap: usize,
     pub groups: usize,
     pub root: Option<usize>,
 }
 
 // The first of the first `w` pairs of `active` that stands at slot `at`.
+// (A `for`: with `find` it was not proved that no pair stands there where it gives none.)
 fn find_active(active: &[u32], w: usize, at: usize) -> Option<usize>
     requires { w * 2 ≤ length active.now }
     ensures { Sited active.now w at result }
@@ -123,21 +130,20 @@ pub fn add_tree_if_necessary(
     nodes: &mut [u32],
     active: &mut [u32],
     held: ThreadingState,
-    cap: usize,
     v: u32,
 ) -> Result<ThreadingState, Refusal>
-    requires { Joinable cap held.nodes v held.root held.groups nodes.old active.old }
-    ensures { JoinedTo cap held.nodes v held.root held.groups nodes.old nodes.new active.old active.new result }
+    requires { Joinable held.cap held.nodes v held.root held.groups nodes.old active.old }
+    ensures { JoinedTo held.cap held.nodes v held.root held.groups nodes.old nodes.new active.old active.new result }
 {
     let w = held.groups;
-    let r = get_and_increment_root(nodes, held.nodes, cap, v, held.root);
+    let r = get_and_increment_root(nodes, held.nodes, held.cap, v, held.root);
     let Ok(st) = r else {
         return Err(r.unwrap_err());
     };
     let opened = ThreadingState {
         nodes: st.nodes,
-        groups: w,
         root: Some(st.at),
+        ..held
     };
     if let Some(i) = find_active(active, w, st.at) {
         raise_pair(active, i);
@@ -151,21 +157,22 @@ pub fn add_tree_if_necessary(
 }
 
 // ---- one edge of a walk
+// `warrants` and `only` are the flags of the steps in specs/Pass, of which the definition's step over an edge is made: each step is a function here too,
+// which does nothing where its flag says so.
 
 // The tree of v is opened, where the vertex warrants a tree.
 pub fn open_where(
     nodes: &mut [u32],
     active: &mut [u32],
     held: ThreadingState,
-    cap: usize,
     v: u32,
     warrants: bool,
 ) -> Result<ThreadingState, Refusal>
-    requires { Stepping cap (ends v v) 1 held nodes.old active.old }
-    ensures { Steps (open_where warrants v) opening cap v held nodes.old nodes.new active.old active.new result }
+    requires { Stepping held.cap (ends v v) 1 held nodes.old active.old }
+    ensures { Steps (open_where warrants v) opening held.cap v held nodes.old nodes.new active.old active.new result }
 {
     if warrants {
-        return add_tree_if_necessary(nodes, active, held, cap, v);
+        return add_tree_if_necessary(nodes, active, held, v);
     }
     Ok(held)
 }
@@ -175,17 +182,16 @@ pub fn take_unless(
     nodes: &mut [u32],
     active: &mut [u32],
     held: ThreadingState,
-    cap: usize,
     edge: Edge,
     only: bool,
 ) -> Result<ThreadingState, Refusal>
-    requires { Stepping cap (ends_of edge) 0 held nodes.old active.old }
-    ensures { Steps (take_unless only (ends_of edge)) taking cap edge.from held nodes.old nodes.new active.old active.new result }
+    requires { Stepping held.cap (ends_of edge) 0 held nodes.old active.old }
+    ensures { Steps (take_unless only (ends_of edge)) taking held.cap edge.from held nodes.old nodes.new active.old active.new result }
 {
     if only {
         return Ok(held);
     }
-    let r = add_edge_to_junction_tree_nodes(nodes, active, held.groups, held.nodes, cap, edge);
+    let r = add_edge_to_junction_tree_nodes(nodes, active, held.groups, held.nodes, held.cap, edge);
     let Ok(k) = r else {
         return Err(r.unwrap_err());
     };
@@ -197,19 +203,18 @@ pub fn pass_edge(
     nodes: &mut [u32],
     active: &mut [u32],
     held: ThreadingState,
-    cap: usize,
     edge: Edge,
     warrants: bool,
     only: bool,
 ) -> Result<ThreadingState, Refusal>
-    requires { Stepping cap (ends_of edge) 2 held nodes.old active.old }
-    ensures { Steps (λ w. take_unless only (ends_of edge) (open_where warrants edge.from w)) passing cap edge.from held nodes.old nodes.new active.old active.new result }
+    requires { Stepping held.cap (ends_of edge) 2 held nodes.old active.old }
+    ensures { Steps (λ w. take_unless only (ends_of edge) (open_where warrants edge.from w)) passing held.cap edge.from held nodes.old nodes.new active.old active.new result }
 {
-    let r = open_where(nodes, active, held, cap, edge.from, warrants);
+    let r = open_where(nodes, active, held, edge.from, warrants);
     let Ok(h) = r else {
         return r;
     };
-    take_unless(nodes, active, h, cap, edge, only)
+    take_unless(nodes, active, h, edge, only)
 }
 
 // ---- the rows of the nodes
@@ -226,7 +231,8 @@ fn put_row(out: &mut [u32], row: usize, edge: Edge, count: u32, depth: u32)
 
 // ---- reading the finished trees
 
-// The trees of all walks: the table of nodes, how many nodes it has, and for how many it has room.
+// The trees of all walks: the table of nodes, how many nodes it has, and for how many it has room; the table is lent longer than it is filled.
+// (No invariant of the type: `Readable` and `Linked` speak of the row that begins at `start`, which each method is told, and not of the table alone.)
 #[derive(Clone, Copy)]
 pub struct Trees<'a> {
     pub nodes: &'a [u32],
@@ -236,6 +242,7 @@ pub struct Trees<'a> {
 
 impl<'a> Trees<'a> {
     // All nodes, depth first in edge order, a row each: edge, count, depth. `stack` holds, for each depth above, the link to the sibling to go on with.
+    // (A `loop` over a lent stack and no recursion: a tree may be as deep as it has nodes, for which the machine's stack need not have room.)
     pub fn write_nodes(self, stack: &mut [u32], out: &mut [u32])
         requires { Writable self.cap self.count self.nodes.now stack.old out.old }
         ensures { Written self.entry.count self.entry.nodes.now stack.old stack.new out.old out.new }
@@ -275,16 +282,15 @@ impl<'a> Trees<'a> {
         find_child(self.nodes, start, edge).ok()
     }
 
-    // The counts of the row of siblings that begins at `start`, added.
+    // The counts of the row of siblings that begins at `start`, added. (As a loop: `sum` asks that every sum along the iterator fits, and `map` that its
+    // closure may be called at each turn; the loop's invariant says both.)
     pub fn total_out_for_branch(self, start: Option<usize>) -> usize
         requires { Readable self.cap self.count self.nodes.now (link_to start) × Linked start }
         ensures { Summed self.entry.count self.entry.nodes.now (link_to start) result }
     {
         let mut total: usize = 0;
-        let mut at = start;
-        while let Some(s) = at {
+        for s in siblings_from(self.nodes, start) {
             total += evidence_count(self.nodes, s) as usize;
-            at = next_sibling(self.nodes, s);
         }
         total
     }

@@ -28,6 +28,11 @@ abbrev pub Gave : Maybe ℕ → Known → Known → List ℕ → Type 0
 Gave (Some n) old new bytes = Consumes old new (take n bytes) × (n ≡ 0 → 0 < length bytes → IsAtEnd new)
 Gave None old new bytes = Unit {0}
 
+-- the same of as many reads as fill the slice: where it is not full, the reader has none left
+abbrev pub Filled : Maybe ℕ → Known → Known → List ℕ → Type 0
+Filled (Some n) old new bytes = Consumes old new (take n bytes) × (n < length bytes → IsAtEnd new)
+Filled None old new bytes = Unit {0}
+
 -- an input of n bytes is whole only where no bytes are left behind them
 abbrev pub Ends : Maybe ℕ → ℕ → Known → Type 0
 Ends (Some m) n left = (m ≡ n) × IsAtEnd left

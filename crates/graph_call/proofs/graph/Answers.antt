@@ -4,7 +4,7 @@ use Rattle.graph_call.specs.Graph.{graph-refused, graph-room, graph-lent, graph-
 use Rattle.graph_call.proofs.graph.Goals as goal
 
 pub returns-in-Err : goal.returns-in-Err
-returns-in-Err c = graph-refused _ _ _ _ _ _ _ _ _ _ c.in-Err.ensures.refusal _ c.refused.ensures
+returns-in-Err c = graph-refused _ _ _ _ _ _ _ _ _ _ c.in-Err.ensures.refusal _ c.from.ensures
 
 pub slice_bounds-make_graph-end : goal.slice_bounds-make_graph-end
 slice_bounds-make_graph-end c = (graph-room _ _ _ _ _ _ _ _ _ c.in-Ok.ensures.refusal _ c.in-Ok.ensures.told).vertices
@@ -36,8 +36,11 @@ slice_bounds-make_graph-end-9 c = (graph-room _ _ _ _ _ _ _ _ _ c.in-Ok.ensures.
 pub slice_bounds-make_graph-end-10 : goal.slice_bounds-make_graph-end-10
 slice_bounds-make_graph-end-10 c = sym (length-take-le _ _ (graph-room _ _ _ _ _ _ _ _ _ c.in-Ok.ensures.refusal _ c.in-Ok.ensures.told).«open»)
 
-pub make_graph-requires : goal.make_graph-requires
-make_graph-requires c = graph-lent _ _ _ _ _ _ _ _ _ c.in-Ok.ensures.refusal _ c.in-Ok.ensures.told
+pub make_graph-r-requires : goal.make_graph-r-requires
+make_graph-r-requires c = graph-lent _ _ _ _ _ _ _ _ _ c.in-Ok.ensures.refusal _ c.in-Ok.ensures.told
 
-pub returns : goal.returns
-returns c = graph-made _ _ _ _ _ _ _ _ _ c.in-Ok.ensures.refusal _ c.in-Ok.ensures.told _ _ _ _ _ _ _ _ c.make_graph.ensures
+pub returns-in-Ok-r : goal.returns-in-Ok-r
+returns-in-Ok-r c = graph-made _ _ _ _ _ _ _ _ _ c.in-Ok.ensures.refusal _ c.in-Ok.ensures.told _ _ _ _ _ _ _ _ c.in-Ok-r.ensures
+
+pub returns-in-Err-r : goal.returns-in-Err-r
+returns-in-Err-r c = rw c.from-in-Err-r.ensures (graph-made _ _ _ _ _ _ _ _ _ c.in-Ok.ensures.refusal _ c.in-Ok.ensures.told _ _ _ _ _ _ _ _ c.in-Err-r.ensures)

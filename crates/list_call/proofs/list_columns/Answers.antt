@@ -8,12 +8,15 @@ use Rattle.list_call.proofs.list_columns.Goals as goal
 
 pub returns-in-Err : goal.returns-in-Err
 returns-in-Err c =
-    call-refused (handed c.args.input) c.args.rows (outputs_of c.args.row_scores.now c.args.row_closings.now c.args.row_edges.now c.args.out_bases.now c.args.sequences.now c.args.places.now) (tables_of c.args.w_vertices.now c.args.w_edges.now c.args.w_index.now c.args.w_nodes.now c.args.w_targets.now c.args.w_paths.now c.args.w_scores.now c.args.w_active.now c.args.w_queue.now c.args.w_closed.now c.args.w_order.now c.args.w_marks.now c.args.w_walks.now) _ c.in-Err.ensures (number-positive _) _ c.refused.ensures
+    call-refused (handed c.args.input) c.args.rows (outputs_of c.args.row_scores.now c.args.row_closings.now c.args.row_edges.now c.args.out_bases.now c.args.sequences.now c.args.places.now) (tables_of c.args.w_vertices.now c.args.w_edges.now c.args.w_index.now c.args.w_nodes.now c.args.w_targets.now c.args.w_paths.now c.args.w_scores.now c.args.w_active.now c.args.w_queue.now c.args.w_closed.now c.args.w_order.now c.args.w_marks.now c.args.w_walks.now) _ c.in-Err.ensures (number-positive _) _ c.from.ensures
 
-pub list_within-requires : goal.list_within-requires
-list_within-requires c =
-    call-within (handed c.args.input) c.args.rows (outputs_of c.args.row_scores.now c.args.row_closings.now c.args.row_edges.now c.args.out_bases.now c.args.sequences.now c.args.places.now) (tables_of c.args.w_vertices.now c.args.w_edges.now c.args.w_index.now c.args.w_nodes.now c.args.w_targets.now c.args.w_paths.now c.args.w_scores.now c.args.w_active.now c.args.w_queue.now c.args.w_closed.now c.args.w_order.now c.args.w_marks.now c.args.w_walks.now) _ c.in-Ok.ensures (omega arith)
+pub list_within-r-requires : goal.list_within-r-requires
+list_within-r-requires c =
+    call-within (handed c.args.input) c.args.rows (outputs_of c.args.row_scores.now c.args.row_closings.now c.args.row_edges.now c.args.out_bases.now c.args.sequences.now c.args.places.now) (tables_of c.args.w_vertices.now c.args.w_edges.now c.args.w_index.now c.args.w_nodes.now c.args.w_targets.now c.args.w_paths.now c.args.w_scores.now c.args.w_active.now c.args.w_queue.now c.args.w_closed.now c.args.w_order.now c.args.w_marks.now c.args.w_walks.now) _ c.in_default.ensures (omega arith)
 
 pub returns-in-Ok : goal.returns-in-Ok
 returns-in-Ok c =
-    call-done (handed c.args.input) c.args.rows (outputs_of c.args.row_scores.now c.args.row_closings.now c.args.row_edges.now c.args.out_bases.now c.args.sequences.now c.args.places.now) (tables_of c.args.w_vertices.now c.args.w_edges.now c.args.w_index.now c.args.w_nodes.now c.args.w_targets.now c.args.w_paths.now c.args.w_scores.now c.args.w_active.now c.args.w_queue.now c.args.w_closed.now c.args.w_order.now c.args.w_marks.now c.args.w_walks.now) _ c.in-Ok.ensures (omega arith) _ _ _ c.list_within.ensures
+    call-done (handed c.args.input) c.args.rows (outputs_of c.args.row_scores.now c.args.row_closings.now c.args.row_edges.now c.args.out_bases.now c.args.sequences.now c.args.places.now) (tables_of c.args.w_vertices.now c.args.w_edges.now c.args.w_index.now c.args.w_nodes.now c.args.w_targets.now c.args.w_paths.now c.args.w_scores.now c.args.w_active.now c.args.w_queue.now c.args.w_closed.now c.args.w_order.now c.args.w_marks.now c.args.w_walks.now) _ c.in_default.ensures (omega arith) _ _ _ c.in-Ok.ensures
+
+pub returns-in-Err-r : goal.returns-in-Err-r
+returns-in-Err-r c = rw c.from-in-Err-r.ensures (call-done (handed c.args.input) c.args.rows (outputs_of c.args.row_scores.now c.args.row_closings.now c.args.row_edges.now c.args.out_bases.now c.args.sequences.now c.args.places.now) (tables_of c.args.w_vertices.now c.args.w_edges.now c.args.w_index.now c.args.w_nodes.now c.args.w_targets.now c.args.w_paths.now c.args.w_scores.now c.args.w_active.now c.args.w_queue.now c.args.w_closed.now c.args.w_order.now c.args.w_marks.now c.args.w_walks.now) _ c.in_default.ensures (omega arith) _ _ _ c.in-Err-r.ensures)

@@ -1,5 +1,5 @@
 -- `search_list` meets its contract: a refusal is the search's, and the list is that of the state in which it ends. Assumes nothing.
-use Rattle.std.proofs.Common.{◌∙◌}
+use Rattle.std.proofs.Common.{refl, ◌∙◌}
 use Rattle.list_work.specs.Search.{finds-read, found-read, small, chain-asks, find-asks, search-stop, list-asks, told-asks, search-done}
 use Rattle.list_work.proofs.search_list.Goals as goal
 
@@ -46,7 +46,7 @@ pub shape_of-walks-in_default : goal.shape_of-walks-in_default
 shape_of-walks-in_default c = c.find_junction_best_haplotypes-r.auto.walks
 
 pub returns-in_default : goal.returns-in_default
-returns-in_default c = search-stop c.requires c.lay_chains.ensures c.lay_chains.auto.index c.search_setting-g.ensures.numbers.is c.search_setting-g.ensures.numbers.least (found-read c.search_setting-g.ensures.slices c.find_junction_best_haplotypes-r.ensures) c.unwrap_err.ensures c.refused.ensures
+returns-in_default c = search-stop c.requires c.lay_chains.ensures c.lay_chains.auto.index c.search_setting-g.ensures.numbers.is c.search_setting-g.ensures.numbers.least (found-read c.search_setting-g.ensures.slices c.find_junction_best_haplotypes-r.ensures) c.unwrap_err.ensures refl
 
 pub write_list-requires : goal.write_list-requires
 write_list-requires c = list-asks c.requires c.lay_chains.ensures c.lay_chains.auto.index c.search_setting-g.ensures.numbers.is c.search_setting-g.ensures.numbers.least (found-read c.search_setting-g.ensures.slices c.find_junction_best_haplotypes-r.ensures) c.in-Ok.is _ _ c.find_junction_best_haplotypes-r.auto.walks c.find_junction_best_haplotypes-r.auto.active

@@ -1,10 +1,10 @@
 -- `work` meets its contract: refused as the build is, the empty list where no path is asked, or the search's answer. Assumes nothing.
-use Rattle.std.proofs.Common.{sym, ◌∙◌, arith, length-take-le}
-use Rattle.list_work.specs.Work.{work-raises, work-refused, work_none, work-parts, work-searches, some-asked}
+use Rattle.std.proofs.Common.{refl, sym, ◌∙◌, arith, length-take-le}
+use Rattle.list_work.specs.Work.{raised-of, raises-of, work-raises, work-refused, work_none, work-parts, work-searches, some-asked}
 use Rattle.list_work.proofs.work.Goals as goal
 
 pub raise_graph-r-requires : goal.raise_graph-r-requires
-raise_graph-r-requires c = work-raises c.requires
+raise_graph-r-requires c = raises-of c.sample-sample.ensures (work-raises c.requires)
 
 pub shape_of-w_vertices-in_default : goal.shape_of-w_vertices-in_default
 shape_of-w_vertices-in_default c = c.raise_graph-r.auto.w_vertices
@@ -22,7 +22,7 @@ pub shape_of-w_walks-in_default : goal.shape_of-w_walks-in_default
 shape_of-w_walks-in_default c = c.raise_graph-r.auto.w_open
 
 pub returns-in_default : goal.returns-in_default
-returns-in_default c = work-refused c.requires _ _ _ _ _ c.raise_graph-r.ensures _ c.unwrap_err.ensures _ c.refused.ensures
+returns-in_default c = work-refused c.requires _ _ _ _ _ (raised-of _ _ _ _ _ _ _ _ c.sample-sample.ensures c.raise_graph-r.ensures) _ c.unwrap_err.ensures _ refl
 
 pub shape_of-w_vertices-then-a-eq0 : goal.shape_of-w_vertices-then-a-eq0
 shape_of-w_vertices-then-a-eq0 c = c.raise_graph-r.auto.w_vertices
@@ -40,34 +40,34 @@ pub shape_of-w_walks-then-a-eq0 : goal.shape_of-w_walks-then-a-eq0
 shape_of-w_walks-then-a-eq0 c = c.raise_graph-r.auto.w_open
 
 pub returns-then-a-eq0 : goal.returns-then-a-eq0
-returns-then-a-eq0 c = work_none c.requires _ _ _ _ _ c.raise_graph-r.ensures _ c.in-Ok.is c.if-a-eq0.true _ c.default.ensures
+returns-then-a-eq0 c = work_none c.requires _ _ _ _ _ (raised-of _ _ _ _ _ _ _ _ c.sample-sample.ensures c.raise_graph-r.ensures) _ c.in-Ok.is c.if-a-eq0.true _ c.default.ensures
 
 pub overflow_add-all : goal.overflow_add-all
-overflow_add-all c = (let z = (work-parts c.requires _ _ _ _ _ c.raise_graph-r.ensures _ c.in-Ok.is c.raise_graph-r.auto.w_edges c.raise_graph-r.auto.w_index).few in omega arith)
+overflow_add-all c = (let z = (work-parts c.requires _ _ _ _ _ (raised-of _ _ _ _ _ _ _ _ c.sample-sample.ensures c.raise_graph-r.ensures) _ c.in-Ok.is c.raise_graph-r.auto.w_edges c.raise_graph-r.auto.w_index).few in omega arith)
 
 pub overflow_mul-rows : goal.overflow_mul-rows
-overflow_mul-rows c = (let z = (work-parts c.requires _ _ _ _ _ c.raise_graph-r.ensures _ c.in-Ok.is c.raise_graph-r.auto.w_edges c.raise_graph-r.auto.w_index).few in omega arith)
+overflow_mul-rows c = (let z = (work-parts c.requires _ _ _ _ _ (raised-of _ _ _ _ _ _ _ _ c.sample-sample.ensures c.raise_graph-r.ensures) _ c.in-Ok.is c.raise_graph-r.auto.w_edges c.raise_graph-r.auto.w_index).few in omega arith)
 
 pub slice_bounds-search_list-end : goal.slice_bounds-search_list-end
-slice_bounds-search_list-end c = (work-parts c.requires _ _ _ _ _ c.raise_graph-r.ensures _ c.in-Ok.is c.raise_graph-r.auto.w_edges c.raise_graph-r.auto.w_index).rows
+slice_bounds-search_list-end c = (work-parts c.requires _ _ _ _ _ (raised-of _ _ _ _ _ _ _ _ c.sample-sample.ensures c.raise_graph-r.ensures) _ c.in-Ok.is c.raise_graph-r.auto.w_edges c.raise_graph-r.auto.w_index).rows
 
 pub slice_bounds-search_list-end-2 : goal.slice_bounds-search_list-end-2
-slice_bounds-search_list-end-2 c = sym (length-take-le _ _ (work-parts c.requires _ _ _ _ _ c.raise_graph-r.ensures _ c.in-Ok.is c.raise_graph-r.auto.w_edges c.raise_graph-r.auto.w_index).rows)
+slice_bounds-search_list-end-2 c = sym (length-take-le _ _ (work-parts c.requires _ _ _ _ _ (raised-of _ _ _ _ _ _ _ _ c.sample-sample.ensures c.raise_graph-r.ensures) _ c.in-Ok.is c.raise_graph-r.auto.w_edges c.raise_graph-r.auto.w_index).rows)
 
 pub slice_bounds-search_list-end-3 : goal.slice_bounds-search_list-end-3
-slice_bounds-search_list-end-3 c = (work-parts c.requires _ _ _ _ _ c.raise_graph-r.ensures _ c.in-Ok.is c.raise_graph-r.auto.w_edges c.raise_graph-r.auto.w_index).index
+slice_bounds-search_list-end-3 c = (work-parts c.requires _ _ _ _ _ (raised-of _ _ _ _ _ _ _ _ c.sample-sample.ensures c.raise_graph-r.ensures) _ c.in-Ok.is c.raise_graph-r.auto.w_edges c.raise_graph-r.auto.w_index).index
 
 pub slice_bounds-search_list-end-4 : goal.slice_bounds-search_list-end-4
-slice_bounds-search_list-end-4 c = sym (length-take-le _ _ (work-parts c.requires _ _ _ _ _ c.raise_graph-r.ensures _ c.in-Ok.is c.raise_graph-r.auto.w_edges c.raise_graph-r.auto.w_index).index)
+slice_bounds-search_list-end-4 c = sym (length-take-le _ _ (work-parts c.requires _ _ _ _ _ (raised-of _ _ _ _ _ _ _ _ c.sample-sample.ensures c.raise_graph-r.ensures) _ c.in-Ok.is c.raise_graph-r.auto.w_edges c.raise_graph-r.auto.w_index).index)
 
 pub slice_bounds-search_list-end-5 : goal.slice_bounds-search_list-end-5
-slice_bounds-search_list-end-5 c = (work-parts c.requires _ _ _ _ _ c.raise_graph-r.ensures _ c.in-Ok.is c.raise_graph-r.auto.w_edges c.raise_graph-r.auto.w_index).targets
+slice_bounds-search_list-end-5 c = (work-parts c.requires _ _ _ _ _ (raised-of _ _ _ _ _ _ _ _ c.sample-sample.ensures c.raise_graph-r.ensures) _ c.in-Ok.is c.raise_graph-r.auto.w_edges c.raise_graph-r.auto.w_index).targets
 
 pub slice_bounds-search_list-end-6 : goal.slice_bounds-search_list-end-6
-slice_bounds-search_list-end-6 c = sym (length-take-le _ _ (work-parts c.requires _ _ _ _ _ c.raise_graph-r.ensures _ c.in-Ok.is c.raise_graph-r.auto.w_edges c.raise_graph-r.auto.w_index).targets)
+slice_bounds-search_list-end-6 c = sym (length-take-le _ _ (work-parts c.requires _ _ _ _ _ (raised-of _ _ _ _ _ _ _ _ c.sample-sample.ensures c.raise_graph-r.ensures) _ c.in-Ok.is c.raise_graph-r.auto.w_edges c.raise_graph-r.auto.w_index).targets)
 
 pub search_list-requires : goal.search_list-requires
-search_list-requires c = work-searches c.requires _ _ _ _ _ c.raise_graph-r.ensures _ c.in-Ok.is _ c.raise_graph-r.auto.w_vertices c.raise_graph-r.auto.w_edges c.raise_graph-r.auto.w_index (some-asked c.if-a-eq0.false) c.raise_graph-r.auto.w_open
+search_list-requires c = work-searches c.requires _ _ _ _ _ (raised-of _ _ _ _ _ _ _ _ c.sample-sample.ensures c.raise_graph-r.ensures) _ c.in-Ok.is _ c.raise_graph-r.auto.w_vertices c.raise_graph-r.auto.w_edges c.raise_graph-r.auto.w_index (some-asked c.if-a-eq0.false) c.raise_graph-r.auto.w_open
 
 pub shape_of-row_closings : goal.shape_of-row_closings
 shape_of-row_closings c = c.search_list.auto.row_closings

@@ -14,27 +14,27 @@ fit-requires c = (k-within _ _ _ _ _ c.in_ok-check_origin.ensures (omega arith),
 pub returns-in_err-start : goal.returns-in_err-start
 returns-in_err-start c =
     rw (found-passed _ _ c.from_residual-in_err-start.ensures.1)
-    (in-reference _ _ _ _ _ c.in_ok-check_origin.ensures (omega arith) _ _ _ c.if-sequence-lt1.true (c.in_err-start.ensures false))
+    (in-reference _ _ _ _ _ c.in_ok-check_origin.ensures (omega arith) _ _ _ c.if-origin-lt1.true (c.in_err-start.ensures false))
 
-pub returns-then-sequence-lt1 : goal.returns-then-sequence-lt1
-returns-then-sequence-lt1 c = in-reference _ _ _ _ _ c.in_ok-check_origin.ensures (omega arith) _ _ _ c.if-sequence-lt1.true (c.in_ok-start.ensures false)
+pub returns-then-origin-lt1 : goal.returns-then-origin-lt1
+returns-then-origin-lt1 c = in-reference _ _ _ _ _ c.in_ok-check_origin.ensures (omega arith) _ _ _ c.if-origin-lt1.true (c.in_ok-start.ensures false)
 
-pub returns-then-read-ends : goal.returns-then-read-ends
-returns-then-read-ends c = in-none _ _ _ _ _ c.in_ok-check_origin.ensures (omega arith) _ _ c.if-sequence-lt1.false c.if-read-ends.true
+pub returns-then-read-s : goal.returns-then-read-s
+returns-then-read-s c = in-none _ _ _ _ _ c.in_ok-check_origin.ensures (omega arith) _ _ c.if-origin-lt1.false c.if-read-s.true
 
 pub overflow_sub-length : goal.overflow_sub-length
-overflow_sub-length c = (starts-before _ _ _ _ _ c.in_ok-check_origin.ensures (omega arith) _ _ c.if-read-ends.false c.read_start-start.ensures).0
+overflow_sub-length c = (starts-before _ _ _ _ _ c.in_ok-check_origin.ensures (omega arith) _ _ c.if-read-s.false c.read_start-start.ensures).0
 
 pub fit-requires-2 : goal.fit-requires-2
 fit-requires-2 c = (
   k-within _ _ _ _ _ c.in_ok-check_origin.ensures (omega arith),
-  (starts-before _ _ _ _ _ c.in_ok-check_origin.ensures (omega arith) _ _ c.if-read-ends.false c.read_start-start.ensures).1,
+  (starts-before _ _ _ _ _ c.in_ok-check_origin.ensures (omega arith) _ _ c.if-read-s.false c.read_start-start.ensures).1,
 )
 
 pub returns-in_err-at : goal.returns-in_err-at
 returns-in_err-at c =
     rw (found-passed _ _ c.from_residual-in_err-at.ensures.1)
-    (in-read _ _ _ _ _ c.in_ok-check_origin.ensures (omega arith) _ _ _ _ c.if-sequence-lt1.false c.if-read-ends.false c.read_start-start.ensures (c.in_err-at.ensures true))
+    (in-read _ _ _ _ _ c.in_ok-check_origin.ensures (omega arith) _ _ _ _ c.if-origin-lt1.false c.if-read-s.false c.read_start-start.ensures (c.in_err-at.ensures true))
 
 pub returns : goal.returns
-returns c = in-read _ _ _ _ _ c.in_ok-check_origin.ensures (omega arith) _ _ _ _ c.if-sequence-lt1.false c.if-read-ends.false c.read_start-start.ensures (c.in_ok-at.ensures true)
+returns c = in-read _ _ _ _ _ c.in_ok-check_origin.ensures (omega arith) _ _ _ _ c.if-origin-lt1.false c.if-read-s.false c.read_start-start.ensures (c.in_ok-at.ensures true)

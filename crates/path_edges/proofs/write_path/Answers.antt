@@ -1,15 +1,16 @@
-use Rattle.std.proofs.Common.{sym, ap, ◌∙◌}
-use Rattle.path_store.specs.declared.records.PathRecord.{PathRecord}
-use Rattle.path_store.specs.Cells.{numbered, numbered-none, numbered-some}
-use Rattle.path_edges.specs.Path.{filling-piece, filling-room, filling-next, filling-end}
+use Rattle.path_store.specs.Climbs.{stepped, climbs-on}
+use Rattle.path_edges.specs.Path.{table-climbs, filling-piece, filling-room, filling-next, filling-end}
 use Rattle.path_edges.proofs.write_path.Goals as goal
 
 pub write_piece-requires : goal.write_piece-requires
 write_piece-requires c =
-    (filling-piece _ _ _ _ _ c.requires.0 _ _ _ _ _ c.loop-p.invariant _ (numbered-some _ _ (ap (λ (x : PathRecord). numbered x.parent) (sym c.at.ensures) ∙ sym c.above.ensures ∙ c.in-Some.is)), filling-room _ _ _ _ _ c.requires.0 _ _ _ _ _ c.loop-p.invariant _ (numbered-some _ _ (ap (λ (x : PathRecord). numbered x.parent) (sym c.at.ensures) ∙ sym c.above.ensures ∙ c.in-Some.is)))
+    let x = (stepped c.loop-link.invariant.2 c.in-Some.ensures.steps).next in
+    rw x.0 (filling-piece _ _ _ _ _ c.requires.0 _ _ _ _ _ c.loop-link.invariant.3 _ x.1, filling-room _ _ _ _ _ c.requires.0 _ _ _ _ _ c.loop-link.invariant.3 _ x.1)
 
-pub loop-p-preserved : goal.loop-p-preserved
-loop-p-preserved c = filling-next _ _ _ _ _ c.requires.0 _ _ _ _ _ c.loop-p.invariant _ (numbered-some _ _ (ap (λ (x : PathRecord). numbered x.parent) (sym c.at.ensures) ∙ sym c.above.ensures ∙ c.in-Some.is)) _ c.write_piece.ensures
+pub loop-link-preserved : goal.loop-link-preserved
+loop-link-preserved c =
+    let x = stepped c.loop-link.invariant.2 c.in-Some.ensures.steps in
+    (climbs-on (table-climbs _ _ _ _ _ c.requires.0) c.loop-link.invariant.3.low x, tt, x.paths, rw x.next.2 (filling-next _ _ _ _ _ c.requires.0 _ _ _ _ _ c.loop-link.invariant.3 _ x.next.1 _ (rw x.next.0 at c.write_piece.ensures)))
 
 pub returns : goal.returns
-returns c = filling-end _ _ _ _ _ c.requires.0 _ _ _ _ _ c.loop-p.invariant (numbered-none _ (ap (λ (x : PathRecord). numbered x.parent) (sym c.at.ensures) ∙ sym c.above.ensures ∙ c.in_default.is))
+returns c = filling-end _ _ _ _ _ c.requires.0 _ _ _ _ _ c.loop-link.invariant.3 (stepped c.loop-link.invariant.2 c.in-None.ensures.steps).next

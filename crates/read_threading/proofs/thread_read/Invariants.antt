@@ -1,14 +1,13 @@
-use Rattle.std.proofs.Common.{◌≡◌, ◌+◌, ◌-◌, length}
+use Rattle.std.proofs.Common.{◌≡◌, length}
 use Rattle.samples.specs.Handed.{text_of}
 use Rattle.kmer_threading.specs.Indexes.{Indexes}
+use Rattle.usable_stretches.specs.Turns.{Over}
 use Rattle.read_threading.specs.Reads.{ReadLeft}
 use Rattle.read_threading.proofs.thread_read.Given as goal
 
-abbrev pub invariant-loop-p : goal.invariant-loop-p
-invariant-loop-p l =
-    ReadLeft l.sample.k l.sample.quality l.sample.text.reference.now l.sample.text.bases.now l.sample.qualities.now l.most l.sequence l.start l.end l.initial.vertices l.initial.edges l.initial.s l.vertices l.edges l.s l.p
-    × Indexes l.sample.k (text_of l.sample.text) l.vertices l.index l.most l.s.vertices
+abbrev pub invariant-loop-run : goal.invariant-loop-run
+invariant-loop-run l =
+    (goal.iterator-loop-run).can_next l.run-iterator × (goal.iterator-loop-run).is_finite l.run-iterator × Over l.d.sample l.end l.run-iterator
+    × ReadLeft l.d.sample.k l.d.sample.quality l.d.sample.text.reference.now l.d.sample.text.bases.now l.d.sample.qualities.now l.d.most l.sequence l.start l.end l.initial.vertices l.initial.edges l.initial.s l.vertices l.edges l.s l.run-iterator.at
+    × Indexes l.d.sample.k (text_of l.d.sample.text) l.vertices l.index l.d.most l.s.vertices
     × (length l.index ≡ length l.initial.index)
-
-abbrev pub decreases-loop-p : goal.decreases-loop-p
-decreases-loop-p l = l.end + 1 - l.p

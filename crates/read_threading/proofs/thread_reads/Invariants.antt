@@ -6,6 +6,6 @@ use Rattle.read_threading.proofs.thread_reads.Given as goal
 
 abbrev pub invariant-loop-j : goal.invariant-loop-j
 invariant-loop-j l =
-    ReadsLeft l.sample.k l.sample.quality l.sample.text.reference.now l.sample.ends.now l.sample.text.bases.now l.sample.qualities.now l.most l.initial.vertices l.initial.edges l.initial.s l.vertices l.edges l.s l.start l.j
-    × Indexes l.sample.k (text_of l.sample.text) l.vertices l.index l.most l.s.vertices
+    ReadsLeft l.d.sample.k l.d.sample.quality l.d.sample.text.reference.now l.d.sample.ends.now l.d.sample.text.bases.now l.d.sample.qualities.now l.d.most l.initial.vertices l.initial.edges l.initial.s l.vertices l.edges l.s l.start l.j
+    × Indexes l.d.sample.k (text_of l.d.sample.text) l.vertices l.index l.d.most l.s.vertices
     × (length l.index ≡ length l.initial.index)

@@ -12,4 +12,4 @@ pub returns-in-Ok : goal.returns-in-Ok
 returns-in-Ok c = told-accepted _ _ _ _ _ _ c.in-Ok.ensures (omega arith) c.lengths_within.ensures
 
 pub returns-in-Err : goal.returns-in-Err
-returns-in-Err c = told-refused _ _ _ _ _ _ c.in-Err.ensures (number-positive _) c.lengths_refused.ensures
+returns-in-Err c = told-refused _ _ _ _ _ _ c.in-Err.ensures (number-positive _) c.from.ensures

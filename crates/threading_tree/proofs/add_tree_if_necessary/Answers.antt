@@ -29,7 +29,7 @@ put_pair-requires c = (
 pub overflow_add-result : goal.overflow_add-result
 overflow_add-result c =
     let h = new_in _ _ _ _ _ _ _ c.requires _ _ c.get_and_increment_root-r.ensures _ c.in-Ok.is c.in_default-find_active.ensures in
-    let g = c.ranges.cap.fits in
+    let g = c.requires.openable.wide.few in
     record { fits = omega arith }
 
 pub returns : goal.returns

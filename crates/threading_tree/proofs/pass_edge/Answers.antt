@@ -13,4 +13,4 @@ pub take_unless-requires : goal.take_unless-requires
 take_unless-requires c = pass_on _ (ends_of c.args.edge) _ _ _ c.args.warrants c.args.only _ _ _ c.open_where-r.ensures _ c.in-Ok.is c.requires
 
 pub returns : goal.returns
-returns c = pass-both _ (ends_of c.args.edge) _ _ _ c.args.warrants c.args.only _ _ _ c.open_where-r.ensures _ c.in-Ok.is _ _ _ c.take_unless.ensures
+returns c = pass-both _ (ends_of c.args.edge) _ _ _ c.args.warrants c.args.only _ _ _ c.open_where-r.ensures _ c.in-Ok.is _ _ _ c.requires c.take_unless.ensures

@@ -147,20 +147,20 @@ slice_bounds-graph_tables_left-end-then-outputs_agree-2 c = array-kept 286331153
 pub slice_bounds-graph_tables_left-end-then-outputs_agree-3 : goal.slice_bounds-graph_tables_left-end-then-outputs_agree-3
 slice_bounds-graph_tables_left-end-then-outputs_agree-3 c = array-kept 2863311530 _ c.lengths_lent-l.result.nodes c.list_columns-answer.new.w_nodes c.list_columns-answer.auto.w_nodes
 
-pub slice_bounds-graph_tables_left-end-then-outputs_agree-4 : goal.slice_bounds-graph_tables_left-end-then-outputs_agree-4
-slice_bounds-graph_tables_left-end-then-outputs_agree-4 c = array-kept 2863311530 _ c.lengths_lent-l.result.targets c.list_columns-answer.new.w_targets c.list_columns-answer.auto.w_targets
+pub slice_bounds-left-end : goal.slice_bounds-left-end
+slice_bounds-left-end c = array-kept 2863311530 _ c.lengths_lent-l.result.targets c.list_columns-answer.new.w_targets c.list_columns-answer.auto.w_targets
 
 pub slice_bounds-path_tables_left-end : goal.slice_bounds-path_tables_left-end
 slice_bounds-path_tables_left-end c = array-kept 2863311530 _ c.lengths_lent-l.result.paths c.list_columns-answer.new.w_paths c.list_columns-answer.auto.w_paths
 
-pub slice_bounds-path_tables_left-end-then-graph_tables_left : goal.slice_bounds-path_tables_left-end-then-graph_tables_left
-slice_bounds-path_tables_left-end-then-graph_tables_left c = array-kept _ _ c.lengths_lent-l.result.scores c.list_columns-answer.new.w_scores c.list_columns-answer.auto.w_scores
+pub slice_bounds-path_tables_left-end-then-left : goal.slice_bounds-path_tables_left-end-then-left
+slice_bounds-path_tables_left-end-then-left c = array-kept _ _ c.lengths_lent-l.result.scores c.list_columns-answer.new.w_scores c.list_columns-answer.auto.w_scores
 
-pub slice_bounds-path_tables_left-end-then-graph_tables_left-2 : goal.slice_bounds-path_tables_left-end-then-graph_tables_left-2
-slice_bounds-path_tables_left-end-then-graph_tables_left-2 c = array-kept 43690 _ c.lengths_lent-l.result.active c.list_columns-answer.new.w_active c.list_columns-answer.auto.w_active
+pub slice_bounds-path_tables_left-end-then-left-2 : goal.slice_bounds-path_tables_left-end-then-left-2
+slice_bounds-path_tables_left-end-then-left-2 c = array-kept 43690 _ c.lengths_lent-l.result.active c.list_columns-answer.new.w_active c.list_columns-answer.auto.w_active
 
-pub slice_bounds-path_tables_left-end-then-graph_tables_left-3 : goal.slice_bounds-path_tables_left-end-then-graph_tables_left-3
-slice_bounds-path_tables_left-end-then-graph_tables_left-3 c = array-kept 2863311530 _ c.lengths_lent-l.result.queue c.list_columns-answer.new.w_queue c.list_columns-answer.auto.w_queue
+pub slice_bounds-path_tables_left-end-then-left-3 : goal.slice_bounds-path_tables_left-end-then-left-3
+slice_bounds-path_tables_left-end-then-left-3 c = array-kept 2863311530 _ c.lengths_lent-l.result.queue c.list_columns-answer.new.w_queue c.list_columns-answer.auto.w_queue
 
 pub slice_bounds-search_tables_left-end : goal.slice_bounds-search_tables_left-end
 slice_bounds-search_tables_left-end c = array-kept 2863311530 _ c.lengths_lent-l.result.closed c.list_columns-answer.new.w_closed c.list_columns-answer.auto.w_closed
