@@ -22,16 +22,16 @@ pub struct Chains<'i, 't> {
 }
 
 impl<'i, 't> Chains<'i, 't> {
-    // The sole edge at a vertex, where a chain goes on there.
-    pub fn sole(self, v: u32) -> Option<u32>
+    // The sole edge at a vertex, if a chain goes on there.
+    fn onward(self, v: u32) -> Option<u32>
         requires { v < length self.index.now }
         ensures { result ≡ numbered (get_or self.entry.index.now v 0) }
     {
         self.index[v as usize].checked_sub(1)
     }
 
-    // That edge, at a vertex where a chain is known to go on. (No Option, since its other arm would be tested at each step, which was tried, and slower.)
-    fn edge_on(self, v: u32) -> u32
+    // The sole edge at a vertex where a chain is known to go on. (No Option, since its other arm would be tested at each step, which was tried, and slower.)
+    pub fn sole(self, v: u32) -> u32
         requires { (v < length self.index.now) × (0 < get_or self.index.now v 0) }
         ensures { result ≡ sole self.entry.index.now v }
     {
@@ -43,7 +43,7 @@ impl<'i, 't> Chains<'i, 't> {
         requires { Graph self.index.now self.targets.now × (v < length self.index.now) × (0 < get_or self.index.now v 0) }
         ensures { result ≡ next self.entry.index.now self.entry.targets.now v }
     {
-        self.targets[self.edge_on(v) as usize]
+        self.targets[self.sole(v) as usize]
     }
 
     // The steps from v until a stop, or as many as there are edges.
@@ -53,7 +53,7 @@ impl<'i, 't> Chains<'i, 't> {
     {
         let mut u = v;
         for steps in 0..self.targets.len() {
-            let Some(e) = self.sole(u) else {
+            let Some(e) = self.onward(u) else {
                 return Chain { steps, vertex: u };
             };
             u = self.targets[e as usize];
@@ -71,7 +71,7 @@ impl<'i, 't> Chains<'i, 't> {
     {
         let mut u = v;
         for _ in 0..n {
-            if e == self.edge_on(u) {
+            if e == self.sole(u) {
                 return true;
             }
             u = self.next(u);
@@ -86,7 +86,7 @@ impl<'i, 't> Chains<'i, 't> {
     {
         let mut u = v;
         for i in 0..self.targets.len() {
-            let Some(e) = self.sole(u) else {
+            let Some(e) = self.onward(u) else {
                 return i;
             };
             if self.among_chain(v, i, e) {
@@ -146,7 +146,7 @@ impl<'i, 't> Chains<'i, 't> {
     {
         let mut u = start;
         for place in &mut out[at..at + c as usize] {
-            *place = self.edge_on(u);
+            *place = self.sole(u);
             u = self.next(u);
         }
     }

@@ -6,4 +6,4 @@ pub loop-steps-init : goal.loop-steps-init
 loop-steps-init c = plain-start _ _ _ _ c.requires.1
 
 pub loop-steps-preserved : goal.loop-steps-preserved
-loop-steps-preserved c = plain-next _ _ _ _ _ _ c.loop-steps.invariant _ c.requires.0 (omega arith) (sym c.sole.ensures ∙ c.in-Some.is)
+loop-steps-preserved c = plain-next _ _ _ _ _ _ c.loop-steps.invariant _ c.requires.0 (omega arith) (sym c.onward.ensures ∙ c.in-Some.is)

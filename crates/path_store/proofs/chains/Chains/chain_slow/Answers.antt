@@ -7,14 +7,14 @@ pub loop-i-init : goal.loop-i-init
 loop-i-init c = slow-start _ _ _ c.requires.1
 
 pub returns-in_default : goal.returns-in_default
-returns-in_default c = slow-stop _ _ _ _ _ c.loop-i.invariant (numbered-none _ (sym c.sole.ensures ∙ c.in_default.is))
+returns-in_default c = slow-stop _ _ _ _ _ c.loop-i.invariant (numbered-none _ (sym c.onward.ensures ∙ c.in_default.is))
 
 pub returns-then-among_chain : goal.returns-then-among_chain
-returns-then-among_chain c = slow-had _ _ _ _ _ c.loop-i.invariant _ (sym c.sole.ensures ∙ c.in-Some.is) (sym c.among_chain.ensures ∙ c.if-among_chain.true)
+returns-then-among_chain c = slow-had _ _ _ _ _ c.loop-i.invariant _ (sym c.onward.ensures ∙ c.in-Some.is) (sym c.among_chain.ensures ∙ c.if-among_chain.true)
 
 pub loop-i-preserved : goal.loop-i-preserved
 loop-i-preserved c =
-    slow-next _ _ _ _ _ c.loop-i.invariant _ c.requires.0 (omega arith) (sym c.sole.ensures ∙ c.in-Some.is) (sym c.among_chain.ensures ∙ c.if-among_chain.false)
+    slow-next _ _ _ _ _ c.loop-i.invariant _ c.requires.0 (omega arith) (sym c.onward.ensures ∙ c.in-Some.is) (sym c.among_chain.ensures ∙ c.if-among_chain.false)
 
 pub returns : goal.returns
 returns c =

@@ -19,8 +19,8 @@ back out part vs at k e l h =
     ∙ ap (λ (x : List ℕ). take at out ++ x ++ drop (at + length vs) out) (take_all (length vs) vs (omega arith))
     ∙ sym (sets-eq vs out at (omega arith))
 
-pub edge_on-requires : goal.edge_on-requires
-edge_on-requires c = (c.loop-place.invariant.fits, runs-now _ _ _ _ (omega arith) c.loop-place.invariant.runs)
+pub sole-requires : goal.sole-requires
+sole-requires c = (c.loop-place.invariant.fits, runs-now _ _ _ _ (omega arith) c.loop-place.invariant.runs)
 
 pub next-u-requires : goal.next-u-requires
 next-u-requires c = (c.requires.0, c.loop-place.invariant.fits, runs-now _ _ _ _ (omega arith) c.loop-place.invariant.runs)
@@ -28,7 +28,7 @@ next-u-requires c = (c.requires.0, c.loop-place.invariant.fits, runs-now _ _ _ _
 pub loop-place-preserved : goal.loop-place-preserved
 loop-place-preserved c =
     let e : c.args.c - (c.loop-place.place-index + 1) ≡ c.args.c - c.loop-place.place-index - 1 = omega arith in
-    rw (e, c.next-u.ensures) (writing-next _ _ _ _ _ _ _ _ _ _ c.loop-place.invariant _ c.requires.0 (omega arith) c.edge_on.ensures)
+    rw (e, c.next-u.ensures) (writing-next _ _ _ _ _ _ _ _ _ _ c.loop-place.invariant _ c.requires.0 (omega arith) c.sole.ensures)
 
 pub returns : goal.returns
 returns c =
