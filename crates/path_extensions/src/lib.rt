@@ -113,7 +113,10 @@ fn extend_by_offer(
     requires { OfferStands (setting_of g.now) g.now.graph.edges.now g.now.trees.nodes.now g.now.chains.index.now g.now.chains.targets.now g.now.column.now paths.old scores.old active.old n taken offer }
     ensures { Gives (setting_of g.now) g.now.graph.edges.now g.now.trees.nodes.now g.now.chains.index.now g.now.chains.targets.now paths.old scores.old active.old n taken 1 (offered g.now.column.now g.now.graph.edges.now offer) result paths.new scores.new active.new }
 {
-    let penalty = log_penalty(g.column, offer.count, offer.total)?;
+    let p = log_penalty(g.column, offer.count, offer.total);
+    let Ok(penalty) = p else {
+        return Err(p.unwrap_err());
+    };
     let way = Way {
         edge: offer.edge,
         score: scores[taken.path as usize] + penalty,

@@ -17,7 +17,7 @@ fn is_usable(quality: u8, b: u8, q: u8) -> bool
 }
 
 // Where the usable run at place p of the sample's bases ends: at the next unusable byte, or at `end`.
-fn run_end(sample: Sample, p: usize, end: usize) -> usize
+pub fn run_end(sample: Sample, p: usize, end: usize) -> usize
     requires { (p ≤ end) × (end ≤ length sample.text.bases.now) × (end ≤ length sample.qualities.now) }
     ensures { RunEnd (usable sample.entry.quality) sample.entry.text.bases.now sample.entry.qualities.now p end result }
 {
