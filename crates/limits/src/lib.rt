@@ -42,12 +42,13 @@ pub struct Maxima {
     pub search: SearchMaxima,
 }
 
-// k, and the sequences that an origin may name: the reference, and the reads, by where each ends in the bases.
+// k, and the sequences that an origin may name: the reference, and the reads, by where each ends in the bases. (The ends have a lifetime of their own, since a
+// part of the text may be held for longer than they are lent.)
 #[derive(Clone, Copy)]
-pub struct Sequences<'a> {
+pub struct Sequences<'t, 'e> {
     pub k: u32,
-    pub text: Text<'a>,
-    pub ends: &'a [u32],
+    pub text: Text<'t>,
+    pub ends: &'e [u32],
 }
 
 // A limit of the paper, both ends included.
