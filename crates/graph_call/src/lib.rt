@@ -79,8 +79,8 @@ fn lent_fits(told: LengthsTold, l: GraphLent) -> bool
         && tables.open <= l.open
 }
 
-// 1 to 5 and 7; the lengths told are known once the maxima are, so 7 is tested behind the rules before it, and they are what is answered where nothing is
-// refused.
+// 1 to 5 and 7; `check_graph` is told `true`, since the lengths told are known only once the maxima are, and so 7 is tested behind it. The lengths told are what
+// is answered where nothing is refused.
 fn check(sample: Sample, g: GraphMaxima, l: GraphLent) -> Result<LengthsTold, Refusal>
     ensures refusal { refusal_of result ≡ first_broken (graph_rules (sample_of sample.entry)
         (graph_maxima_of g) (told_of (graph_maxima_of g)) (lent_of l)) }

@@ -188,7 +188,12 @@ pub fn check_graph(sample: Sample, g: GraphMaxima, long_enough: bool) -> Result<
 }
 
 // 1 to 7 of the call for the list, with `long_enough` as above; neither the threshold nor recovery has a limit.
-pub fn check_list(sample: Sample, m: Maxima, column: &[f64], long_enough: bool) -> Result<(), Refusal>
+pub fn check_list(
+    sample: Sample,
+    m: Maxima,
+    column: &[f64],
+    long_enough: bool,
+) -> Result<(), Refusal>
     ensures rules { (threshold : ℤ) (recovery : Bool) (told lent : List ℕ) → is_long_enough told lent ≡ long_enough
         → refusal_of result ≡ first_broken (list_rules
         (input_of (sample_of sample.entry) m.asked threshold recovery (graph_maxima_of m.graph) (search_maxima_of m.search) column.now)
