@@ -79,7 +79,7 @@ fn lent_fits(told: LengthsTold, l: GraphLent) -> bool
         && tables.open <= l.open
 }
 
-// 1 to 5 and 7; `check_graph` is told `true`, since the lengths told are known only once the maxima are, and so 7 is tested behind it. The lengths told are what
+// 1 to 5 and 7; `check_graph` is told `true`, since the lengths told are known only once the maxima are, and so 7 is tested behind it. Those lengths are what
 // is answered where nothing is refused.
 fn check(sample: Sample, g: GraphMaxima, l: GraphLent) -> Result<LengthsTold, Refusal>
     ensures refusal { refusal_of result ≡ first_broken (graph_rules (sample_of sample.entry)
