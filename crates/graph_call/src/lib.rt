@@ -79,13 +79,14 @@ fn lent_fits(told: LengthsTold, l: GraphLent) -> bool
         && tables.open <= l.open
 }
 
-// 1 to 5 and 7; the lengths told are known once the maxima are, and are what is answered where nothing is refused.
+// 1 to 5 and 7; `check_graph` is told `true`, since the lengths told are known only once the maxima are, and so 7 is tested behind it. Those lengths are what
+// is answered where nothing is refused.
 fn check(sample: Sample, g: GraphMaxima, l: GraphLent) -> Result<LengthsTold, Refusal>
     ensures refusal { refusal_of result ≡ first_broken (graph_rules (sample_of sample.entry)
         (graph_maxima_of g) (told_of (graph_maxima_of g)) (lent_of l)) }
     ensures told { IfOk result (λ t. t ≡ told_for sample.entry.k (graph_maxima_of g)) }
 {
-    check_graph(sample, g)?;
+    check_graph(sample, g, true)?;
     let told = told_for(sample.k, g);
     if !lent_fits(told, l) {
         return Err(Refusal::ShortSlice);

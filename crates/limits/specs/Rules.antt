@@ -1,6 +1,6 @@
 -- Rules in order: laws of `first_broken`, for a call that tests one rule after the other.
-use Rattle.std.specs.Prelude.{◌≡◌, refl, ℕ, zero, suc, ◌<◌, ◌≤◌, Bool, true, false, ◌&&◌, List, [], ◌∷◌, ◌++◌, eqb, length}
-use Rattle.std.proofs.Common.{sym, ◌∙◌, arith}
+use Rattle.std.specs.Prelude.{◌≡◌, refl, ℕ, zero, suc, ◌<◌, Bool, true, false, ◌&&◌, List, [], ◌∷◌, ◌++◌, eqb, length}
+use Rattle.std.proofs.Common.{sym, ap, ◌∙◌, arith}
 use Rattle.definition.specs.Refusal.{Rule, first_broken}
 use Rattle.bio_ids.specs.Sizes.{k_rules}
 use Rattle.definition.specs.Limits.{Sample, GraphMaxima, Input, k_fits, reference_fits, reference_bases, ends_fit, reads_fit, graph_maxima_fit, settings_fit, column_fits, is_long_enough, origin_rules, sample_rules, graph_rules, list_rules}
@@ -62,6 +62,21 @@ unfolding or_short
 earlier zero b h = absurd (omega arith)
 earlier (suc n) b h = refl
 
+-- where the rules before 7 hold, the slices decide
+pub short-7 : (b : Bool) → b ≡ false → 7 ≡ or_short 0 b
+unfolding or_short
+short-7 b e = rw e
+
+pub none-7 : (b : Bool) → b ≡ true → 0 ≡ or_short 0 b
+unfolding or_short
+none-7 b e = rw e
+
+-- slices that are long enough add nothing
+pub or-long : (n : ℕ) → or_short n true ≡ n
+unfolding or_short
+or-long zero = refl
+or-long (suc n) = refl
+
 -- n is what the code's check of the rules before it answered
 module _ (xs : List Rule) (numbered : Numbered xs) where
   pub then-7 : (n : ℕ) → n ≡ first_broken xs → (b : Bool) → or_short n b ≡ first_broken (xs ++ (rule 7 b ∷ []))
@@ -69,6 +84,15 @@ module _ (xs : List Rule) (numbered : Numbered xs) where
   then-7 zero h true = all_hold ∙ holds 7 true [] refl ∙ first-hold xs (rule 7 true ∷ []) numbered h
   then-7 zero h false = broken 7 false [] refl ∙ first-hold xs (rule 7 false ∷ []) numbered h
   then-7 (suc n) h b = first-broken xs (rule 7 b ∷ []) (suc n) h (omega arith)
+
+-- r is what a call answers that is told whether the slices are long enough, by b; n is what the rules before 7 answered, and first the number of them all
+module _ (n : ℕ) (first : List ℕ → List ℕ → ℕ) (h : (told lent : List ℕ) → or_short n (is_long_enough told lent) ≡ first told lent) (b : Bool) (r : ℕ) (e : r ≡ or_short n b) where
+  pub told-7 : (told lent : List ℕ) → is_long_enough told lent ≡ b → r ≡ first told lent
+  told-7 told lent f = e ∙ ap (or_short n) (sym f) ∙ h told lent
+
+  -- and 7 is still open where they are only taken to be
+  pub open-7 : b ≡ true → (told lent : List ℕ) → or_short r (is_long_enough told lent) ≡ first told lent
+  open-7 f told lent = ap (λ (m : ℕ). or_short m (is_long_enough told lent)) (e ∙ ap (or_short n) f ∙ or-long n) ∙ h told lent
 
 -- the check of k refused nothing
 pub k-holds : (k : ℕ) (ys : List Rule) → 0 ≡ first_broken (k_rules k) → first_broken ys ≡ first_broken (rule 1 (k_fits k) ∷ ys)

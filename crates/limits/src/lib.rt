@@ -1,7 +1,7 @@
 // Refusals 1 to 7 of document 01 in the table's order, and after which numbers the workspace is unchanged.
 #![tactic(auto)]
 
-ghost use Rattle.std.specs.Prelude.{◌≡◌, ◌&&◌, Bool, List, ℕ, ℤ, eqb, length};
+ghost use Rattle.std.specs.Prelude.{◌≡◌, ◌&&◌, Bool, true, List, ℕ, ℤ, eqb, length};
 ghost use Rattle.laws.specs.Lists.{last_or};
 ghost use Rattle.laws.specs.Numbers.{within};
 ghost use Rattle.definition.specs.Refusal.{keeps_workspace, first_broken};
@@ -42,12 +42,13 @@ pub struct Maxima {
     pub search: SearchMaxima,
 }
 
-// k, and the sequences that an origin may name: the reference, and the reads, by where each ends in the bases.
+// k, and the sequences that an origin may name: the reference, and the reads, by where each ends in the bases. (The ends have a lifetime of their own, since a
+// part of the text may be held for longer than they are lent.)
 #[derive(Clone, Copy)]
-pub struct Sequences<'a> {
+pub struct Sequences<'t, 'e> {
     pub k: u32,
-    pub text: Text<'a>,
-    pub ends: &'a [u32],
+    pub text: Text<'t>,
+    pub ends: &'e [u32],
 }
 
 // A limit of the paper, both ends included.
@@ -168,21 +169,36 @@ pub fn check_sample(sample: Sample) -> Result<(), Refusal>
     Ok(())
 }
 
-// 1 to 5 of the call for edges and trees; 7 comes after them, since the lengths are told only of maxima within the limits.
-pub fn check_graph(sample: Sample, g: GraphMaxima) -> Result<(), Refusal>
-    ensures { (told lent : List ℕ) → or_short (refusal_of result) (is_long_enough told lent)
+// 1 to 7 of the call for edges and trees, which is given no column; `long_enough` says that no lent slice is shorter than told. (It is `true` for a caller that
+// is told the lengths only of maxima within the limits, and so tests 7 after this call.)
+pub fn check_graph(sample: Sample, g: GraphMaxima, long_enough: bool) -> Result<(), Refusal>
+    ensures rules { (told lent : List ℕ) → is_long_enough told lent ≡ long_enough
+        → refusal_of result ≡ first_broken (graph_rules (sample_of sample.entry) (graph_maxima_of g) told lent) }
+    ensures early { long_enough ≡ true → (told lent : List ℕ) → or_short (refusal_of result) (is_long_enough told lent)
         ≡ first_broken (graph_rules (sample_of sample.entry) (graph_maxima_of g) told lent) }
 {
     check_sample(sample)?;
     if !graph_maxima_fit(g) {
         return Err(Refusal::Maximum);
     }
+    if !long_enough {
+        return Err(Refusal::ShortSlice);
+    }
     Ok(())
 }
 
-// 1 to 6 of the call for the list, before 7 too; neither the threshold nor recovery has a limit.
-pub fn check_list(sample: Sample, m: Maxima, column: &[f64]) -> Result<(), Refusal>
-    ensures { (threshold : ℤ) (recovery : Bool) (told lent : List ℕ) → or_short (refusal_of result) (is_long_enough told lent)
+// 1 to 7 of the call for the list, with `long_enough` as above; neither the threshold nor recovery has a limit.
+pub fn check_list(
+    sample: Sample,
+    m: Maxima,
+    column: &[f64],
+    long_enough: bool,
+) -> Result<(), Refusal>
+    ensures rules { (threshold : ℤ) (recovery : Bool) (told lent : List ℕ) → is_long_enough told lent ≡ long_enough
+        → refusal_of result ≡ first_broken (list_rules
+        (input_of (sample_of sample.entry) m.asked threshold recovery (graph_maxima_of m.graph) (search_maxima_of m.search) column.now)
+        told lent) }
+    ensures early { long_enough ≡ true → (threshold : ℤ) (recovery : Bool) (told lent : List ℕ) → or_short (refusal_of result) (is_long_enough told lent)
         ≡ first_broken (list_rules
         (input_of (sample_of sample.entry) m.asked threshold recovery (graph_maxima_of m.graph) (search_maxima_of m.search) column.now)
         told lent) }
@@ -193,6 +209,9 @@ pub fn check_list(sample: Sample, m: Maxima, column: &[f64]) -> Result<(), Refus
     }
     if !column_fits(column) {
         return Err(Refusal::Column);
+    }
+    if !long_enough {
+        return Err(Refusal::ShortSlice);
     }
     Ok(())
 }

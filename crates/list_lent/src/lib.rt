@@ -76,12 +76,12 @@ fn search_fits(told: Workspace, l: Lent) -> bool
         && told.columns <= l.row_edges
 }
 
-// 1 to 7; the lengths told are known once the settings are.
+// 1 to 7; `check_list` is told `true`, since the lengths told are known only once the settings are, and so 7 is tested behind it.
 pub fn check(input: Input, l: Lent) -> Result<(), Refusal>
     ensures { refusal_of result ≡ first_broken (list_rules (handed input.entry) (told_of (handed input.entry)) (lent_of l)) }
 {
     let maxima = input.settings.maxima();
-    check_list(input.sample(), maxima, input.column)?;
+    check_list(input.sample(), maxima, input.column, true)?;
     let told = lengths_within(input.settings.k, maxima);
     if !outputs_fit(told, l) {
         return Err(Refusal::ShortSlice);

@@ -62,7 +62,7 @@ pub fn find_origin(s: Sequences, origin: Origin) -> Result<Part, Refusal>
 }
 
 // The k + 1 bytes at an origin, a part of the reference or of the read bases; on refusal that part is empty, as document 01 has it.
-pub fn origin_bytes<'a>(s: Sequences<'a>, origin: Origin) -> &'a [u8]
+pub fn origin_bytes<'t>(s: Sequences<'t, '_>, origin: Origin) -> &'t [u8]
     ensures { result.now ≡ (origin_call s.entry.k s.entry.text.reference.now s.entry.ends.now s.entry.text.bases.now (origin_of origin)).bytes }
 {
     let length = s.k as usize + 1;
