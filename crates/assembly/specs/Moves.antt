@@ -15,60 +15,60 @@ use Rattle.assembly.specs.Table.{Distinct, table-gain, table_more, count, count_
 use Rattle.assembly.specs.Store.{edge_at, edges_of, kmers_of, kmer_at, last_of, code, code_lt, Good, good-distinct}
 
 -- ---- an edge gains 1, and the mark where there is one
-unfoldable pub gained : List ℕ → ℕ → Bool → List ℕ
+unfoldable pub gained : List ℕ → ℕ → ℕ → List ℕ
 gained es i a =
-    let t = put_field es 6 i 2 (edge_support es i + 1) in cond a (put_field t 6 i 3 1) t
+    let t = put_field es 6 i 2 (edge_support es i + 1) in cond (eqb a 0) t (put_field t 6 i 3 a)
 
 one-ends : (r : Bool) (q : Origin) (d : Ends) → (one_step r q d).ends ≡ d
 unfolding one_step
 one-ends r q d = refl
 
-module _ (es : List ℕ) (i : ℕ) (a : Bool) (h : HasEdge es i) where
+module _ (es : List ℕ) (i a : ℕ) (h : HasEdge es i) where
   pub length-gained : length (gained es i a) ≡ length es
   unfolding gained
-  length-gained = go a refl
+  length-gained = go (eqb a 0) refl
     where
-      go : (b : Bool) → a ≡ b → length (gained es i a) ≡ length es
-      go false e = rw e (length-set es (i * 6 + 2) (edge_support es i + 1))
-      go true e = rw e (length-set (put_field es 6 i 2 (edge_support es i + 1)) (i * 6 + 3) 1 ∙ length-set es (i * 6 + 2) (edge_support es i + 1))
+      go : (b : Bool) → eqb a 0 ≡ b → length (gained es i a) ≡ length es
+      go true e = rw e (length-set es (i * 6 + 2) (edge_support es i + 1))
+      go false e = rw e (length-set (put_field es 6 i 2 (edge_support es i + 1)) (i * 6 + 3) a ∙ length-set es (i * 6 + 2) (edge_support es i + 1))
 
   -- every field but the two
   pub gained-other : (j c : ℕ) → c < 6 → c ≢ 2 → c ≢ 3 → field (gained es i a) 6 j c ≡ field es 6 j c
   unfolding gained
-  gained-other j c l p q = go a refl
+  gained-other j c l p q = go (eqb a 0) refl
     where
-      go : (b : Bool) → a ≡ b → field (gained es i a) 6 j c ≡ field es 6 j c
-      go false e = rw e (field-other es 6 i 2 (edge_support es i + 1) j c (omega arith) l p)
-      go true e = rw e (field-other (put_field es 6 i 2 (edge_support es i + 1)) 6 i 3 1 j c (omega arith) l q ∙ field-other es 6 i 2 (edge_support es i + 1) j c (omega arith) l p)
+      go : (b : Bool) → eqb a 0 ≡ b → field (gained es i a) 6 j c ≡ field es 6 j c
+      go true e = rw e (field-other es 6 i 2 (edge_support es i + 1) j c (omega arith) l p)
+      go false e = rw e (field-other (put_field es 6 i 2 (edge_support es i + 1)) 6 i 3 a j c (omega arith) l q ∙ field-other es 6 i 2 (edge_support es i + 1) j c (omega arith) l p)
 
   pub gained-row : (j c : ℕ) → c < 6 → j ≢ i → field (gained es i a) 6 j c ≡ field es 6 j c
   unfolding gained
-  gained-row j c l p = go a refl
+  gained-row j c l p = go (eqb a 0) refl
     where
-      go : (b : Bool) → a ≡ b → field (gained es i a) 6 j c ≡ field es 6 j c
-      go false e = rw e (row_other es 6 i 2 (edge_support es i + 1) j c (omega arith) l p)
-      go true e = rw e (row_other (put_field es 6 i 2 (edge_support es i + 1)) 6 i 3 1 j c (omega arith) l p ∙ row_other es 6 i 2 (edge_support es i + 1) j c (omega arith) l p)
+      go : (b : Bool) → eqb a 0 ≡ b → field (gained es i a) 6 j c ≡ field es 6 j c
+      go true e = rw e (row_other es 6 i 2 (edge_support es i + 1) j c (omega arith) l p)
+      go false e = rw e (row_other (put_field es 6 i 2 (edge_support es i + 1)) 6 i 3 a j c (omega arith) l p ∙ row_other es 6 i 2 (edge_support es i + 1) j c (omega arith) l p)
 
   pub gained-2 : edge_support (gained es i a) i ≡ edge_support es i + 1
   unfolding gained
-  gained-2 = go a refl
+  gained-2 = go (eqb a 0) refl
     where
-      go : (b : Bool) → a ≡ b → edge_support (gained es i a) i ≡ edge_support es i + 1
-      go false e = rw e (field-same es 6 i 2 (edge_support es i + 1) (omega arith))
-      go true e = rw e (field-other (put_field es 6 i 2 (edge_support es i + 1)) 6 i 3 1 i 2 (omega arith) (omega arith) (omega arith) ∙ field-same es 6 i 2 (edge_support es i + 1) (omega arith))
+      go : (b : Bool) → eqb a 0 ≡ b → edge_support (gained es i a) i ≡ edge_support es i + 1
+      go true e = rw e (field-same es 6 i 2 (edge_support es i + 1) (omega arith))
+      go false e = rw e (field-other (put_field es 6 i 2 (edge_support es i + 1)) 6 i 3 a i 2 (omega arith) (omega arith) (omega arith) ∙ field-same es 6 i 2 (edge_support es i + 1) (omega arith))
 
-  gained-3 : not (eqb (edge_mark (gained es i a) i) 0) ≡ (not (eqb (edge_mark es i) 0) || a)
+  gained-3 : not (eqb (edge_mark (gained es i a) i) 0) ≡ (not (eqb (edge_mark es i) 0) || not (eqb a 0))
   unfolding gained
-  gained-3 = go a refl
+  gained-3 = go (eqb a 0) refl
     where
       t : List ℕ
       t = put_field es 6 i 2 (edge_support es i + 1)
 
-      go : (b : Bool) → a ≡ b → not (eqb (edge_mark (gained es i a) i) 0) ≡ (not (eqb (edge_mark es i) 0) || a)
-      go false e = rw (e, field-other es 6 i 2 (edge_support es i + 1) i 3 (omega arith) (omega arith) (omega arith)) (sym (or-false (not (eqb (edge_mark es i) 0))))
-      go true e = rw (e, field-same t 6 i 3 1 (rw (length-set es (i * 6 + 2) (edge_support es i + 1)) (omega arith))) (sym (or-true (not (eqb (edge_mark es i) 0))))
+      go : (b : Bool) → eqb a 0 ≡ b → not (eqb (edge_mark (gained es i a) i) 0) ≡ (not (eqb (edge_mark es i) 0) || not (eqb a 0))
+      go true e = rw (e, field-other es 6 i 2 (edge_support es i + 1) i 3 (omega arith) (omega arith) (omega arith)) (sym (or-false (not (eqb (edge_mark es i) 0))))
+      go false e = rw (e, field-same t 6 i 3 a (rw (length-set es (i * 6 + 2) (edge_support es i + 1)) (omega arith)), e) (sym (or-true (not (eqb (edge_mark es i) 0))))
 
-  gained-is : (o : Origin) → edge_at (gained es i a) i ≡ merge (edge_at es i) (one_step a o (edge_at es i).ends)
+  gained-is : (o : Origin) → edge_at (gained es i a) i ≡ merge (edge_at es i) (one_step (not (eqb a 0)) o (edge_at es i).ends)
   unfolding merge one_step
   gained-is o =
       rw (
@@ -86,17 +86,17 @@ module _ (es : List ℕ) (i : ℕ) (a : Bool) (h : HasEdge es i) where
 
   -- the count of an edge that is there
   pub gained-count : {m : ℕ} → Distinct (edge_at es) m → i < m → (o : Origin)
-      → edges_of (gained es i a) m ≡ put (one_step a o (edge_at es i).ends) (edges_of es m)
+      → edges_of (gained es i a) m ≡ put (one_step (not (eqb a 0)) o (edge_at es i).ends) (edges_of es m)
   unfolding edges_of
   gained-count {m = m} d l o =
-      table-gain (edge_at es) (edge_at (gained es i a)) m i (one_step a o (edge_at es i).ends) l (one-ends a o (edge_at es i).ends) (gained-is o) (λ j p. gained-off j p) d
+      table-gain (edge_at es) (edge_at (gained es i a)) m i (one_step (not (eqb a 0)) o (edge_at es i).ends) l (one-ends (not (eqb a 0)) o (edge_at es i).ends) (gained-is o) (λ j p. gained-off j p) d
 
   pub gained-put : {k : ℕ} {text vs : List ℕ} {n m : ℕ} → Good k text vs n es m → i < m → (o : Origin)
-      → edges_of (gained es i a) m ≡ put (one_step a o (edge_at es i).ends) (edges_of es m)
+      → edges_of (gained es i a) m ≡ put (one_step (not (eqb a 0)) o (edge_at es i).ends) (edges_of es m)
   gained-put g l o = gained-count (good-distinct g) l o
 
 -- without a mark only the support is touched
-pub gained-mark : (es : List ℕ) (i : ℕ) → HasEdge es i → (j : ℕ) → edge_mark (gained es i false) j ≡ edge_mark es j
+pub gained-mark : (es : List ℕ) (i : ℕ) → HasEdge es i → (j : ℕ) → edge_mark (gained es i 0) j ≡ edge_mark es j
 unfolding gained
 gained-mark es i h j = field-other es 6 i 2 (edge_support es i + 1) j 3 (omega arith) (omega arith) (omega arith)
 
@@ -128,12 +128,12 @@ pub good-ends : {k : ℕ} {text vs : List ℕ} {n : ℕ} {es es' : List ℕ} {m 
     → Good k text vs n es m → Good k text vs n es' m
 good-ends a b g = good-front (λ j h. a j) (λ j h. b j) g
 
-pub gained-good : {k : ℕ} {text vs : List ℕ} {n : ℕ} {es : List ℕ} {m : ℕ} (i : ℕ) (a : Bool) → HasEdge es i → Good k text vs n es m → Good k text vs n (gained es i a) m
+pub gained-good : {k : ℕ} {text vs : List ℕ} {n : ℕ} {es : List ℕ} {m : ℕ} (i a : ℕ) → HasEdge es i → Good k text vs n es m → Good k text vs n (gained es i a) m
 gained-good {es = es} i a h g = good-ends (λ j. gained-other es i a h j 0 (omega arith) (omega arith) (omega arith)) (λ j. gained-other es i a h j 1 (omega arith) (omega arith) (omega arith)) g
 
 -- ---- an edge more: its row, its source's slot, its target's in-degree and in-edge
-abbrev pub row_of : Edge → List ℕ
-row_of e = e.ends.from ∷ e.ends.to ∷ e.support ∷ cond e.is_ref 1 0 ∷ e.origin.sequence ∷ e.origin.place ∷ []
+abbrev pub row_of : Edge → ℕ → List ℕ
+row_of e a = e.ends.from ∷ e.ends.to ∷ e.support ∷ a ∷ e.origin.sequence ∷ e.origin.place ∷ []
 
 abbrev pub origin_of : lent.Origin → Origin
 origin_of o = record { sequence = o.sequence; place = o.place }
@@ -141,11 +141,11 @@ origin_of o = record { sequence = o.sequence; place = o.place }
 abbrev pub edge_of : ℕ → ℕ → ℕ → Bool → Origin → Edge
 edge_of v w n a o = record { ends = record { from = v; to = w }; support = n; is_ref = a; origin = o }
 
-abbrev pub new_edge : Bool → Origin → ℕ → ℕ → Edge
-new_edge a o v w = one_step a o (record { from = v; to = w })
+abbrev pub new_edge : ℕ → Origin → ℕ → ℕ → Edge
+new_edge a o v w = one_step (not (eqb a 0)) o (record { from = v; to = w })
 
-unfoldable pub added_e : List ℕ → ℕ → Edge → List ℕ
-added_e es m e = put_from es 6 m 0 (row_of e)
+unfoldable pub added_e : List ℕ → ℕ → Edge → ℕ → List ℕ
+added_e es m e a = put_from es 6 m 0 (row_of e a)
 
 unfoldable pub added_v : List ℕ → ℕ → ℕ → ℕ → ℕ → List ℕ
 added_v vs v c w m = put_field (put_field (put_field vs 12 v c (m + 1)) 12 w 9 (incoming_count vs w + 1)) 12 w 10 (m + 1)
@@ -211,43 +211,38 @@ module _ (vs : List ℕ) (v c w m : ℕ) (hc : c < 8) where
       ∙ row_other v1 12 w 9 (incoming_count vs w + 1) u d (omega arith) k q
       ∙ row_other vs 12 v c (m + 1) u d (omega arith) k p
 
--- the mark is read back
-mark-back : (b : Bool) → not (eqb (cond b 1 0) 0) ≡ b
-mark-back true = refl
-mark-back false = refl
-
-module _ (es : List ℕ) (m : ℕ) (e : Edge) where
-  pub length-added_e : length (added_e es m e) ≡ length es
+module _ (es : List ℕ) (m : ℕ) (e : Edge) (a : ℕ) where
+  pub length-added_e : length (added_e es m e a) ≡ length es
   unfolding added_e
-  length-added_e = length-put_from es 6 m 0 (row_of e)
+  length-added_e = length-put_from es 6 m 0 (row_of e a)
 
-  pub added_e-row : (j d : ℕ) → d < 6 → j ≢ m → field (added_e es m e) 6 j d ≡ field es 6 j d
+  pub added_e-row : (j d : ℕ) → d < 6 → j ≢ m → field (added_e es m e a) 6 j d ≡ field es 6 j d
   unfolding added_e
-  added_e-row j d h p = put_from-row es 6 m 0 (row_of e) j d (omega arith) h p
+  added_e-row j d h p = put_from-row es 6 m 0 (row_of e a) j d (omega arith) h p
 
-  pub added_e-at : HasEdge es m → (d : ℕ) → d < 6 → field (added_e es m e) 6 m d ≡ get_or (row_of e) (d - 0) 0
+  pub added_e-at : HasEdge es m → (d : ℕ) → d < 6 → field (added_e es m e a) 6 m d ≡ get_or (row_of e a) (d - 0) 0
   unfolding added_e
-  added_e-at r d h = put_from-at es 6 m 0 (row_of e) d r (omega arith) (omega arith) (omega arith)
+  added_e-at r d h = put_from-at es 6 m 0 (row_of e a) d r (omega arith) (omega arith) (omega arith)
 
-  added_e-new : HasEdge es m → edge_at (added_e es m e) m ≡ e
-  added_e-new r =
-      rw (added_e-at r 0 (omega arith), added_e-at r 1 (omega arith), added_e-at r 2 (omega arith), added_e-at r 3 (omega arith), added_e-at r 4 (omega arith), added_e-at r 5 (omega arith), mark-back e.is_ref)
+  added_e-new : HasEdge es m → e.is_ref ≡ not (eqb a 0) → edge_at (added_e es m e a) m ≡ e
+  added_e-new r q =
+      rw (added_e-at r 0 (omega arith), added_e-at r 1 (omega arith), added_e-at r 2 (omega arith), added_e-at r 3 (omega arith), added_e-at r 4 (omega arith), added_e-at r 5 (omega arith), ← q)
 
-  pub added_e-old : (j : ℕ) → j ≢ m → edge_at (added_e es m e) j ≡ edge_at es j
+  pub added_e-old : (j : ℕ) → j ≢ m → edge_at (added_e es m e a) j ≡ edge_at es j
   added_e-old j p =
       rw (added_e-row j 0 (omega arith) p, added_e-row j 1 (omega arith) p, added_e-row j 2 (omega arith) p, added_e-row j 3 (omega arith) p, added_e-row j 4 (omega arith) p, added_e-row j 5 (omega arith) p)
 
-  pub added-supports : (n : ℕ) → HasEdge es m → e.support ≤ n + 1 → ((i : ℕ) → i < m → edge_support es i ≤ n) → (i : ℕ) → i < m + 1 → edge_support (added_e es m e) i ≤ n + 1
+  pub added-supports : (n : ℕ) → HasEdge es m → e.support ≤ n + 1 → ((i : ℕ) → i < m → edge_support es i ≤ n) → (i : ℕ) → i < m + 1 → edge_support (added_e es m e a) i ≤ n + 1
   added-supports n r h f i l = go (ℕ_discrete i m)
     where
-      go : Dec (i ≡ m) → edge_support (added_e es m e) i ≤ n + 1
+      go : Dec (i ≡ m) → edge_support (added_e es m e a) i ≤ n + 1
       go (yes z) = rw (z, added_e-at r 2 (omega arith)) h
       go (no z) = rw (added_e-row i 2 (omega arith) z) (let y = f i (omega arith) in omega arith)
 
   -- the count of an edge that is not there
-  pub added-put : HasEdge es m → edges_of (added_e es m e) (m + 1) ≡ put e (edges_of es m)
+  pub added-put : HasEdge es m → e.is_ref ≡ not (eqb a 0) → edges_of (added_e es m e a) (m + 1) ≡ put e (edges_of es m)
   unfolding edges_of
-  added-put r = table_more (edge_at es) (edge_at (added_e es m e)) m e (added_e-new r) (λ j h. added_e-old j (omega arith))
+  added-put r q = table_more (edge_at es) (edge_at (added_e es m e a)) m e (added_e-new r q) (λ j h. added_e-old j (omega arith))
 
 -- the vertices' kmers are a matter of field 8 alone
 pub kmers-same : (k : ℕ) (text vs vs' : List ℕ) (n : ℕ) → ((u : ℕ) → u < n → kmer_place vs' u ≡ kmer_place vs u) → kmers_of k text vs' n ≡ kmers_of k text vs n
@@ -258,7 +253,7 @@ pub kmers-added : (k : ℕ) (text vs : List ℕ) (v c w m n : ℕ) → c < 8 →
 kmers-added k text vs v c w m n h = kmers-same k text vs (added_v vs v c w m) n (λ u l. added_v-8 vs v c w m h u)
 
 -- what holds of the tables holds with one edge more, from v to w, where v's slot for w's last base was empty
-module _ {k : ℕ} {text vs : List ℕ} {n : ℕ} {es : List ℕ} {m : ℕ} (g : Good k text vs n es m) (e : Edge) (c : ℕ)
+module _ {k : ℕ} {text vs : List ℕ} {n : ℕ} {es : List ℕ} {m : ℕ} (g : Good k text vs n es m) (e : Edge) (a c : ℕ)
     (hv : e.ends.from < n) (hw : e.ends.to < n) (hc : c ≡ code (last_of k text vs n e.ends.to)) (hz : out_edge vs e.ends.from c ≡ 0)
     (lv : HasVertices vs n) (le : HasEdge es m) where
   v' : ℕ
@@ -271,7 +266,7 @@ module _ {k : ℕ} {text vs : List ℕ} {n : ℕ} {es : List ℕ} {m : ℕ} (g :
   vs' = added_v vs e.ends.from c e.ends.to m
 
   es' : List ℕ
-  es' = added_e es m e
+  es' = added_e es m e a
 
   c8 : c < 8
   c8 = rw hc (code_lt (last_of k text vs n e.ends.to))
@@ -285,15 +280,15 @@ module _ {k : ℕ} {text vs : List ℕ} {n : ℕ} {es : List ℕ} {m : ℕ} (g :
 
   new-0 : edge_from es' m ≡ e.ends.from
   unfolding es'
-  new-0 = added_e-at es m e le 0 (omega arith)
+  new-0 = added_e-at es m e a le 0 (omega arith)
 
   new-1 : edge_to es' m ≡ e.ends.to
   unfolding es'
-  new-1 = added_e-at es m e le 1 (omega arith)
+  new-1 = added_e-at es m e a le 1 (omega arith)
 
   old : (j d : ℕ) → d < 6 → j < m → field es' 6 j d ≡ field es 6 j d
   unfolding es'
-  old j d h l = added_e-row es m e j d h (omega arith)
+  old j d h l = added_e-row es m e a j d h (omega arith)
 
   -- a row of the new table is the new one or an old one
   each : (P : ℕ → Type 0) → P m → ((i : ℕ) → i < m → P i) → (i : ℕ) → i < m + 1 → P i
@@ -377,7 +372,7 @@ module _ {k : ℕ} {text vs : List ℕ} {n : ℕ} {es : List ℕ} {m : ℕ} (g :
           let b : incoming_edge vs u - 1 < m = (let s = w.0 in let t = w.1 in omega arith) in
           rw q (w.0, (let t = w.1 in omega arith), old (incoming_edge vs u - 1) 1 (omega arith) b ∙ w.2)
 
-  pub added-good : Good k text (added_v vs e.ends.from c e.ends.to m) n (added_e es m e) (m + 1)
+  pub added-good : Good k text (added_v vs e.ends.from c e.ends.to m) n (added_e es m e a) (m + 1)
   unfolding vs' es' Full
   added-good =
       record {

@@ -1,6 +1,6 @@
 -- The symbolic edge: one row more, from the sink to the number after the last kmer's, and the sink's slot 4 that names it. The rows before it still hold
 -- the graph. Assumes nothing.
-use Rattle.std.specs.Prelude.{◌≡◌, true, List, ℕ, ◌+◌, ◌*◌, length}
+use Rattle.std.specs.Prelude.{◌≡◌, refl, true, List, ℕ, ◌+◌, ◌*◌, length}
 use Rattle.std.proofs.Common.{arith, length-set}
 use Rattle.laws.specs.Records.{put_field}
 use Rattle.definition.specs.Threading.{Edge, put}
@@ -14,24 +14,24 @@ symbolic sink n place = record { ends = record { from = sink; to = n }; support 
 
 module _ (es : List ℕ) (m sink n place : ℕ) (room : HasEdge es m) where
   abbrev es' : List ℕ
-  es' = added_e es m (symbolic sink n place)
+  es' = added_e es m (symbolic sink n place) 1
 
-  pub symbolic-put : edges_of (added_e es m (symbolic sink n place)) (m + 1) ≡ put (symbolic sink n place) (edges_of es m)
-  symbolic-put = added-put es m (symbolic sink n place) room
+  pub symbolic-put : edges_of (added_e es m (symbolic sink n place) 1) (m + 1) ≡ put (symbolic sink n place) (edges_of es m)
+  symbolic-put = added-put es m (symbolic sink n place) 1 room refl
 
-  pub symbolic-front : edges_of (added_e es m (symbolic sink n place)) m ≡ edges_of es m
+  pub symbolic-front : edges_of (added_e es m (symbolic sink n place) 1) m ≡ edges_of es m
   unfolding edges_of
-  symbolic-front = table_same (edge_at es) (edge_at es') m (λ j h. added_e-old es m (symbolic sink n place) j (omega arith))
+  symbolic-front = table_same (edge_at es) (edge_at es') m (λ j h. added_e-old es m (symbolic sink n place) 1 j (omega arith))
 
-  pub symbolic-from : edge_from (added_e es m (symbolic sink n place)) m ≡ sink
-  symbolic-from = added_e-at es m (symbolic sink n place) room 0 (omega arith)
+  pub symbolic-from : edge_from (added_e es m (symbolic sink n place) 1) m ≡ sink
+  symbolic-from = added_e-at es m (symbolic sink n place) 1 room 0 (omega arith)
 
-  pub symbolic-to : edge_to (added_e es m (symbolic sink n place)) m ≡ n
-  symbolic-to = added_e-at es m (symbolic sink n place) room 1 (omega arith)
+  pub symbolic-to : edge_to (added_e es m (symbolic sink n place) 1) m ≡ n
+  symbolic-to = added_e-at es m (symbolic sink n place) 1 room 1 (omega arith)
 
-  pub symbolic-good : {k : ℕ} {text vs : List ℕ} → Good k text vs n es m → Good k text vs n (added_e es m (symbolic sink n place)) m
+  pub symbolic-good : {k : ℕ} {text vs : List ℕ} → Good k text vs n es m → Good k text vs n (added_e es m (symbolic sink n place) 1) m
   symbolic-good g =
-      good-front (λ j h. added_e-row es m (symbolic sink n place) j 0 (omega arith) (omega arith)) (λ j h. added_e-row es m (symbolic sink n place) j 1 (omega arith) (omega arith)) g
+      good-front (λ j h. added_e-row es m (symbolic sink n place) 1 j 0 (omega arith) (omega arith)) (λ j h. added_e-row es m (symbolic sink n place) 1 j 1 (omega arith) (omega arith)) g
 
 -- the sink's slot 4 names edge m
 unfoldable pub linked : List ℕ → ℕ → ℕ → List ℕ

@@ -7,7 +7,7 @@
 // Each function asks for the rows that it reads or writes: the tables are lent slices of numbers, so no type of this project holds that they are there.
 #![tactic(auto)]
 
-ghost use Rattle.std.specs.Prelude.{◌≡◌, ◌+◌, ◌^◌, ◌<◌};
+ghost use Rattle.std.specs.Prelude.{◌≡◌, ◌+◌, ◌^◌, ◌<◌, eqb, not};
 ghost use Rattle.assembly.specs.Fields.{HasVertex, slot_of, out_edge, kmer_place, incoming_count, incoming_edge, HasEdge, edge_from, edge_to, edge_support};
 ghost use Rattle.assembly.specs.Store.{edge_at};
 ghost use Rattle.assembly.specs.Kmers.{born};
@@ -123,14 +123,14 @@ pub fn create_vertex(vertices: &mut [u32], n: usize, q: usize)
     vertices[n * VERTEX + AT] = q as u32;
 }
 
-// One more support for edge i, and the mark where a step of the reference counts it.
-pub fn inc_edge(edges: &mut [u32], i: usize, is_ref: bool)
+// One more support for edge i, and the mark where there is one: 1 for the reference, 0 for a read, and any other number is kept as it is given.
+pub fn inc_edge(edges: &mut [u32], i: usize, mark: u32)
     requires { (HasEdge edges.old i) × (edge_support edges.old i + 1 < 2 ^ 32) }
-    ensures { edges.new ≡ gained edges.old i is_ref }
+    ensures { edges.new ≡ gained edges.old i mark }
 {
     edges[i * EDGE + SUPPORT] += 1;
-    if is_ref {
-        edges[i * EDGE + MARK] = 1;
+    if mark != 0 {
+        edges[i * EDGE + MARK] = mark;
     }
 }
 
@@ -141,21 +141,21 @@ fn write_edge(
     from: usize,
     to: usize,
     support: u32,
-    is_ref: bool,
+    mark: u32,
     origin: Origin,
 )
     requires { (HasEdge edges.old m) × (from < 2 ^ 32) × (to < 2 ^ 32) }
-    ensures { edges.new ≡ added_e edges.old m (edge_of from to support is_ref (origin_of origin)) }
+    ensures { edges.new ≡ added_e edges.old m (edge_of from to support (not (eqb mark 0)) (origin_of origin)) mark }
 {
     edges[m * EDGE + FROM] = from as u32;
     edges[m * EDGE + TO] = to as u32;
     edges[m * EDGE + SUPPORT] = support;
-    edges[m * EDGE + MARK] = u32::from(is_ref);
+    edges[m * EDGE + MARK] = mark;
     edges[m * EDGE + SEQUENCE] = origin.sequence;
     edges[m * EDGE + PLACE] = origin.place;
 }
 
-// Edge m, from a vertex whose slot c is empty, with support 1.
+// Edge m, from a vertex whose slot c is empty, with support 1 and the mark as it is given: 1 for the reference, 0 for a read.
 pub fn add_edge(
     vertices: &mut [u32],
     edges: &mut [u32],
@@ -163,13 +163,13 @@ pub fn add_edge(
     c: usize,
     to: usize,
     m: usize,
-    is_ref: bool,
+    mark: u32,
     origin: Origin,
 )
     requires { (HasVertex vertices.old from) × (HasVertex vertices.old to) × (HasEdge edges.old m) × (c < 8) × (from < 8192) × (to < 8192) × (m < 8192) × (incoming_count vertices.old to + 1 < 2 ^ 32) }
-    ensures { (vertices.new ≡ added_v vertices.old from c to m) × (edges.new ≡ added_e edges.old m (new_edge is_ref (origin_of origin) from to)) }
+    ensures { (vertices.new ≡ added_v vertices.old from c to m) × (edges.new ≡ added_e edges.old m (new_edge mark (origin_of origin) from to) mark) }
 {
-    write_edge(edges, m, from, to, 1, is_ref, origin);
+    write_edge(edges, m, from, to, 1, mark, origin);
     let ins = vertices[to * VERTEX + INS];
     let number = (m + 1) as u32;
     vertices[from * VERTEX + c] = number;
@@ -177,16 +177,16 @@ pub fn add_edge(
     vertices[to * VERTEX + INTO] = number;
 }
 
-// Row m becomes the symbolic edge, from the sink to vertex n: of support 0, marked, with the place of the reference's last kmer as its origin.
+// Row m becomes the symbolic edge, from the sink to vertex n: of support 0 and mark 1, with the place of the reference's last kmer as its origin.
 pub fn add_symbolic_edge(edges: &mut [u32], m: usize, sink: usize, n: usize, place: usize)
     requires { (HasEdge edges.old m) × (sink < 2 ^ 32) × (n < 2 ^ 32) × (place < 2 ^ 32) }
-    ensures { edges.new ≡ added_e edges.old m (symbolic sink n place) }
+    ensures { edges.new ≡ added_e edges.old m (symbolic sink n place) 1 }
 {
     let origin = Origin {
         sequence: 0,
         place: place as u32,
     };
-    write_edge(edges, m, sink, n, 0, true, origin);
+    write_edge(edges, m, sink, n, 0, 1, origin);
 }
 
 // The sink's slot 4, which no base has, names the symbolic edge: from here on it is among the out-edges.

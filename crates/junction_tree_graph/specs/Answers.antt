@@ -52,7 +52,7 @@ module _ {s : Sample} {v e : ℕ} {vs es : List ℕ} (x : Builds s v e vs es) (v
       pub answer-symbolic : (HasEdge es' t.edges) × (sink < 2 ^ 32) × (t.vertices < 2 ^ 32) × (length s.reference - s.k < 2 ^ 32)
       answer-symbolic = symbolic-asks x came le sink hs
 
-      pub answer-done : (fs : List ℕ) → fs ≡ added_e es' t.edges (symbolic sink t.vertices (length s.reference - s.k)) → BuiltAt s v e vs' fs t.vertices t.edges sink
+      pub answer-done : (fs : List ℕ) → fs ≡ added_e es' t.edges (symbolic sink t.vertices (length s.reference - s.k)) 1 → BuiltAt s v e vs' fs t.vertices t.edges sink
       answer-done fs f = built-at x came le sink hs (omega arith) fs f
 
 -- ---- what this is to the call for the graph: its maxima's limits, and refusal 8

@@ -317,7 +317,7 @@ module _ {s : Sample} {v e : ℕ} {vs es : List ℕ} (x : Builds s v e vs es) wh
       unfolding with_symbolic symbolic_of last_place
       with-is = rw (← the-sink, count-v, edges_are)
 
-      graph_is : graph_of s.k (text_of s) vs' t.vertices (added_e es' t.edges (symbolic sink t.vertices (length s.reference - s.k))) t.edges ≡ threaded s
+      graph_is : graph_of s.k (text_of s) vs' t.vertices (added_e es' t.edges (symbolic sink t.vertices (length s.reference - s.k)) 1) t.edges ≡ threaded s
       unfolding graph_of
       graph_is = rw (symbolic-front es' t.edges sink t.vertices (length s.reference - s.k) room-m) g.is
 
@@ -327,7 +327,7 @@ module _ {s : Sample} {v e : ℕ} {vs es : List ℕ} (x : Builds s v e vs es) wh
       fits-e : length (with_symbolic s (threaded s)) ≤ e
       fits-e = let a = g.fine.edges in let b = es-in.0 in let d = count-e in let h = length-symbolic s (threaded s) (threaded-inside s) in omega arith
 
-      pub built-at : c ≤ 2 * length (text_of s) → (fs : List ℕ) → fs ≡ added_e es' t.edges (symbolic sink t.vertices (length s.reference - s.k))
+      pub built-at : c ≤ 2 * length (text_of s) → (fs : List ℕ) → fs ≡ added_e es' t.edges (symbolic sink t.vertices (length s.reference - s.k)) 1
           → BuiltAt s v e vs' fs t.vertices t.edges sink
       built-at h fs d =
           rw d (record {
@@ -343,6 +343,6 @@ module _ {s : Sample} {v e : ℕ} {vs es : List ℕ} (x : Builds s v e vs es) wh
             to = symbolic-to es' t.edges sink t.vertices (length s.reference - s.k) room-m;
             supports =
                 λ i l.
-                rw (added_e-row es' t.edges (symbolic sink t.vertices (length s.reference - s.k)) i 2 (omega arith) (omega arith))
+                rw (added_e-row es' t.edges (symbolic sink t.vertices (length s.reference - s.k)) 1 i 2 (omega arith) (omega arith))
                 (let a = g.fine.supports i l in let b = g.counted in omega arith);
           })

@@ -42,6 +42,7 @@ fn build(
         here: 0,
         steps: 0,
     };
+    // The mark: 1 for the reference, 0 for a read.
     let r = thread_sequence(
         d,
         vertices,
@@ -50,7 +51,7 @@ fn build(
         s0,
         0,
         d.sample.text.reference.len(),
-        true,
+        1,
         Origin {
             sequence: 0,
             place: 0,

@@ -1,5 +1,5 @@
 -- One step of threading, and the contracts' words. Assumes nothing.
-use Rattle.std.specs.Prelude.{◌≡◌, ◌≢◌, ◌⊎◌, Bool, true, false, None, Some, Result, Ok, Err, List, ℕ, ◌+◌, ◌-◌, ◌^◌, ◌<◌, ◌≤◌, eqb, length, get_or}
+use Rattle.std.specs.Prelude.{◌≡◌, ◌≢◌, ◌⊎◌, Bool, true, not, None, Some, Result, Ok, Err, List, ℕ, ◌+◌, ◌-◌, ◌^◌, ◌<◌, ◌≤◌, eqb, length, get_or}
 use Rattle.std.proofs.Math.Path.{refl}
 use Rattle.std.proofs.Common.{sym, ap, ◌∙◌, arith}
 use Rattle.std.proofs.Math.Logic.{inl, inr}
@@ -134,13 +134,13 @@ step-none : (ref : Bool) (o : Origin) (x : List ℕ) (t : Threading) → follow 
 unfolding step
 step-none ref o x t h = rw (h, step)
 
-module _ {k : ℕ} {text vs es : List ℕ} {most : Most} {s : At} (f : Fine k text vs es most s) (q b : ℕ) (a : Bool) (o : Origin)
+module _ {k : ℕ} {text vs es : List ℕ} {most : Most} {s : At} (f : Fine k text vs es most s) (q b a : ℕ) (o : Origin)
     (hk : 0 < k) (hq : q + k ≤ length text) (hb : b ≡ get_or text (q + k - 1) 0) where
   last-b : last_or 0 (part k text q) ≡ b
   last-b = last-part k text q hk hq ∙ sym hb
 
   abbrev to-be : Threading
-  to-be = step a o (part k text q) (threading_of k text vs es s)
+  to-be = step (not (eqb a 0)) o (part k text q) (threading_of k text vs es s)
 
   -- ---- there is an out-edge to follow
   module _ (ib : is_base b ≡ true) (sl : ℕ) (hs : sl ≡ out_edge vs s.here (code b)) (pos : 0 < sl) where
@@ -166,7 +166,7 @@ module _ {k : ℕ} {text vs es : List ℕ} {most : Most} {s : At} (f : Fine k te
           counted = omega arith;
           is =
               rw (gained-put es (sl - 1) a slot-room f.good slot-in o, ends-are)
-              (sym (step-some a o (part k text q) (threading_of k text vs es s) (edge_at es (sl - 1)) found));
+              (sym (step-some (not (eqb a 0)) o (part k text q) (threading_of k text vs es s) (edge_at es (sl - 1)) found));
           fine =
               record {
                 good = gained-good (sl - 1) a slot-room f.good;
@@ -194,9 +194,9 @@ module _ {k : ℕ} {text vs es : List ℕ} {most : Most} {s : At} (f : Fine k te
     w = number_of (kmers_of k text vs s.vertices) (part k text q)
 
     -- what is to be: the kmers with this one, and the edge counted
-    is-to-be : to-be ≡ step_to a o (threading_of k text vs es s) (with_kmer (kmers_of k text vs s.vertices) (part k text q)) w
+    is-to-be : to-be ≡ step_to (not (eqb a 0)) o (threading_of k text vs es s) (with_kmer (kmers_of k text vs s.vertices) (part k text q)) w
     unfolding threading_of graph_of
-    is-to-be = step-none a o (part k text q) (threading_of k text vs es s) not_found
+    is-to-be = step-none (not (eqb a 0)) o (part k text q) (threading_of k text vs es s) not_found
 
     -- a vertex that is there and has the number ends in b
     old-last : w < s.vertices → last_of k text vs s.vertices w ≡ b
@@ -217,7 +217,7 @@ module _ {k : ℕ} {text vs es : List ℕ} {most : Most} {s : At} (f : Fine k te
         record {
           eight = refl;
           over = inr (rw is-to-be
-              (let z = length-put (one_step a o (record { from = s.here; to = w })) (table (edge_at es) s.edges) (table-absent (edge_at es) s.edges (record { from = s.here; to = w }) not_there) in
+              (let z = length-put (one_step (not (eqb a 0)) o (record { from = s.here; to = w })) (table (edge_at es) s.edges) (table-absent (edge_at es) s.edges (record { from = s.here; to = w }) not_there) in
               let y = length-table (edge_at es) s.edges (good-distinct f.good) in omega arith));
         }
 
@@ -243,7 +243,7 @@ module _ {k : ℕ} {text vs es : List ℕ} {most : Most} {s : At} (f : Fine k te
       good-t = got.good es s.edges (rw last-b ib) f.good
 
       pub came-edge :
-          Came k text (added_v vs' s.here (code b) t.here s.edges) (added_e es s.edges (new_edge a o s.here t.here)) most
+          Came k text (added_v vs' s.here (code b) t.here s.edges) (added_e es s.edges (new_edge a o s.here t.here) a) most
           (record { vertices = t.vertices; edges = s.edges + 1; here = t.here; steps = s.steps + 1 }) (s.steps + 1) to-be
       unfolding threading_of graph_of step_to one_step
       came-edge =
@@ -251,7 +251,7 @@ module _ {k : ℕ} {text vs es : List ℕ} {most : Most} {s : At} (f : Fine k te
             counted = omega arith;
             is =
                 rw (
-                  added-put es s.edges (new_edge a o s.here t.here) room-m,
+                  added-put es s.edges (new_edge a o s.here t.here) a room-m refl,
                   kmers-added k text vs' s.here (code b) t.here s.edges t.vertices (code_lt b),
                   got.kmers,
                   got.number,
@@ -260,15 +260,15 @@ module _ {k : ℕ} {text vs es : List ℕ} {most : Most} {s : At} (f : Fine k te
             fine =
                 record {
                   good =
-                      added-good good-t (new_edge a o s.here t.here) (code b) here_in got.here (ap code (sym (got.last ∙ last-b))) still room-t room-m;
+                      added-good good-t (new_edge a o s.here t.here) a (code b) here_in got.here (ap code (sym (got.last ∙ last-b))) still room-t room-m;
                   here = got.here;
                   vertices = got.vertices;
                   edges = omega arith;
                   room-v = rw (length-added_v vs' s.here (code b) t.here s.edges (code_lt b), got.length-v) f.room-v;
-                  room-e = rw (length-added_e es s.edges (new_edge a o s.here t.here)) f.room-e;
+                  room-e = rw (length-added_e es s.edges (new_edge a o s.here t.here) a) f.room-e;
                   few-v = f.few-v;
                   few-e = f.few-e;
-                  supports = added-supports es s.edges (new_edge a o s.here t.here) s.steps room-m (omega arith) f.supports;
+                  supports = added-supports es s.edges (new_edge a o s.here t.here) a s.steps room-m (omega arith) f.supports;
                 };
           }
 
@@ -305,8 +305,8 @@ module _ {k : ℕ} {text vs es : List ℕ} {most : Most} {s : At} {q : ℕ} (x :
   ib : is_base b ≡ true
   ib = rw hb x.base
 
-  abbrev will : Bool → Origin → Threading
-  will a o = step a o (part k text q) (threading_of k text vs es s)
+  abbrev will : ℕ → Origin → Threading
+  will a o = step (not (eqb a 0)) o (part k text q) (threading_of k text vs es s)
 
   abbrev none_of : Origin
   none_of = record { sequence = 0; place = 0 }
@@ -316,7 +316,7 @@ module _ {k : ℕ} {text vs es : List ℕ} {most : Most} {s : At} {q : ℕ} (x :
     at-i : out_edge vs s.here (code b) - 1 ≡ i
     at-i = omega arith
 
-    pub ext-known : (a : Bool) (o : Origin) (to : ℕ) → to ≡ edge_to es i → (es' : List ℕ) → es' ≡ gained es i a
+    pub ext-known : (a : ℕ) (o : Origin) (to : ℕ) → to ≡ edge_to es i → (es' : List ℕ) → es' ≡ gained es i a
         → Came k text vs es' most (record { vertices = s.vertices; edges = s.edges; here = to; steps = s.steps + 1 }) (s.steps + 1) (will a o)
     ext-known a o to h es' e = rw (e, h) (rw at-i at (came-known x.fine q b a o x.some x.inside hb ib (out_edge vs s.here (code b)) refl (omega arith)))
 
@@ -324,10 +324,10 @@ module _ {k : ℕ} {text vs es : List ℕ} {most : Most} {s : At} {q : ℕ} (x :
     hz : out_edge vs s.here (code b) ≡ 0
     hz = sym no
 
-    pub ext-full : (a : Bool) (o : Origin) → most.edges ≤ s.edges → Over most 8 (will a o)
+    pub ext-full : (a : ℕ) (o : Origin) → most.edges ≤ s.edges → Over most 8 (will a o)
     ext-full a o h = over-edges x.fine q b a o x.some x.inside hb ib hz h
 
-    pub ext-stop : (a : Bool) (o : Origin) (vs' es' : List ℕ) (c : ℕ) (e : Refusal) (r : Result At Refusal) → Got k text vs vs' most s q r → r ≡ Err e → Stepped k text vs' es' most c r (will a o)
+    pub ext-stop : (a : ℕ) (o : Origin) (vs' es' : List ℕ) (c : ℕ) (e : Refusal) (r : Result At Refusal) → Got k text vs vs' most s q r → r ≡ Err e → Stepped k text vs' es' most c r (will a o)
     ext-stop a o vs' es' c n r g e = let y : NoVertex k text vs most s q (number n) = rw e at g in rw e (over-vertices x.fine q b a o x.some x.inside hb ib hz (number n) y)
 
     module _ (h : s.edges < most.edges) (vs' : List ℕ) (t : At) (r : Result At Refusal) (g : Got k text vs vs' most s q r) (e : r ≡ Ok t) where
@@ -336,8 +336,8 @@ module _ {k : ℕ} {text vs es : List ℕ} {most : Most} {s : At} {q : ℕ} (x :
 
       pub ext-adds : (HasVertex vs' s.here) × (HasVertex vs' t.here) × (HasEdge es s.edges) × (code b < 8) × (s.here < 8192) × (t.here < 8192) × (s.edges < 8192)
           × (incoming_count vs' t.here + 1 < 2 ^ 32)
-      ext-adds = adds x.fine q b false none_of x.some x.inside hb ib hz h got
+      ext-adds = adds x.fine q b 0 none_of x.some x.inside hb ib hz h got
 
-      pub ext-new : (a : Bool) (o : Origin) (us es' : List ℕ) → us ≡ added_v vs' s.here (code b) t.here s.edges → es' ≡ added_e es s.edges (new_edge a o s.here t.here)
+      pub ext-new : (a : ℕ) (o : Origin) (us es' : List ℕ) → us ≡ added_v vs' s.here (code b) t.here s.edges → es' ≡ added_e es s.edges (new_edge a o s.here t.here) a
           → Came k text us es' most (record { vertices = t.vertices; edges = s.edges + 1; here = t.here; steps = s.steps + 1 }) (s.steps + 1) (will a o)
       ext-new a o us es' p d = rw (p, d) (came-edge x.fine q b a o x.some x.inside hb ib hz h got)

@@ -3,7 +3,7 @@
 // Each function asks for the rows that it reads or writes: the tables are lent slices of numbers, so no type of this project holds that they are there.
 #![tactic(auto)]
 
-ghost use Rattle.std.specs.Prelude.{◌+◌};
+ghost use Rattle.std.specs.Prelude.{◌+◌, eqb, not};
 ghost use Rattle.definition.specs.Threading.{step};
 ghost use Rattle.samples.specs.Handed.{text_of};
 ghost use Rattle.assembly.specs.Moves.{origin_of};
@@ -71,6 +71,7 @@ pub fn get_or_create_kmer_vertex(
 }
 
 // One step: from the vertex reached to the kmer at place q of the text, whose left neighbour has the origin.
+// The mark is 1 for the reference, 0 for a read.
 pub fn extend_chain_by_one(
     d: &Ground,
     vertices: &mut [u32],
@@ -78,11 +79,11 @@ pub fn extend_chain_by_one(
     index: &mut [u32],
     s: At,
     q: usize,
-    is_ref: bool,
+    mark: u32,
     origin: Origin,
 ) -> Result<At, Refusal>
     requires { Extends d.now.sample.k (text_of d.now.sample.text) vertices.old edges.old d.now.most s q × Indexes d.now.sample.k (text_of d.now.sample.text) vertices.old index.old d.now.most s.vertices }
-    ensures { Stepped d.now.sample.k (text_of d.now.sample.text) vertices.new edges.new d.now.most (s.steps + 1) result (step is_ref (origin_of origin) (part d.now.sample.k (text_of d.now.sample.text) q) (threading_of d.now.sample.k (text_of d.now.sample.text) vertices.old edges.old s)) × Keeps d.now.sample.k (text_of d.now.sample.text) vertices.new index.new d.now.most result }
+    ensures { Stepped d.now.sample.k (text_of d.now.sample.text) vertices.new edges.new d.now.most (s.steps + 1) result (step (not (eqb mark 0)) (origin_of origin) (part d.now.sample.k (text_of d.now.sample.text) q) (threading_of d.now.sample.k (text_of d.now.sample.text) vertices.old edges.old s)) × Keeps d.now.sample.k (text_of d.now.sample.text) vertices.new index.new d.now.most result }
 {
     let k = d.sample.k as usize;
     let b = usize::from(d.sample.text.byte_at(q + k - 1));
@@ -90,7 +91,7 @@ pub fn extend_chain_by_one(
     let c = b / 2 % 8;
     if let Some(i) = out_edge(vertices, s.here, c) {
         let here = edge_to(edges, i);
-        inc_edge(edges, i, is_ref);
+        inc_edge(edges, i, mark);
         return Ok(At {
             here,
             steps: s.steps + 1,
@@ -105,7 +106,7 @@ pub fn extend_chain_by_one(
     let Ok(t) = r else {
         return r;
     };
-    add_edge(vertices, edges, s.here, c, t.here, m, is_ref, origin);
+    add_edge(vertices, edges, s.here, c, t.here, m, mark, origin);
     Ok(At {
         edges: m + 1,
         steps: s.steps + 1,

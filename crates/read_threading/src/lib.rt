@@ -36,7 +36,8 @@ fn thread_run(
     if len < k {
         return Ok(s);
     }
-    thread_sequence(d, vertices, edges, index, s, a, len, false, origin)
+    // The mark: 1 for the reference, 0 for a read.
+    thread_sequence(d, vertices, edges, index, s, a, len, 0, origin)
 }
 
 // The read that lies from `start` to `end` of the bases: one usable run after the other.

@@ -86,12 +86,12 @@ module _ {vs es : List ℕ} {s : At} {v left : ℕ} (x : Backs vs es s v left) w
 
     module _ (more : left ≡ 0 → ⊥) where
       -- what the next call asks
-      module _ (es' : List ℕ) (e : es' ≡ gained es (incoming_edge vs v - 1) false) where
+      module _ (es' : List ℕ) (e : es' ≡ gained es (incoming_edge vs v - 1) 0) where
         abbrev next : At
         next = record { vertices = s.vertices; edges = s.edges; here = s.here; steps = s.steps + 1 }
 
         other : (j c : ℕ) → c < 6 → c ≢ 2 → c ≢ 3 → edge_field es' j c ≡ edge_field es j c
-        other j c l m n = rw e (gained-other es (incoming_edge vs v - 1) false back-room j c l m n)
+        other j c l m n = rw e (gained-other es (incoming_edge vs v - 1) 0 back-room j c l m n)
 
         mark : (j : ℕ) → edge_mark es' j ≡ edge_mark es j
         mark j = rw e (gained-mark es (incoming_edge vs v - 1) back-room j)
@@ -100,8 +100,8 @@ module _ {vs es : List ℕ} {s : At} {v left : ℕ} (x : Backs vs es s v left) w
         gains j h = go (ℕ_discrete j (incoming_edge vs v - 1))
           where
             go : Dec (j ≡ incoming_edge vs v - 1) → edge_support es' j ≤ s.steps + 1
-            go (yes z) = rw (e, z, gained-2 es (incoming_edge vs v - 1) false back-room) (let y = x.supports (incoming_edge vs v - 1) back_in in omega arith)
-            go (no z) = rw (e, gained-row es (incoming_edge vs v - 1) false back-room j 2 (omega arith) z) (let y = x.supports j h in omega arith)
+            go (yes z) = rw (e, z, gained-2 es (incoming_edge vs v - 1) 0 back-room) (let y = x.supports (incoming_edge vs v - 1) back_in in omega arith)
+            go (no z) = rw (e, gained-row es (incoming_edge vs v - 1) 0 back-room j 2 (omega arith) z) (let y = x.supports j h in omega arith)
 
         pub back-next : Backs vs es' next (edge_from es (incoming_edge vs v - 1)) (left - 1)
         back-next =
@@ -115,7 +115,7 @@ module _ {vs es : List ℕ} {s : At} {v left : ℕ} (x : Backs vs es s v left) w
                   };
               at = x.ins.from_in (incoming_edge vs v - 1) back_in;
               room-v = x.room-v;
-              room-e = rw (e, length-gained es (incoming_edge vs v - 1) false back-room) x.room-e;
+              room-e = rw (e, length-gained es (incoming_edge vs v - 1) 0 back-room) x.room-e;
               few-e = x.few-e;
               supports = gains;
               steps = let y = x.steps in omega arith;
@@ -127,7 +127,7 @@ module _ {vs es : List ℕ} {s : At} {v left : ℕ} (x : Backs vs es s v left) w
               is =
                   b.is
                   ∙ ap (λ (l : List Edge). backward (left - 1) (edge_from es (incoming_edge vs v - 1)) l)
-                  (ap (λ (l : List ℕ). edges_of l s.edges) e ∙ gained-count es (incoming_edge vs v - 1) false back-room x.ins.distinct back_in (edge_at es (incoming_edge vs v - 1)).origin)
+                  (ap (λ (l : List ℕ). edges_of l s.edges) e ∙ gained-count es (incoming_edge vs v - 1) 0 back-room x.ins.distinct back_in (edge_at es (incoming_edge vs v - 1)).origin)
                   ∙ sym (backward-some (left - 1) v (edges_of es s.edges) (edge_at es (incoming_edge vs v - 1)) sole-here)
                   ∙ ap (λ (n : ℕ). backward n v (edges_of es s.edges)) (let z : suc (left - 1) ≡ left = omega arith in z);
               kept = λ j c l m. keeps j c l m (ℕ_discrete c 3);
@@ -152,8 +152,8 @@ module _ {vs es : List ℕ} {s : At} {v left : ℕ} (x : Backs vs es s v left) (
       at-i = omega arith
 
       module _ (more : left ≡ 0 → ⊥) where
-        module _ (from : ℕ) (hf : from ≡ edge_from es i) (es' : List ℕ) (g : es' ≡ gained es i false) where
-          g' : es' ≡ gained es (incoming_edge vs v - 1) false
+        module _ (from : ℕ) (hf : from ≡ edge_from es i) (es' : List ℕ) (g : es' ≡ gained es i 0) where
+          g' : es' ≡ gained es (incoming_edge vs v - 1) 0
           g' = rw at-i g
 
           hf' : from ≡ edge_from es (incoming_edge vs v - 1)

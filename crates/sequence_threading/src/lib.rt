@@ -3,7 +3,7 @@
 // Each function asks for the rows that it reads or writes: the tables are lent slices of numbers, so no type of this project holds that they are there.
 #![tactic(auto)]
 
-ghost use Rattle.std.specs.Prelude.{◌+◌};
+ghost use Rattle.std.specs.Prelude.{◌+◌, eqb, not};
 ghost use Rattle.definition.specs.Threading.{start_at, thread};
 ghost use Rattle.samples.specs.Handed.{text_of};
 ghost use Rattle.assembly.specs.Store.{graph_of};
@@ -31,7 +31,8 @@ fn increase_counts_backwards(vertices: &[u32], edges: &mut [u32], s: At, v: usiz
     }
     let i = incoming_edge(vertices, v).unwrap();
     let from = edge_from(edges, i);
-    inc_edge(edges, i, false);
+    // With the mark 0 an edge that the reference walks keeps its mark.
+    inc_edge(edges, i, 0);
     let t = At {
         steps: s.steps + 1,
         ..s
@@ -64,6 +65,7 @@ fn start_sequence(
 }
 
 // The stretch of `len` bytes at place a of the text, whose first kmer has the origin.
+// The mark is 1 for the reference, 0 for a read.
 pub fn thread_sequence(
     d: &Ground,
     vertices: &mut [u32],
@@ -72,11 +74,11 @@ pub fn thread_sequence(
     s0: At,
     a: usize,
     len: usize,
-    is_ref: bool,
+    mark: u32,
     origin: Origin,
 ) -> Result<At, Refusal>
     requires { Threads d.now.sample.k (text_of d.now.sample.text) vertices.old edges.old d.now.most s0 a len origin.place × Indexes d.now.sample.k (text_of d.now.sample.text) vertices.old index.old d.now.most s0.vertices }
-    ensures { Threaded d.now.sample.k (text_of d.now.sample.text) vertices.new edges.new d.now.most (s0.steps + d.now.sample.k + len) result (thread is_ref d.now.sample.k (stretch_at (text_of d.now.sample.text) a len origin.sequence origin.place) (graph_of d.now.sample.k (text_of d.now.sample.text) vertices.old s0.vertices edges.old s0.edges)) × Keeps d.now.sample.k (text_of d.now.sample.text) vertices.new index.new d.now.most result }
+    ensures { Threaded d.now.sample.k (text_of d.now.sample.text) vertices.new edges.new d.now.most (s0.steps + d.now.sample.k + len) result (thread (not (eqb mark 0)) d.now.sample.k (stretch_at (text_of d.now.sample.text) a len origin.sequence origin.place) (graph_of d.now.sample.k (text_of d.now.sample.text) vertices.old s0.vertices edges.old s0.edges)) × Keeps d.now.sample.k (text_of d.now.sample.text) vertices.new index.new d.now.most result }
 {
     let r0 = start_sequence(d, vertices, edges, index, s0, a);
     let Ok(s1) = r0 else {
@@ -89,7 +91,7 @@ pub fn thread_sequence(
             ..origin
         };
         let q = a + j + 1;
-        let r = extend_chain_by_one(d, vertices, edges, index, s, q, is_ref, left);
+        let r = extend_chain_by_one(d, vertices, edges, index, s, q, mark, left);
         let Ok(t) = r else {
             return r;
         };
