@@ -104,13 +104,13 @@ pub fn walk_trees(
 
 // A row has the edge's number, the count, the total, and 1 where a tree offers it: numbers, since the rows stand in a lent slice of them. How many rows there
 // are (k, of them `seen` to be looked through) is told beside it, since the slice is lent as long as a fork could ever need and no Vec may be made.
-const OFFER_EDGE: usize = 0;
+pub const OFFER_EDGE: usize = 0;
 
-const OFFER_COUNT: usize = 1;
+pub const OFFER_COUNT: usize = 1;
 
-const OFFER_TOTAL: usize = 2;
+pub const OFFER_TOTAL: usize = 2;
 
-const OFFER_GUIDED: usize = 3;
+pub const OFFER_GUIDED: usize = 3;
 
 // An offer: the number of the edge, its count of the total, and whether a tree offers it.
 #[derive(Clone, Copy)]

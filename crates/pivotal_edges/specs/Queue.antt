@@ -1,13 +1,11 @@
 -- The queue: a list of numbers, each an edge's number with its distance from the source 8192 times; the part between two places is the definition's
 -- queue, in its order. Assumes nothing.
-use Rattle.std.specs.Prelude.{◌≡◌, refl, Bool, true, false, cond, Some, eqb, List, [], ◌∷◌, ◌++◌, ltb, get_or, set, take, drop}
-use Rattle.std.proofs.Common.{sym, ap, subst, ◌∙◌, append_assoc, add-one, length-append, take_at, drop-set-lt, lt-ltb, le-ltb, eq-eqb, ne_eqb}
+use Rattle.std.specs.Prelude.{◌≡◌, refl, Bool, true, false, List, [], ◌∷◌, ◌++◌, ltb, get_or, set, take, drop}
+use Rattle.std.proofs.Common.{sym, ap, subst, ◌∙◌, append_assoc, add-one, length-append, take_at, drop-set-lt, lt-ltb, le-ltb}
 use Prim.Native.Nat.{ℕ, zero, suc, ◌+◌, ◌-◌, ◌/◌, ◌%◌, ◌<◌, ◌≤◌, compare, Ordering}
 use native.Mathlib.Omega.{arith}
 use Rattle.std.proofs.Math.ListN.{length, length-drop}
 use Rattle.std.proofs.lemmas.List.Edits.{sets, sets-eq, take-paste, drop-paste, length-paste}
-use Rattle.std.specs.Ordering.{is_some_and, is_lt, nat_cmp, partial_ordering_then}
-use Rattle.std.specs.declared.cmp.Ordering.TheVariants.{Equal, Greater}
 use Rattle.std.proofs.Math.Decide.{dec_lt}
 use Rattle.std.proofs.Math.Seq.{paste, drop-append_seam, length-sets, take-suc, drop-cons, length-take-le, get_or-take}
 use Rattle.std.proofs.lemmas.List.{drop-append-le, take-append-le, take-append-drop, drop-take}
@@ -52,6 +50,13 @@ module _ (es : List ℕ) (a b la lb : ℕ) (ha : la ≡ a / 8192) (hb : lb ≡ b
   unfolding before earlier queued_at
   level-more h = rw (compare-lt (b / 8192) (a / 8192) (omega arith))
 
+  pub by-level : (la ≡ lb → ⊥) → ltb la lb ≡ before es a b
+  by-level n = go (dec_lt la lb)
+    where
+      go : Dec (la < lb) → ltb la lb ≡ before es a b
+      go (yes h) = rw (lt-ltb la lb h) (level-less h)
+      go (no h) = rw (le-ltb la lb (omega arith)) (level-more (omega arith))
+
   module _ (p : lb ≤ la) (q : la ≤ lb) (i j fa fb : ℕ) (hi : i ≡ a % 8192) (hj : j ≡ b % 8192) (ga : fa ≡ edge_from es i) (gb : fb ≡ edge_from es j) where
     fa-is : fa ≡ edge_from es (a % 8192)
     fa-is = rw (← hi) ga
@@ -73,6 +78,13 @@ module _ (es : List ℕ) (a b la lb : ℕ) (ha : la ≡ a / 8192) (hb : lb ≡ b
         let y = fb-is in
         rw (compare-eq (b / 8192) (a / 8192) (omega arith), compare-lt (edge_from es (b % 8192)) (edge_from es (a % 8192)) (omega arith))
 
+    pub by-from : (fa ≡ fb → ⊥) → ltb fa fb ≡ before es a b
+    by-from n = go (dec_lt fa fb)
+      where
+        go : Dec (fa < fb) → ltb fa fb ≡ before es a b
+        go (yes h) = rw (lt-ltb fa fb h) (from_less h)
+        go (no h) = rw (le-ltb fa fb (omega arith)) (from_more (omega arith))
+
     pub by-to : fb ≤ fa → fa ≤ fb → (ta tb : ℕ) → ta ≡ edge_to es i → tb ≡ edge_to es j → ltb ta tb ≡ before es a b
     unfolding before earlier queued_at
     by-to h k ta tb ea eb =
@@ -82,35 +94,6 @@ module _ (es : List ℕ) (a b la lb : ℕ) (ha : la ≡ a / 8192) (hb : lb ≡ b
         let v : tb ≡ edge_to es (b % 8192) = rw (← hj) eb in
         rw (compare-eq (b / 8192) (a / 8192) (omega arith), compare-eq (edge_from es (b % 8192)) (edge_from es (a % 8192)) (omega arith), u, v)
         (less-gt (edge_to es (a % 8192)) (edge_to es (b % 8192)))
-
--- as tuples compare
-module _ (es : List ℕ) (a b : ℕ) {i j la lb fa fb ta tb : ℕ} (hi : i ≡ a % 8192) (hj : j ≡ b % 8192) (ha : la ≡ a / 8192) (hb : lb ≡ b / 8192)
-    (ga : fa ≡ edge_from es i) (gb : fb ≡ edge_from es j) (ea : ta ≡ edge_to es i) (eb : tb ≡ edge_to es j) where
-  abbrev less : Bool
-  less = is_some_and is_lt (partial_ordering_then (partial_ordering_then (Some (nat_cmp la lb)) (Some (nat_cmp fa fb))) (Some (nat_cmp ta tb)))
-
-  pub before-is : less ≡ before es a b
-  before-is = levels (dec_lt la lb) (dec_lt lb la)
-    where
-      targets : (r : Bool) → ltb ta tb ≡ r → is_lt (nat_cmp ta tb) ≡ ltb ta tb
-      targets true e = rw e
-      targets false e = rw e (others (eqb ta tb))
-        where
-          others : (r : Bool) → is_lt (cond r Equal Greater) ≡ false
-          others true = refl
-          others false = refl
-
-      sources : lb ≤ la → la ≤ lb → Dec (fa < fb) → Dec (fb < fa) → less ≡ before es a b
-      sources p q (yes h) k = rw (le-ltb la lb p, eq-eqb la lb (omega arith), lt-ltb fa fb h) (from_less es a b la lb ha hb p q i j fa fb hi hj ga gb h)
-      sources p q (no h) (yes k) = rw (le-ltb la lb p, eq-eqb la lb (omega arith), le-ltb fa fb (omega arith), ne_eqb fa fb (λ z. omega arith)) (from_more es a b la lb ha hb p q i j fa fb hi hj ga gb k)
-      sources p q (no h) (no k) =
-          rw (le-ltb la lb p, eq-eqb la lb (omega arith), le-ltb fa fb (omega arith), eq-eqb fa fb (omega arith))
-          (targets (ltb ta tb) refl ∙ by-to es a b la lb ha hb p q i j fa fb hi hj ga gb (omega arith) (omega arith) ta tb ea eb)
-
-      levels : Dec (la < lb) → Dec (lb < la) → less ≡ before es a b
-      levels (yes h) k = rw (lt-ltb la lb h) (level-less es a b la lb ha hb h)
-      levels (no h) (yes k) = rw (le-ltb la lb (omega arith), ne_eqb la lb (λ z. omega arith)) (level-more es a b la lb ha hb k)
-      levels (no h) (no k) = sources (omega arith) (omega arith) (dec_lt fa fb) (dec_lt fb fa)
 
 -- ---- a part of the list
 unfoldable pub part : List ℕ → ℕ → ℕ → List ℕ

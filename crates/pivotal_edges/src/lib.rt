@@ -33,16 +33,22 @@ fn edge_of(x: u32) -> usize
     x as usize % LEVEL
 }
 
-// The queued edge a comes before b: by distance, then by ends.
+// The queued edge a comes before b: by distance, then by ends. (By hand: a derived order reads all four ends, even where the distances differ, and takes no
+// jump.)
 fn earlier(edges: &[u32], a: u32, b: u32) -> bool
     requires { Fits edges.now a × Fits edges.now b }
     ensures { result ≡ before edges.now a b }
 {
-    let i = edge_of(a);
-    let j = edge_of(b);
-    let x = (level_of(a), edge_from(edges, i), edge_to(edges, i));
-    let y = (level_of(b), edge_from(edges, j), edge_to(edges, j));
-    x < y
+    let (level_a, level_b) = (level_of(a), level_of(b));
+    if level_a != level_b {
+        return level_a < level_b;
+    }
+    let (i, j) = (edge_of(a), edge_of(b));
+    let (from_a, from_b) = (edge_from(edges, i), edge_from(edges, j));
+    if from_a != from_b {
+        return from_a < from_b;
+    }
+    edge_to(edges, i) < edge_to(edges, j)
 }
 
 // Where x goes among the entries from front to tail: before the first that does not come earlier. A loop, since the closure of `position` would have to

@@ -6,6 +6,8 @@ use Rattle.definition.specs.Threading.{Ends, compare_ends, eq_ends}
 use Rattle.laws.specs.Numbers.{then}
 use Rattle.std.proofs.Math.Decide.{dec_lt}
 use Rattle.threading_node.specs.declared.Edge.{Edge}
+use Rattle.std.specs.declared.cmp.Ordering as CO
+use Rattle.std.specs.declared.cmp.Ordering.TheVariants.{Less as Below, Equal as Same, Greater as Above}
 use Rattle.laws.specs.ListLaws.{and_left, and_right}
 use Rattle.std.proofs.Math.Dec.{is_le, compare_is_eq}
 use Rattle.std.proofs.lemmas.Bool.{eqb-false}
@@ -94,6 +96,12 @@ eq-same e f h = go (compare e.from f.from) refl
     go Ordering.lt c = absurd (let g : Ordering.lt ≡ Ordering.eq = rw c at h in let z : ◌≡◌ {A = ℕ} 0 1 = cc in omega arith)
     go Ordering.eq c = ends-path _ _ _ _ (cmp-eq _ _ c) (cmp-eq _ _ (rw c at h))
     go Ordering.gt c = absurd (let g : Ordering.gt ≡ Ordering.eq = rw c at h in let z : ◌≡◌ {A = ℕ} 0 1 = cc in omega arith)
+
+-- the code's word for each order
+abbrev pub ordering_of : Ordering → CO.Ordering
+ordering_of Ordering.lt = Below
+ordering_of Ordering.eq = Same
+ordering_of Ordering.gt = Above
 
 -- as the code compares two edges: by their first ends, then by their second
 abbrev pub is_before : Ends → Ends → Bool

@@ -10,7 +10,8 @@
 
 ghost use Rattle.std.specs.Prelude.{◌≡◌, ◌+◌, ◌^◌, ◌<◌};
 ghost use Rattle.std.specs.Iterator.{at_most};
-ghost use Rattle.threading_node.specs.Ends.{ends, ends_of, is_before};
+ghost use Rattle.definition.specs.Threading.{compare_ends};
+ghost use Rattle.threading_node.specs.Ends.{ends, ends_of, ordering_of, is_before};
 ghost use Rattle.threading_node.specs.Links.{slot_at, link_to, Linked};
 ghost use Rattle.threading_node.specs.Slots.{cols, Slot, raised, placed, linked};
 ghost use Rattle.threading_node.specs.Cells.{Rowed, Sought, above-all, left};
@@ -19,6 +20,7 @@ ghost use Rattle.threading_node.specs.Take.{Ready, Taken};
 ghost use Rattle.threading_node.specs.Open.{Openable, OpenedAt};
 
 use refusals::Refusal;
+use std::cmp::Ordering;
 use tables::NODE;
 
 // Where the fields of a node stand: the ends of its edge, its count, its first child, its next sibling.
@@ -33,7 +35,7 @@ const CHILD: usize = 3;
 const SIBLING: usize = 4;
 
 // An edge by its two ends. Edges are ordered by the vertex that they leave, then by their target, as siblings stand.
-#[derive(Clone, Copy, PartialEq, Eq)]
+#[derive(Clone, Copy, PartialEq, Eq, PartialOrd, Ord)]
 pub struct Edge {
     pub from: u32,
     pub to: u32,
@@ -163,6 +165,13 @@ impl<'a> Iterator for Siblings<'a> {
         self.at = next_sibling(self.nodes, s);
         Some(s)
     }
+}
+
+// The order of two edges: by the vertex that they leave, then by their target.
+pub fn order(a: Edge, b: Edge) -> Ordering
+    ensures { result ≡ ordering_of (compare_ends (ends_of a) (ends_of b)) }
+{
+    a.cmp(&b)
 }
 
 // The edge a comes before b among siblings. (By hand: a derived order was tried, and slower, since it compares both ends and takes no jump.)

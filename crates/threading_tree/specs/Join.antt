@@ -18,9 +18,9 @@ use Rattle.threading_tree.specs.declared.ThreadingState as TS
 use Rattle.refusals.specs.declared.Refusal.{Refusal}
 use Rattle.refusals.specs.Numbers.{number}
 
--- one of the first w places, which holds the slot; or none of them does
+-- the first of the first w places that holds the slot; or none of them does
 abbrev pub Sited : List ℕ → ℕ → ℕ → Option ℕ → Type 0
-Sited op w at (Some i) = (i < w) × (field op 2 i 0 ≡ at)
+Sited op w at (Some i) = (i < w) × (field op 2 i 0 ≡ at) × ((k : ℕ) → k < i → field op 2 k 0 ≡ at → ⊥)
 Sited op w at None = (k : ℕ) → k < w → field op 2 k 0 ≡ at → ⊥
 
 pub record Joinable (cap n v : ℕ) (root : Option ℕ) (w : ℕ) (x op : List ℕ) : Type 0 where
