@@ -60,16 +60,6 @@ took-within got xs ys r h l e = subst (λ (x : Maybe ℕ). Within x (length ys))
     go (Ok n) h = omega (arith, h.0, l)
     go (Err x) h = tt
 
-pub ended-more : (n m : ℕ) (t : Maybe ℕ) → t ≡ Some m → 0 < m → None ≡ ended_at n t
-ended-more n m t e h = go m h ∙ ap (ended_at n) (sym e)
-  where
-    go : (m : ℕ) → 0 < m → None ≡ ended_at n (Some m)
-    go zero h = absurd (omega arith)
-    go (suc m) h = refl
-
-pub ended-whole : (n m : ℕ) (t : Maybe ℕ) → t ≡ Some m → m ≤ 0 → Some n ≡ ended_at n t
-ended-whole n m t e h = let z : 0 ≡ m = omega arith in ap (λ (i : ℕ). ended_at n (Some i)) z ∙ ap (ended_at n) (sym e)
-
 pub ended-within : (n : ℕ) (t r : Maybe ℕ) → r ≡ ended_at n t → Within r n
 ended-within n t r e = subst (λ (x : Maybe ℕ). Within x n) (sym e) (go t)
   where
@@ -96,7 +86,7 @@ gave got old new bytes r h e = subst (λ (x : Maybe ℕ). Gave x old new bytes) 
     go (Ok n) h = h
     go (Err x) h = tt
 
--- a read that fails leaves the bytes that are left
+-- a read that fails leaves what the reader had left
 pub kept : {E : Type 0} (got : Result ℕ E) (old new : Known) (bytes : List ℕ) → ReadConsumes old new got bytes → OnErr got (Keeps old new)
 kept (Ok n) old new bytes h = tt
 kept (Err x) old new bytes h = h
@@ -123,7 +113,7 @@ ends m old new bytes h l z =
     let e : m ≡ 0 = omega arith in
     at_end old new (subst (λ (n : ℕ). Consumes old new (take n bytes)) e h.0) (h.1 e l)
 
--- what the read behind n bytes tells of the input is told of no other
+-- where the read behind n bytes tells the input whole, no bytes are left behind them
 pub ends-at : (n : ℕ) (t : Maybe ℕ) (old new : Known) (bytes : List ℕ) (r : Maybe ℕ) → Gave t old new bytes → 0 < length bytes → r ≡ ended_at n t → Ends r n old
 ends-at n t old new bytes r h l e = subst (λ (x : Maybe ℕ). Ends x n old) (sym e) (go t h)
   where
