@@ -1,8 +1,8 @@
 -- Bytes moved within one slice: to a place before them, and two parts side by side that change places.
 use Rattle.std.specs.Prelude.{◌≡◌, refl, true, ◌&&◌, ℕ, zero, suc, ◌+◌, ◌-◌, ◌<◌, ◌≤◌, leb, set, get_or}
-use Rattle.std.proofs.Common.{ap₂, sym, ap, ◌∙◌, add-one, length-set, take-suc, take_all, length-take-le, get_or-set_other, drop-drop, get_or-drop, get_or-take, leb-true, List, [], ◌∷◌, ◌++◌, map, append_assoc, arith, length, take, drop, length-append, drop_at, take-take}
+use Rattle.std.proofs.Common.{sym, ap, ◌∙◌, add-one, length-set, take-append-drop, take-suc, take_all, length-take-le, get_or-set_other, drop-drop, get_or-drop, get_or-take, leb-true, List, [], ◌∷◌, ◌++◌, map, append_assoc, reverse, arith, length, take, drop, length-append, drop_at, take-take}
 use Rattle.std.proofs.Math.ListN.{get_or-map}
-use Rattle.std.proofs.lemmas.List.{length-map}
+use Rattle.std.proofs.lemmas.List.{length-map, length-reverse, reverse-append, reverse-reverse, take_at}
 use Rattle.std.proofs.Math.Seq.{slice, length-slice, take-append-le, drop-append-add, take-append_seam, drop-append_seam}
 use Rattle.std.proofs.lemmas.List.Edits.{sets}
 use Rattle.laws.specs.Lists.{all}
@@ -101,23 +101,83 @@ module _ (old : List ℕ) (from to dest less : ℕ) (m : Moves old from to dest 
 
 -- ---- two parts side by side
 
--- the parts of a part that was lent, turned round, and put back
-pub rotated : (T turned : List ℕ) (a m e : ℕ) → a ≤ m → m ≤ e
-    → turned ≡ drop (m - a) (take (e - a) (drop a T)) ++ take (m - a) (take (e - a) (drop a T))
-    → put_mid a (e - a) T turned ≡ take a T ++ (slice m e T ++ (slice a m T ++ drop e T))
-rotated T turned a m e h k r =
-    let x : a + (m - a) ≡ m = omega arith in
-    let y : a + (e - a) ≡ e = omega arith in
-    let second : drop (m - a) (take (e - a) (drop a T)) ≡ slice m e T =
-    ap (drop (m - a)) (part_slice a e T (omega arith)) ∙ drop-drop (m - a) a (take e T) ∙ ap (λ (n : ℕ). drop n (take e T)) x
-    in
-    let first : take (m - a) (take (e - a) (drop a T)) ≡ slice a m T =
-    take-take (m - a) (e - a) (drop a T) (omega arith) ∙ take-slice (m - a) a T ∙ ap (λ (n : ℕ). slice a n T) x
-    in
-    let behind : drop (e - a) (drop a T) ≡ drop e T = drop-drop (e - a) a T ∙ ap (λ (n : ℕ). drop n T) y in
-    ap (λ (l : List ℕ). take a T ++ (l ++ drop (e - a) (drop a T))) (r ∙ ap₂ ◌++◌ second first)
-    ∙ ap (λ (l : List ℕ). take a T ++ ((slice m e T ++ slice a m T) ++ l)) behind
-    ∙ ap (λ (l : List ℕ). take a T ++ l) (append_assoc (slice m e T) (slice a m T) (drop e T))
+-- a part in the middle, reversed
+turned : (A X Z : List ℕ) (a t : ℕ) → length A ≡ a → length A + length X ≡ t
+    → take a (A ++ (X ++ Z)) ++ (reverse (slice a t (A ++ (X ++ Z))) ++ drop t (A ++ (X ++ Z))) ≡ A ++ (reverse X ++ Z)
+turned A X Z a t e f =
+    let p : take a (A ++ (X ++ Z)) ≡ A = take_at A (X ++ Z) a e in
+    let w : A ++ (X ++ Z) ≡ (A ++ X) ++ Z = sym (append_assoc A X Z) in
+    let l = length-append A X in
+    let q : drop t (A ++ (X ++ Z)) ≡ Z = ap (drop t) w ∙ drop_at (A ++ X) Z t (omega arith) in
+    let r : drop a (take t (A ++ (X ++ Z))) ≡ X = ap (λ (y : List ℕ). drop a (take t y)) w ∙ ap (drop a) (take_at (A ++ X) Z t (omega arith)) ∙ drop_at A X a e in
+    rw (p, q, r)
+
+-- the same of a part that was lent and is put back
+pub part_turned : (a t : ℕ) (T ys : List ℕ) → a ≤ t → ys ≡ reverse (take (t - a) (drop a T)) → put_mid a (t - a) T ys ≡ take a T ++ (reverse (slice a t T) ++ drop t T)
+part_turned a t T ys h e =
+    let z : a + (t - a) ≡ t = omega arith in
+    let w : take (t - a) (drop a T) ≡ slice a t T = part_slice a t T h in
+    let v : drop (t - a) (drop a T) ≡ drop t T = drop-drop (t - a) a T ∙ ap (λ (n : ℕ). drop n T) z in
+    ap (λ (l : List ℕ). take a T ++ (l ++ drop (t - a) (drop a T))) (e ∙ ap reverse w) ∙ ap (λ (l : List ℕ). take a T ++ (reverse (slice a t T) ++ l)) v
+
+rev-parts : (X Y : List ℕ) → reverse (reverse X ++ reverse Y) ≡ Y ++ X
+rev-parts X Y = reverse-append (reverse X) (reverse Y) ∙ rw (reverse-reverse X, reverse-reverse Y)
+
+length-rev : (X : List ℕ) → length (reverse X) ≡ length X
+length-rev X = length-reverse X
+
+module _ (T : List ℕ) (a m e : ℕ) (h : a ≤ m) (k : m ≤ e) (l : e ≤ length T) where
+  abbrev X : List ℕ
+  X = slice a m T
+
+  abbrev Y : List ℕ
+  Y = slice m e T
+
+  four : T ≡ take a T ++ (X ++ (Y ++ drop e T))
+  four =
+      let x : X ++ drop m T ≡ drop a T =
+      (let w : slice a m T ≡ take (m - a) (drop a T) = sym (part_slice a m T h) in
+      let v : drop m T ≡ drop (m - a) (drop a T) = (let z : a + (m - a) ≡ m = omega arith in sym (drop-drop (m - a) a T ∙ ap (λ (n : ℕ). drop n T) z)) in
+      rw (w, v) (take-append-drop (m - a) (drop a T)))
+      in
+      let y : Y ++ drop e T ≡ drop m T =
+      (let w : slice m e T ≡ take (e - m) (drop m T) = sym (part_slice m e T k) in
+      let v : drop e T ≡ drop (e - m) (drop m T) = (let z : m + (e - m) ≡ e = omega arith in sym (drop-drop (e - m) m T ∙ ap (λ (n : ℕ). drop n T) z)) in
+      rw (w, v) (take-append-drop (e - m) (drop m T)))
+      in
+      sym (ap (λ (z : List ℕ). take a T ++ (X ++ z)) y ∙ ap (λ (z : List ℕ). take a T ++ z) x ∙ take-append-drop a T)
+
+  pub rotated : (T1 T2 T3 : List ℕ)
+      → T1 ≡ take a T ++ (reverse (slice a m T) ++ drop m T)
+      → T2 ≡ take m T1 ++ (reverse (slice m e T1) ++ drop e T1)
+      → T3 ≡ take a T2 ++ (reverse (slice a e T2) ++ drop e T2)
+      → T3 ≡ take a T ++ (Y ++ (X ++ drop e T))
+  rotated T1 T2 T3 p q r =
+      let A : List ℕ = take a T in
+      let Z : List ℕ = drop e T in
+      let la : length A ≡ a = length-take-le a T (omega arith) in
+      let lx : length X ≡ m - a = length-slice a m T (omega arith) in
+      let ly : length Y ≡ e - m = length-slice m e T l in
+      let lr = length-rev X in
+      let ls = length-rev Y in
+      let p' : T1 ≡ A ++ (reverse X ++ (Y ++ Z)) =
+      p ∙ ap (λ (t : List ℕ). take a t ++ (reverse (slice a m t) ++ drop m t)) four ∙ turned A X (Y ++ Z) a m la (omega arith)
+      in
+      let lb = length-append A (reverse X) in
+      let q' : T2 ≡ (A ++ reverse X) ++ (reverse Y ++ Z) =
+      q
+      ∙ ap (λ (t : List ℕ). take m t ++ (reverse (slice m e t) ++ drop e t)) (p' ∙ sym (append_assoc A (reverse X) (Y ++ Z)))
+      ∙ turned (A ++ reverse X) Y Z m e (omega arith) (omega arith)
+      in
+      let lc = length-append (reverse X) (reverse Y) in
+      let w : (A ++ reverse X) ++ (reverse Y ++ Z) ≡ A ++ ((reverse X ++ reverse Y) ++ Z) =
+      append_assoc A (reverse X) (reverse Y ++ Z) ∙ ap (λ (t : List ℕ). A ++ t) (sym (append_assoc (reverse X) (reverse Y) Z))
+      in
+      r
+      ∙ ap (λ (t : List ℕ). take a t ++ (reverse (slice a e t) ++ drop e t)) (q' ∙ w)
+      ∙ turned A (reverse X ++ reverse Y) Z a e la (omega arith)
+      ∙ ap (λ (t : List ℕ). A ++ (t ++ Z)) (rev-parts X Y)
+      ∙ ap (λ (t : List ℕ). A ++ t) (append_assoc Y X Z)
 
 -- ---- what a run of stores leaves alone, and what it holds
 

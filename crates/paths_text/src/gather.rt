@@ -30,12 +30,14 @@ fn move_bytes(text: &mut [u8], from: usize, to: usize, dest: usize, less: u8)
     }
 }
 
-// Two parts side by side change places.
+// Two parts side by side change places. (Not by `rotate_left`, which copies the shorter part through a room of its own on the stack.)
 fn rotate(text: &mut [u8], a: usize, m: usize, e: usize)
     requires { (a ≤ m) × (m ≤ e) × (e ≤ length text.old) }
     ensures { text.new ≡ take a text.old ++ (slice m e text.old ++ (slice a m text.old ++ drop e text.old)) }
 {
-    text[a..e].rotate_left(m - a);
+    text[a..m].reverse();
+    text[m..e].reverse();
+    text[a..e].reverse();
 }
 
 // The read's bases join those that end at `end`, and its qualities the `size` qualities behind them.

@@ -1,5 +1,5 @@
 -- What one read answers, what the reads of an input come to, and the input that they stand for.
-use Rattle.std.specs.Prelude.{◌≡◌, Result, Ok, Err, Option as Maybe, Some, None, List, [], ◌++◌, ℕ, ◌+◌, ◌-◌, ◌<◌, ◌≤◌, length, take, drop}
+use Rattle.std.specs.Prelude.{◌≡◌, refl, Result, Ok, Err, Option as Maybe, Some, None, List, [], ◌++◌, ℕ, zero, suc, ◌+◌, ◌-◌, ◌<◌, ◌≤◌, length, take, drop, OnErr}
 use Rattle.std.proofs.Common.{sym, ap, subst, ◌∙◌, arith, length-take, length-take-le, append-nil, drop_at, drop_of_length-le, take-add}
 use Rattle.std.proofs.KnownBytes.{Consumes-trans}
 use Rattle.std.proofs.lemmas.List.{length-drop}
@@ -7,11 +7,17 @@ use borrow.Rule.Slice.PartMut.{put_mid, post_of}
 use Rattle.std.proofs.Math.Option.{Option, none, some}
 use Rattle.std.specs.Result.{result_ok}
 use Rattle.std.specs.Io.{ReadsAtMost}
-use Rattle.std.specs.Io.KnownBytes.{Consumes, IsAtEnd, ReadConsumes}
+use Rattle.std.specs.Io.KnownBytes.{Keeps, Consumes, IsAtEnd, ReadConsumes}
 
 -- the bytes that a reader has left, where these are known
 abbrev pub Known : Type 0
 Known = Maybe (List ℕ)
+
+-- n bytes are the whole input where the read behind them tells its end
+abbrev pub ended_at : ℕ → Maybe ℕ → Maybe ℕ
+ended_at n (Some zero) = Some n
+ended_at n (Some (suc m)) = None
+ended_at n None = None
 
 -- the input that was read into `bytes`, none where it could not be read whole
 abbrev pub input_of : Maybe ℕ → List ℕ → Option (List ℕ)
@@ -54,6 +60,14 @@ took-within got xs ys r h l e = subst (λ (x : Maybe ℕ). Within x (length ys))
     go (Ok n) h = omega (arith, h.0, l)
     go (Err x) h = tt
 
+pub ended-within : (n : ℕ) (t r : Maybe ℕ) → r ≡ ended_at n t → Within r n
+ended-within n t r e = subst (λ (x : Maybe ℕ). Within x n) (sym e) (go t)
+  where
+    go : (t : Maybe ℕ) → Within (ended_at n t) n
+    go (Some zero) = omega arith
+    go (Some (suc m)) = tt
+    go None = tt
+
 -- a read into a part of at most n bytes
 pub took-part : (t : Maybe ℕ) (n : ℕ) (xs : List ℕ) → Within t (length (take n xs)) → Within t n
 took-part (Some a) n xs h = let e = length-take n xs in omega arith
@@ -71,6 +85,11 @@ gave got old new bytes r h e = subst (λ (x : Maybe ℕ). Gave x old new bytes) 
     go : {E : Type 0} (got : Result ℕ E) → ReadConsumes old new got bytes → Gave (result_ok got) old new bytes
     go (Ok n) h = h
     go (Err x) h = tt
+
+-- a read that fails leaves what the reader had left
+pub kept : {E : Type 0} (got : Result ℕ E) (old new : Known) (bytes : List ℕ) → ReadConsumes old new got bytes → OnErr got (Keeps old new)
+kept (Ok n) old new bytes h = tt
+kept (Err x) old new bytes h = h
 
 -- what was read into the part behind a place
 pub gave-behind : (t : Maybe ℕ) (old new : Known) (done : ℕ) (xs ys : List ℕ) → done ≤ length xs → Gave t old new ys
@@ -93,6 +112,15 @@ pub ends : (m : ℕ) (old new : Known) (bytes : List ℕ) → Gave (Some m) old 
 ends m old new bytes h l z =
     let e : m ≡ 0 = omega arith in
     at_end old new (subst (λ (n : ℕ). Consumes old new (take n bytes)) e h.0) (h.1 e l)
+
+-- where the read behind n bytes tells the input whole, no bytes are left behind them
+pub ends-at : (n : ℕ) (t : Maybe ℕ) (old new : Known) (bytes : List ℕ) (r : Maybe ℕ) → Gave t old new bytes → 0 < length bytes → r ≡ ended_at n t → Ends r n old
+ends-at n t old new bytes r h l e = subst (λ (x : Maybe ℕ). Ends x n old) (sym e) (go t h)
+  where
+    go : (t : Maybe ℕ) → Gave t old new bytes → Ends (ended_at n t) n old
+    go (Some zero) h = (refl, ends 0 old new bytes h l (omega arith))
+    go (Some (suc m)) h = tt
+    go None h = tt
 
 -- the bytes before a place, and those that were read behind it
 pub joined : (a b c : Known) (done n : ℕ) (old new : List ℕ) → take done new ≡ take done old → Consumes a b (take done old) → Consumes b c (take n (drop done new))

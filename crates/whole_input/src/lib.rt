@@ -1,17 +1,20 @@
 // An input read whole into a lent slice: a read that fails is told from the end of the input.
 #![tactic(auto)]
 
-ghost use Rattle.std.specs.Prelude.{◌≡◌, ◌-◌, ◌≤◌, length, take, drop};
+ghost use Rattle.std.specs.Prelude.{◌≡◌, ◌-◌, ◌≤◌, length, take, drop, OnErr};
+ghost use Rattle.std.specs.Io.KnownBytes.{Keeps};
 ghost use Rattle.std.specs.Result.{result_ok};
-ghost use Rattle.whole_input.specs.Readings.{input_of, Within, Gave, Filled, Ends, Told};
+ghost use Rattle.whole_input.specs.Readings.{ended_at, input_of, Within, Gave, Filled, Ends, Told};
 
 use std::io;
 use std::io::Read;
 
-// One read into `bytes`: how many bytes it put, 0 at the end of the input. Every error is a failure, also where a signal came before a byte did.
+// One read into `bytes`: how many bytes it put, 0 at the end of the input. Every error is a failure, also where a signal came before a byte did, and a read
+// that fails has taken nothing.
 fn read_once<R: Read>(file: &mut R, bytes: &mut [u8]) -> io::Result<usize>
     ensures within { Within (result_ok result) (length bytes.old) }
     ensures input { Gave (result_ok result) (R.remaining file.old) (R.remaining file.new) bytes.new }
+    ensures kept { OnErr result (Keeps (R.remaining file.old) (R.remaining file.new)) }
 {
     file.read(bytes)
 }
@@ -22,8 +25,20 @@ fn read_behind<R: Read>(file: &mut R, bytes: &mut [u8], done: usize) -> io::Resu
     ensures within { Within (result_ok result) (length bytes.old - done) }
     ensures front { take done bytes.new ≡ take done bytes.old }
     ensures input { Gave (result_ok result) (R.remaining file.old) (R.remaining file.new) (drop done bytes.new) }
+    ensures kept { OnErr result (Keeps (R.remaining file.old) (R.remaining file.new)) }
 {
     read_once(file, &mut bytes[done..])
+}
+
+// How many bytes an input of n bytes has, by what the read behind them answered: a read of 0 bytes tells it whole, and any other tells it partial.
+fn ended_at(n: usize, got: io::Result<usize>) -> Option<usize>
+    ensures { result ≡ ended_at n (result_ok got) }
+{
+    let m = got.ok()?;
+    if m > 0 {
+        return None;
+    }
+    Some(n)
 }
 
 // The slice is full: one byte more shows whether the input goes on, and n bytes are not all of it.
@@ -32,11 +47,8 @@ fn read_end<R: Read>(file: &mut R, n: usize) -> Option<usize>
     ensures input { Ends result n (R.remaining file.old) }
 {
     let mut more = [0u8; 1];
-    let m = read_once(file, &mut more).ok()?;
-    if m > 0 {
-        return None;
-    }
-    Some(n)
+    let got = read_once(file, &mut more);
+    ended_at(n, got)
 }
 
 // Reads until the input ends or the slice is full, and tells how many bytes were put; a read that fails is handed on. (Not by `for`: a read may put fewer

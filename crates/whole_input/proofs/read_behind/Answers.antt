@@ -11,4 +11,5 @@ returns g c =
       within = took-part (result_ok c.read_once.result) (length c.args.bytes.now - c.args.done) (drop c.args.done c.args.bytes.now) c.read_once.ensures.within;
       front = take-put_mid_below _ _ _ _ _ (le_refl _) c.requires;
       input = gave-behind _ _ _ _ _ _ c.requires c.read_once.ensures.input;
+      kept = c.read_once.ensures.kept;
     }
