@@ -1,5 +1,6 @@
 // The calls, each made as told and compared with the answer told.
-ghost use Rattle.std.specs.Prelude.{◌≤◌};
+ghost use Rattle.std.specs.Prelude.{◌≡◌, true, ◌≤◌};
+ghost use Rattle.known_answers.specs.Tables.{value_left, TableLeft};
 
 use crate::numbers::{behind, field};
 use agreement::agree::{Element, LENT, left, same, written};
@@ -92,7 +93,9 @@ fn told_for(k: u32, maxima: GraphMaxima) -> LengthsTold {
 
 // What tells the elements of the workspace where they were told: what they were lent as, or zero. (The refusal is a number here, since that is how the
 // exported answer tells it.)
-pub fn value_left<T: Element>(refusal: u32) -> u64 {
+pub fn value_left<T: Element>(refusal: u32) -> u64
+    ensures { result ≡ value_left T.LENT refusal }
+{
     if workspace_kept(refusal) { T::LENT } else { 0 }
 }
 
@@ -104,7 +107,12 @@ pub fn graph_tables_left(
     w_edges: &[u32],
     w_index: &[u32],
     w_nodes: &[u32],
-) -> bool {
+) -> bool
+    ensures vertices { result ≡ true → TableLeft w_vertices.now told.vertices refusal }
+    ensures edges { result ≡ true → TableLeft w_edges.now told.edges refusal }
+    ensures index { result ≡ true → TableLeft w_index.now told.index refusal }
+    ensures nodes { result ≡ true → TableLeft w_nodes.now told.nodes refusal }
+{
     let value = value_left::<u32>(refusal);
     left(w_vertices, told.vertices, value)
         && left(w_edges, told.edges, value)

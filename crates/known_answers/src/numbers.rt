@@ -1,6 +1,6 @@
 // The form of the data: numbers in text, a list as its length and then its elements. Numbers and bytes are written into lent slices, and how many is told
 // beside them: a Vec needs a heap.
-ghost use Rattle.std.specs.Prelude.{◌≤◌, length};
+ghost use Rattle.std.specs.Prelude.{◌≡◌, ◌≤◌, length, drop};
 ghost use Rattle.std.specs.Iterator.{at_most};
 ghost use Rattle.known_answers.specs.Parts.{Parted, Steps};
 
@@ -59,8 +59,10 @@ pub fn field(numbers: &[u32], place: usize) -> u32 {
     numbers.get(place).copied().unwrap_or(0)
 }
 
-// All numbers from a place on.
-pub fn behind(numbers: &[u32], place: usize) -> &[u32] {
+// All numbers from a place on, none beyond the end.
+pub fn behind(numbers: &[u32], place: usize) -> &[u32]
+    ensures { result.now ≡ drop place numbers.now }
+{
     let n = numbers.len();
     &numbers[place.min(n)..]
 }

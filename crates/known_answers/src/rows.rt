@@ -1,6 +1,7 @@
 // Whether the rows of a list are as told. A row told is a list: the halves of its score, closing number, edges, flag, then two lists, its bases and
 // its origins.
-ghost use Rattle.std.specs.Prelude.{◌≡◌, true, ℕ, ◌+◌, ◌<◌, ◌≤◌, length, get_or};
+ghost use Rattle.std.specs.Prelude.{◌≡◌, true, ℕ, ◌+◌, ◌<◌, ◌≤◌, length, get_or, drop};
+ghost use Rattle.known_answers.specs.Parts.{Parted};
 
 use crate::numbers::{Lists, behind, field, split_list};
 use agreement::agree::{all_are, untouched, written};
@@ -43,7 +44,9 @@ pub fn columns_agree(
 // ---- bases
 
 // The bases told of a row, and what is told behind them.
-fn bases_told(row: &[u32]) -> (&[u32], &[u32]) {
+fn bases_told(row: &[u32]) -> (&[u32], &[u32])
+    ensures { Parted (drop 5 row.now) result.0.now result.1.now }
+{
     split_list(behind(row, 5))
 }
 
@@ -116,6 +119,9 @@ fn row_origins_agree(row: &[u32], sequences: &[u32], places: &[u32]) -> bool {
 
 // The origins of all rows, each with as much room as the stride; behind them nothing touched.
 pub fn origins_agree(rows: &[u32], stride: usize, sequences: &[u32], places: &[u32]) -> bool {
+    if sequences.len() != places.len() {
+        return false;
+    }
     let mut sequences_left = sequences;
     let mut places_left = places;
     for told in Lists(rows) {

@@ -1,4 +1,5 @@
 // The calls for the list, each made as told and compared with the answer told.
+ghost use Rattle.std.specs.Prelude.{◌≤◌};
 ghost use Rattle.replay.specs.Lengths.{Fits};
 
 use agreement::agree::{LENT, LENT_BYTE, LENT_SLOT, left};
@@ -242,7 +243,9 @@ fn list_agrees(call: &[u32], told: &[u32], short: u32, sample: Sample, column: &
 
 // The slices that are to be short, one a call, by their numbers in `Lent` from 1. (No slice has the number 0, so the call with none short is a turn like the
 // others.)
-fn short_slices(told: u32) -> Range<u32> {
+fn short_slices(told: u32) -> Range<u32>
+    ensures { result.end ≤ 21 }
+{
     match told {
         3 => 1..2,
         4 => 2..3,
@@ -257,11 +260,11 @@ fn lists_agree(call: &[u32], told: &[u32], sample: Sample, column: &[f64]) -> bo
     short_slices(field(call, 10)).all(|short| list_agrees(call, told, short, sample, column))
 }
 
-// The column is the first places of log10, or given.
+// The column is the first places of log10, or given. (How many places is the number behind the column's length, also where that length is 0.)
 pub fn list_agrees_over(call: &[u32], sample: Sample, log10: &[f64]) -> bool {
     let (column, told) = split_list(behind(call, 12));
     if field(call, 11) == 0 {
-        let n = (field(column, 0) as usize).min(log10.len());
+        let n = (field(call, 13) as usize).min(log10.len());
         return lists_agree(call, told, sample, &log10[..n]);
     }
     let mut given = [0.0f64; 512];
