@@ -16,13 +16,14 @@ fn is_usable(quality: u8, b: u8, q: u8) -> bool
     is_base(b) && quality <= q
 }
 
-// Where the usable run at place p of the sample's bases ends: at the next unusable byte, or at `end`.
-pub fn run_end(sample: Sample, p: usize, end: usize) -> usize
-    requires { (p ≤ end) × (end ≤ length sample.text.bases.now) × (end ≤ length sample.qualities.now) }
-    ensures { RunEnd (usable sample.entry.quality) sample.entry.text.bases.now sample.entry.qualities.now p end result }
+// Where the usable run at place p of the bases ends: at the next unusable byte, or at `end`. (It is given slices and not the sample, which would be copied
+// at each call: once for every byte that is not usable.)
+pub fn run_end(bases: &[u8], qualities: &[u8], quality: u8, p: usize, end: usize) -> usize
+    requires { (p ≤ end) × (end ≤ length bases.now) × (end ≤ length qualities.now) }
+    ensures { RunEnd (usable quality) bases.now qualities.now p end result }
 {
     (p..end)
-        .find(|q| !is_usable(sample.quality, sample.text.bases[*q], sample.qualities[*q]))
+        .find(|q| !is_usable(quality, bases[*q], qualities[*q]))
         .unwrap_or(end)
 }
 
@@ -66,7 +67,8 @@ impl<'a> Iterator for Runs<'a> {
             return None;
         }
         let from = self.at;
-        let to = run_end(self.sample, from, self.end);
+        let s = &self.sample;
+        let to = run_end(s.text.bases, s.qualities, s.quality, from, self.end);
         // The byte that ends a run is in none.
         self.at = to + 1;
         Some(Run { from, to })
