@@ -1,4 +1,5 @@
 pub mod Runs
+pub mod Scan
 pub mod Ahead
 pub mod Usable
 pub mod Turns

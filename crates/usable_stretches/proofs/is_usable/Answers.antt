@@ -1,8 +1,10 @@
-use Rattle.usable_stretches.specs.Usable.{usable-is, usable-not}
+use Rattle.std.proofs.Common.{le-leb}
+use Rattle.std.proofs.lemmas.Bool.{lt-leb}
+use Rattle.usable_stretches.specs.Usable.{usable-fine, usable-poor}
 use Rattle.usable_stretches.proofs.is_usable.Goals as goal
 
-pub returns-then-is_base : goal.returns-then-is_base
-returns-then-is_base c = let a = c.args in usable-is a.quality a.b a.q _ c.is_base.ensures c.if-is_base.true
+pub returns-then-quality-q : goal.returns-then-quality-q
+returns-then-quality-q c = let a = c.args in usable-fine a.quality a.b a.q _ c.is_base.ensures (le-leb _ _ c.if-quality-q.true)
 
-pub returns-else-is_base : goal.returns-else-is_base
-returns-else-is_base c = let a = c.args in usable-not a.quality a.b a.q _ c.is_base.ensures c.if-is_base.false
+pub returns-else-quality-q : goal.returns-else-quality-q
+returns-else-quality-q c = let a = c.args in usable-poor a.quality a.b a.q (lt-leb _ _ c.if-quality-q.false)
