@@ -1,7 +1,7 @@
-// The rows of the edges, straight into the slice that the caller lent.
+// The rows of the edges, straight into the slice that the caller lent; and the clearing of workspace.
 #![tactic(auto)]
 
-ghost use Rattle.std.specs.Prelude.{◌≡◌};
+ghost use Rattle.std.specs.Prelude.{◌≡◌, ◌≤◌, length, replicate};
 ghost use Rattle.laws.specs.Records.{put_from};
 ghost use Rattle.definition.specs.Calls.{written_at, flat, edge_row};
 ghost use Rattle.assembly.specs.Fields.{HasEdges, HasEdge};
@@ -55,5 +55,15 @@ pub fn write_edges(graph: Graph, out: &mut [u32])
     while p < graph.count {
         p = write_out_edges(graph, v, out, p);
         v += 1;
+    }
+}
+
+// The first n elements become zero, whatever stands for zero.
+pub fn clear<T: Copy>(words: &mut [T], n: usize, zero: T)
+    requires { n ≤ length words.old }
+    ensures { words.new ≡ written_at 0 (replicate n zero) words.old }
+{
+    for word in words[..n].iter_mut() {
+        *word = zero;
     }
 }

@@ -12,7 +12,7 @@ use Rattle.limits.specs.declared.Maxima.{Maxima}
 use Rattle.limits.specs.Handed.{graph_maxima_of, search_maxima_of}
 use Rattle.list_interface.specs.declared.Settings.{Settings}
 use Rattle.list_interface.specs.Handed.{maxima_of}
-use Rattle.graph_rows.specs.Zeros.{cleared-over, written-zeros}
+use Rattle.graph_rows.specs.Zeros.{cleared-over}
 use Rattle.list_work.specs.Outcome.{Outputs, Tables}
 use Rattle.list_call.specs.Outcome.{told_for, tables_by, zeroed_to, float_zero, cleared_tables}
 use Rattle.list_work.specs.Works.{Works}
@@ -35,12 +35,8 @@ module _ {A : Type 0} (d e : List A) (n : ℕ) where
   pub part-kept : length e ≡ length (take n d) → n ≤ length d → n ≤ length (e ++ drop n d)
   part-kept k h = let z = length_front d e n k in omega arith
 
-  pub part-filled : (z : A) (f : List A) → length e ≡ length (take n d) → n ≤ length d → f ≡ replicate (length (take n (e ++ drop n d))) z → f ++ drop n (e ++ drop n d) ≡ zeroed_to z n d
-  part-filled z f k h g =
-      let w = e ++ drop n d in
-      ap (λ (l : List A). l ++ drop n w) (g ∙ ap (λ (m : ℕ). replicate m z) (length-take-le n w (part-kept k h)))
-      ∙ sym (written-zeros z n w)
-      ∙ cleared-over z n d e (k ∙ length-take-le n d h)
+  pub part-cleared : (z : A) (x : List A) → length e ≡ length (take n d) → n ≤ length d → x ≡ written_at 0 (replicate n z) (e ++ drop n d) → x ≡ zeroed_to z n d
+  part-cleared z x k h f = f ∙ cleared-over z n d e (k ∙ length-take-le n d h)
 
 -- ---- all slices
 

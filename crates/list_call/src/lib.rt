@@ -6,6 +6,7 @@ ghost use Rattle.list_interface.specs.Answers.{answer_of};
 ghost use Rattle.list_work.specs.Outcome.{outputs_of, tables_of};
 ghost use Rattle.list_call.specs.Within.{Within, Done, Called};
 
+use graph_rows::clear;
 use list_interface::{Input, ListAnswer};
 use list_lent::{Lent, check};
 use list_work::work;
@@ -83,19 +84,19 @@ fn list_within(
         &mut w_marks[..marks],
         &mut w_walks[..walks],
     );
-    w_vertices[..vertices].fill(0);
-    w_edges[..edges].fill(0);
-    w_index[..index].fill(0);
-    w_nodes[..nodes].fill(0);
-    w_targets[..targets].fill(0);
-    w_paths[..paths].fill(0);
-    w_scores[..scores].fill(0.0);
-    w_active[..active].fill(0);
-    w_queue[..queue].fill(0);
-    w_closed[..closed].fill(0);
-    w_order[..order].fill(0);
-    w_marks[..marks].fill(0);
-    w_walks[..walks].fill(0);
+    clear(w_vertices, vertices, 0);
+    clear(w_edges, edges, 0);
+    clear(w_index, index, 0);
+    clear(w_nodes, nodes, 0);
+    clear(w_targets, targets, 0);
+    clear(w_paths, paths, 0);
+    clear(w_scores, scores, 0.0);
+    clear(w_active, active, 0);
+    clear(w_queue, queue, 0);
+    clear(w_closed, closed, 0);
+    clear(w_order, order, 0);
+    clear(w_marks, marks, 0);
+    clear(w_walks, walks, 0);
     r
 }
 

@@ -1,7 +1,6 @@
 -- The call for the list with its rows in a lent slice of records. Assumes nothing.
-use Rattle.std.specs.Prelude.{◌≡◌, List, map, ◌++◌, ℕ, ◌≤◌, length, take, drop, replicate, Float}
-use Rattle.std.proofs.Common.{sym, ap, ◌∙◌, length-take-le}
-use Rattle.graph_rows.specs.Zeros.{written-zeros}
+use Rattle.std.specs.Prelude.{◌≡◌, List, map, ℕ, ◌≤◌, length, replicate, Float}
+use Rattle.std.proofs.Common.{ap, ◌∙◌}
 use Rattle.definition.specs.Limits.{Input}
 use Rattle.definition.specs.Calls.{written_at, workspace_after, ListSlices, ListOutcome, list_call}
 use Rattle.slice_lengths.specs.Workspaces.{row_columns}
@@ -24,10 +23,6 @@ pub record Cleared (n : ℕ) (ss ss' : List Float) (cs cs' es es' : List ℕ) : 
   pub scores : ss' ≡ written_at 0 (replicate n float_zero) ss
   pub closings : cs' ≡ written_at 0 (replicate n 0) cs
   pub edges : es' ≡ written_at 0 (replicate n 0) es
-
--- a column whose first n places are filled
-pub filled : {A : Type 0} (z : A) (n : ℕ) (w f : List A) → n ≤ length w → f ≡ replicate (length (take n w)) z → f ++ drop n w ≡ written_at 0 (replicate n z) w
-filled {A} z n w f h g = ap (λ (l : List A). l ++ drop n w) (g ∙ ap (λ (m : ℕ). replicate m z) (length-take-le n w h)) ∙ sym (written-zeros z n w)
 
 pub cleared_by : (n m : ℕ) (ss ss' : List Float) (cs cs' es es' : List ℕ) → m ≡ n → ss' ≡ written_at 0 (replicate m float_zero) ss → cs' ≡ written_at 0 (replicate m 0) cs
     → es' ≡ written_at 0 (replicate m 0) es → Cleared n ss ss' cs cs' es es'

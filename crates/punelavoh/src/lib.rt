@@ -13,6 +13,7 @@ ghost use Rattle.punelavoh.specs.Records.{ColumnsFit, Cleared, ListCalled};
 
 use assembly::Origin;
 use graph_call::GraphAnswer;
+use graph_rows::clear;
 use limits::{GraphMaxima, Maxima, SearchMaxima, Sequences};
 use list_call::list_columns;
 use list_interface::{Input, ListAnswer, Settings};
@@ -36,9 +37,9 @@ fn clear_columns(
     ensures { Cleared (columns_told r.refusal settings.asked) row_scores.old row_scores.new row_closings.old row_closings.new row_edges.old row_edges.new }
 {
     let n = columns_told(settings, r);
-    row_scores[..n].fill(0.0);
-    row_closings[..n].fill(0);
-    row_edges[..n].fill(0);
+    clear(row_scores, n, 0.0);
+    clear(row_closings, n, 0);
+    clear(row_edges, n, 0);
 }
 
 // ---- the calls; their parameters are loose, since C lends them so: a slice is a place and a length, and no struct of slices has a form in C

@@ -1,10 +1,9 @@
 -- `list_within` meets its contract: the work over the parts told, each of which is cleared afterwards. Assumes nothing.
-use Rattle.std.proofs.Common.{sym, ◌∙◌, length-take-le}
-use Rattle.std.proofs.Math.Seq.{length_front}
+use Rattle.std.proofs.Common.{sym, length-take-le}
 use Rattle.list_interface.specs.Handed.{handed}
 use Rattle.std.specs.Float.Ieee.{of_bits, of_fields}
 use Rattle.list_call.specs.Outcome.{float_zero}
-use Rattle.list_call.specs.Parts.{maxima-within, maxima-told, in-limits, room-told, part-filled, parts-lent, all-cleared}
+use Rattle.list_call.specs.Parts.{maxima-within, maxima-told, in-limits, room-told, part-cleared, parts-lent, all-cleared}
 use Rattle.list_call.proofs.list_within.Goals as goal
 
 pub workspace_told-told-requires : goal.workspace_told-told-requires
@@ -186,17 +185,17 @@ returns c =
           (record { vertices = c.args.w_vertices.now; edges = c.args.w_edges.now; index = c.args.w_index.now; nodes = c.args.w_nodes.now; targets = c.args.w_targets.now; paths = c.args.w_paths.now; scores = c.args.w_scores.now; active = c.args.w_active.now; queue = c.args.w_queue.now; closed = c.args.w_closed.now; order = c.args.w_order.now; marks = c.args.w_marks.now; walks = c.args.w_walks.now })
           _
           (maxima-told c.args.input.settings _ c.maxima.ensures _ k.ensures)
-          (part-filled c.args.w_vertices.now w.new.w_vertices k.result.vertices 0 _ w.auto.w_vertices m.vertices (c.fill.ensures.after (λ y e. e)))
-          (part-filled c.args.w_edges.now w.new.w_edges k.result.edges 0 _ w.auto.w_edges m.edges (c.fill-2.ensures.after (λ y e. e)))
-          (part-filled c.args.w_index.now w.new.w_index k.result.index 0 _ w.auto.w_index m.index (c.fill-3.ensures.after (λ y e. e)))
-          (part-filled c.args.w_nodes.now w.new.w_nodes k.result.nodes 0 _ w.auto.w_nodes m.nodes (c.fill-4.ensures.after (λ y e. e)))
-          (part-filled c.args.w_targets.now w.new.w_targets k.result.targets 0 _ w.auto.w_targets m.targets (c.fill-5.ensures.after (λ y e. e)))
-          (part-filled c.args.w_paths.now w.new.w_paths k.result.paths 0 _ w.auto.w_paths m.paths (c.fill-6.ensures.after (λ y e. e)))
-          (part-filled c.args.w_scores.now w.new.w_scores k.result.scores float_zero _ w.auto.w_scores m.scores (c.fill-7.ensures.after (λ y e. e)))
-          (part-filled c.args.w_active.now w.new.w_active k.result.active 0 _ w.auto.w_active m.active (c.fill-8.ensures.after (λ y e. e)))
-          (part-filled c.args.w_queue.now w.new.w_queue k.result.queue 0 _ w.auto.w_queue m.queue (c.fill-9.ensures.after (λ y e. e)))
-          (part-filled c.args.w_closed.now w.new.w_closed k.result.closed 0 _ w.auto.w_closed m.closed (c.fill-10.ensures.after (λ y e. e)))
-          (part-filled c.args.w_order.now w.new.w_order k.result.order 0 _ w.auto.w_order m.order (c.fill-11.ensures.after (λ y e. e)))
-          (part-filled c.args.w_marks.now w.new.w_marks k.result.marks 0 _ w.auto.w_marks m.marks (c.fill-12.ensures.after (λ y e. e)))
-          (part-filled c.args.w_walks.now w.new.w_walks k.result.walks 0 _ w.auto.w_walks m.walks (c.fill-13.ensures.after (λ y e. e)));
+          (part-cleared c.args.w_vertices.now w.new.w_vertices k.result.vertices 0 _ w.auto.w_vertices m.vertices c.clear.ensures)
+          (part-cleared c.args.w_edges.now w.new.w_edges k.result.edges 0 _ w.auto.w_edges m.edges c.clear-2.ensures)
+          (part-cleared c.args.w_index.now w.new.w_index k.result.index 0 _ w.auto.w_index m.index c.clear-3.ensures)
+          (part-cleared c.args.w_nodes.now w.new.w_nodes k.result.nodes 0 _ w.auto.w_nodes m.nodes c.clear-4.ensures)
+          (part-cleared c.args.w_targets.now w.new.w_targets k.result.targets 0 _ w.auto.w_targets m.targets c.clear-5.ensures)
+          (part-cleared c.args.w_paths.now w.new.w_paths k.result.paths 0 _ w.auto.w_paths m.paths c.clear-6.ensures)
+          (part-cleared c.args.w_scores.now w.new.w_scores k.result.scores float_zero _ w.auto.w_scores m.scores c.clear-7.ensures)
+          (part-cleared c.args.w_active.now w.new.w_active k.result.active 0 _ w.auto.w_active m.active c.clear-8.ensures)
+          (part-cleared c.args.w_queue.now w.new.w_queue k.result.queue 0 _ w.auto.w_queue m.queue c.clear-9.ensures)
+          (part-cleared c.args.w_closed.now w.new.w_closed k.result.closed 0 _ w.auto.w_closed m.closed c.clear-10.ensures)
+          (part-cleared c.args.w_order.now w.new.w_order k.result.order 0 _ w.auto.w_order m.order c.clear-11.ensures)
+          (part-cleared c.args.w_marks.now w.new.w_marks k.result.marks 0 _ w.auto.w_marks m.marks c.clear-12.ensures)
+          (part-cleared c.args.w_walks.now w.new.w_walks k.result.walks 0 _ w.auto.w_walks m.walks c.clear-13.ensures);
     }
