@@ -118,7 +118,9 @@ fn row_origins_agree(row: &[u32], sequences: &[u32], places: &[u32]) -> bool {
 }
 
 // The origins of all rows, each with as much room as the stride; behind them nothing touched.
-pub fn origins_agree(rows: &[u32], stride: usize, sequences: &[u32], places: &[u32]) -> bool {
+pub fn origins_agree(rows: &[u32], stride: usize, sequences: &[u32], places: &[u32]) -> bool
+    ensures { result ≡ true → length sequences.now ≡ length places.now }
+{
     if sequences.len() != places.len() {
         return false;
     }
