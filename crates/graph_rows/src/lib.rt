@@ -58,7 +58,8 @@ pub fn write_edges(graph: Graph, out: &mut [u32])
     }
 }
 
-// The first n elements become zero, whatever stands for zero.
+// The first n elements become zero, whatever stands for zero. (A loop: `fill` asks that a clone is made without fail and is its source, of which `Copy` says
+// nothing.)
 pub fn clear<T: Copy>(words: &mut [T], n: usize, zero: T)
     requires { n ≤ length words.old }
     ensures { words.new ≡ written_at 0 (replicate n zero) words.old }
