@@ -1,12 +1,31 @@
 -- What a slice is seen to hold, by the numbers that its elements are told by. Assumes nothing.
 use Rattle.std.specs.Prelude.{◌≡◌, List, ℕ, ◌≤◌, ◌<◌, ◌+◌, ◌-◌, length, take, drop, get_or}
 use Rattle.std.proofs.Common.{ap, sym, ◌∙◌, arith, length-take, length-drop, take_all, get_or-take, get_or-drop}
+use Rattle.std.proofs.lemmas.List.{get_or_default}
+use Rattle.std.proofs.Math.Decide.{ℕ_discrete}
 use Rattle.std.proofs.Math.Seq.{ext_get_or}
 
 module _ {A : Type 0} (shown : A → ℕ) where
   -- Every element is told by v.
   abbrev pub All : List A → ℕ → Type 0
   All xs v = (i : ℕ) (d : A) → i < length xs → shown (get_or xs i d) ≡ v
+
+  -- The first n elements are told by v: those that a loop has passed.
+  abbrev pub First : List A → ℕ → ℕ → Type 0
+  First xs n v = (i : ℕ) (d : A) → i < n → i < length xs → shown (get_or xs i d) ≡ v
+
+  pub first-none : (xs : List A) (v : ℕ) → First xs 0 v
+  first-none xs v i d a b = absurd (omega arith)
+
+  pub first-more : (xs : List A) (n v : ℕ) (x : A) → n < length xs → x ≡ get_or xs n x → shown x ≡ v → First xs n v → First xs (n + 1) v
+  first-more xs n v x l q h f i d a b = go (ℕ_discrete i n)
+    where
+      go : Dec (i ≡ n) → shown (get_or xs i d) ≡ v
+      go (yes e) = rw e (ap shown (get_or_default xs n d x l ∙ sym q) ∙ h)
+      go (no e) = f i d (omega arith) b
+
+  pub first-all : (xs : List A) (n v : ℕ) → length xs ≤ n → First xs n v → All xs v
+  first-all xs n v l f i d h = f i d (omega arith) h
 
   -- As many elements as numbers, each told by the number in its place.
   pub record Same (xs : List A) (told : List ℕ) : Type 0 where

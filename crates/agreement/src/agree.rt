@@ -20,7 +20,8 @@ pub trait Element: Copy {
     // What every element is told by that is lent.
     const LENT: u64;
 
-    // (Each `impl` has a body of its own: a default body would need `From` of all four, and a score is told by its bits.)
+    // (Each `impl` has a body of its own: a default body would need `From` of all four, and a score is told by its bits. A number is brought to the element's
+    // width, so that as many elements as fit a register are compared at once.)
     fn is(self, number: u64) -> bool
         ensures { result ≡ true → shown self ≡ number };
 }
@@ -33,7 +34,7 @@ impl Element for u32 {
     const LENT: u64 = LENT as u64;
 
     fn is(self, number: u64) -> bool {
-        u64::from(self) == number
+        u32::try_from(number).is_ok_and(|n| self == n)
     }
 }
 
@@ -45,7 +46,7 @@ impl Element for u16 {
     const LENT: u64 = LENT_SLOT as u64;
 
     fn is(self, number: u64) -> bool {
-        u64::from(self) == number
+        u16::try_from(number).is_ok_and(|n| self == n)
     }
 }
 
@@ -57,7 +58,7 @@ impl Element for u8 {
     const LENT: u64 = LENT_BYTE as u64;
 
     fn is(self, number: u64) -> bool {
-        u64::from(self) == number
+        u8::try_from(number).is_ok_and(|n| self == n)
     }
 }
 
@@ -71,10 +72,16 @@ pub fn same<T: Element>(elements: &[T], told: &[u32]) -> bool
             .all(|(x, number)| x.is(u64::from(*number)))
 }
 
+// (A loop: with `all` the elements were compared one by one, and the replay took a third more time.)
 pub fn all_are<T: Element>(elements: &[T], number: u64) -> bool
     ensures { result ≡ true → All T.shown elements.now number }
 {
-    elements.iter().all(|x| x.is(number))
+    for i in 0..elements.len() {
+        if !elements[i].is(number) {
+            return false;
+        }
+    }
+    true
 }
 
 // The rows told, and behind them nothing touched.

@@ -99,7 +99,9 @@ pub fn value_left<T: Element>(refusal: u32) -> u64
     if workspace_kept(refusal) { T::LENT } else { 0 }
 }
 
-// The workspace that each call is lent for the graph and its trees, but for what it opens.
+// The workspace that each call is lent for the graph and its trees, but for what it opens. (Inlined, since where the tables are seen to be whole arrays many
+// elements are compared at once.)
+#[inline(always)]
 pub fn graph_tables_left(
     refusal: u32,
     told: Workspace,
