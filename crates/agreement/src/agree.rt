@@ -20,7 +20,7 @@ pub trait Element: Copy {
     // What every element is told by that is lent.
     const LENT: u64;
 
-    // (Each `impl` has a body of its own: a default body would need `From` of all four, and a score is told by its bits. A number is brought to the element's
+    // (Each `impl` has a body of its own: a default body would need `TryFrom` of all four, and a score is told by its bits. A number is brought to the element's
     // width, so that as many elements as fit a register are compared at once.)
     fn is(self, number: u64) -> bool
         ensures { result ≡ true → shown self ≡ number };
@@ -72,7 +72,7 @@ pub fn same<T: Element>(elements: &[T], told: &[u32]) -> bool
             .all(|(x, number)| x.is(u64::from(*number)))
 }
 
-// (A loop: with `all` the elements were compared one by one, and the replay took a third more time.)
+// (A loop: with `all` the elements were compared one by one, and the replay took a quarter more time.)
 pub fn all_are<T: Element>(elements: &[T], number: u64) -> bool
     ensures { result ≡ true → All T.shown elements.now number }
 {
