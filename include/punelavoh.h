@@ -21,10 +21,10 @@
 extern "C" {
 #endif
 
-#define PUNELAVOH_VERSION "0.5.4"
+#define PUNELAVOH_VERSION "0.5.5"
 #define PUNELAVOH_VERSION_MAJOR 0
 #define PUNELAVOH_VERSION_MINOR 5
-#define PUNELAVOH_VERSION_PATCH 4
+#define PUNELAVOH_VERSION_PATCH 5
 
 /* What an answer holds in `refusal`. 1 to 7 are looked at in this order. A refused answer holds 0 in every other field. */
 typedef enum {

@@ -175,7 +175,9 @@ fn take_symbolic_edge(
 }
 
 // The stretch of `len` bytes at place a of the text, which is longer than k: from the vertex of its first kmer over the bases that follow. The answer is the
-// number of nodes.
+// number of nodes. (Not inlined: inside the loop over a read's runs it left that loop no register for where it stands, which each unusable byte then loaded
+// and stored.)
+#[inline(never)]
 fn walk_stretch(
     text: Text,
     vertices: &mut [u32],
